@@ -73,6 +73,10 @@ VARIANTS = (
 )
 
 
+# What messages and records carry, by its fields.
+PAYLOADS = ("grant_with", "read_of", "snapshot_with", "start_with")
+
+
 def words_of(text):
     for sign in "()∷;{}":
         text = text.replace(sign, " ")
@@ -93,7 +97,9 @@ def variants(used):
     def named(name):
         return any(word.startswith(name + ".") for word in used)
 
-    out = "".join("use Rattle.qc_msg.specs.declared.%s.TheVariants as %s\n" % (where, name)
+    carried = [name for name in PAYLOADS if name in used]
+    out = imported("Rattle.qc_msg.specs.Vocabulary", carried)
+    out += "".join("use Rattle.qc_msg.specs.declared.%s.TheVariants as %s\n" % (where, name)
                   for name, where in VARIANTS if named(name))
     return out + ("use Rattle.qc_outside.specs.declared.disk.ArmKind.TheVariants as arms\n" if named("arms") else "")
 

@@ -12,7 +12,7 @@ IMPORTS = (
     ("Rattle.qc_msg.specs.declared.reply.Reply", ("Reply",)),
     ("Rattle.qc_msg.specs.declared.step.Command", ("Command",)),
     ("Rattle.qc_msg.specs.Deeds", ("deeds",)),
-    ("Rattle.qc_msg.specs.Readings", ("Installing",)),
+    ("Rattle.qc_msg.specs.declared.payload.EpochStart", ("EpochStart",)),
     ("Rattle.tests_histories.specs.Words", ("line", "tx")),
     ("Rattle.tests_due.proofs.SitePlaces",
      ("clock_granted", "count_records", "count_sends", "lines_granted", "site_due_at")),
@@ -122,7 +122,7 @@ def posted_at_rise(mine, other, place, due):
 
 
 def written_before(mine, other, place, due):
-    return ("Option Installing", decided(mine[place - 1].record), "None"), "((%s).1).0"
+    return ("Option EpochStart", decided(mine[place - 1].record), "None"), "((%s).1).0"
 
 
 def pending_behind(mine, other, place, due):
@@ -136,7 +136,7 @@ def reply_untold(mine, other, place, due):
 
 def decision_unwritten(mine, other, place, due):
     record = next(x.record for x in other if kind(x) == "Wrote")
-    return ("Option Installing", "None", decided(record)), "(%s).1"
+    return ("Option EpochStart", "None", decided(record)), "(%s).1"
 
 
 def command_open(mine, other, place, due):
@@ -149,7 +149,7 @@ def never_called_for(mine, other, place, due):
 
 def record_due(record, due):
     if due is None or kind(due) != "Wrote":
-        return ("Option Installing", "None", decided(record)), "(%s).0"
+        return ("Option EpochStart", "None", decided(record)), "(%s).0"
     parts = ("clock_decided", lambda r: r.clock), ("lines_decided", lambda r: len(r.lines))
     part, of = next((part, of) for part, of in parts if of(record) != of(due.record))
     return ("ℕ", of(due.record), of(record)), "ap %s (%%s).0" % part

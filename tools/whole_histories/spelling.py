@@ -60,7 +60,7 @@ def prepared(p):
 
 def answer(a):
     fields = {
-        "Granted": lambda: (a.life, a.clock, listed(map(line, a.log))),
+        "Granted": lambda: (term("grant_with", a.life, a.clock, listed(map(line, a.log))),),
         "Clash": lambda: (tx(a.holder), a.inv, a.event),
         "Closed": lambda: (a.epoch,),
         "Behind": lambda: (a.epoch,),
@@ -68,7 +68,7 @@ def answer(a):
         "Stale": tuple,
         "Fault": tuple,
         "Yes": lambda: (a.clock,),
-        "Shut": lambda: (a.clock, listed(map(line, a.log)), listed(map(prepared, a.prepared))),
+        "Shut": lambda: (term("snapshot_with", a.clock, listed(map(line, a.log)), listed(map(prepared, a.prepared))),),
         "Installed": tuple,
         "Answered": lambda: (outcome(a.verdict),),
     }[kind(a)]()
@@ -77,7 +77,7 @@ def answer(a):
 
 def want(q):
     if kind(q) == "Read":
-        return term("wants.Read", q.object, q.inv)
+        return term("wants.Read", term("read_of", q.object, q.inv))
     if kind(q) == "Append":
         return term("wants.Append", q.object, listed(map(line, q.view)), listed(map(own_line, q.own)))
     return "wants.Prepare"
@@ -95,7 +95,7 @@ def message(q):
     if kind(q) == "Close":
         return term("messages.Close", q.epoch)
     if kind(q) == "Install":
-        return term("messages.Install", q.epoch, q.clock, listed(map(line, q.log)))
+        return term("messages.Install", term("start_with", q.epoch, q.clock, listed(map(line, q.log))))
     return term("messages.Answer", q.to, answer(q))
 
 
@@ -138,7 +138,7 @@ def record(x):
     if kind(x) == "Close":
         return term("records.Close", x.epoch)
     if kind(x) in ("Install", "Decide"):
-        return term("records." + kind(x), x.epoch, x.clock, listed(map(line, x.lines)))
+        return term("records." + kind(x), term("start_with", x.epoch, x.clock, listed(map(line, x.lines))))
     return term("commit", stamp(x.stamp), tx(x.tx), listed(map(operation, x.ops)))
 
 

@@ -186,7 +186,7 @@ module _ (decl : Declaration) (c : Client) where
   heard_alone from number (messages.Inquiry tx) is = absurd (let never : ⊥ = cc in never)
   heard_alone from number (messages.Ask tx) is = absurd (let never : ⊥ = cc in never)
   heard_alone from number (messages.Close epoch) is = absurd (let never : ⊥ = cc in never)
-  heard_alone from number (messages.Install epoch clock log) is = absurd (let never : ⊥ = cc in never)
+  heard_alone from number (messages.Install start) is = absurd (let never : ⊥ = cc in never)
 
   pub replies_alone : (g : Input) → IsAlone (client_takes decl c g).turn
   replies_alone (inputs.Called command) = called_alone command

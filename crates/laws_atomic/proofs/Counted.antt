@@ -11,6 +11,7 @@ use Rattle.qc_msg.specs.declared.message.Answer.{Answer}
 use Rattle.qc_msg.specs.declared.message.Answer.TheVariants as answers
 use Rattle.qc_msg.specs.declared.message.Want.{Want}
 use Rattle.qc_msg.specs.declared.message.Want.TheVariants.{Read, Append, Prepare}
+use Rattle.qc_msg.specs.Vocabulary.{grant_with}
 use Rattle.qc_promise.specs.Vocabulary.{Account, ClientRequest, Current, counted, counted_for, granted, is_append}
 use Rattle.qc_promise.specs.Vocabulary.{is_open, is_prepare, lived, promised, taken_for, told_by, with_read}
 use Rattle.laws_due.proofs.OpenRequests.{IsFound, found}
@@ -73,13 +74,13 @@ nothing_told w d = record {
 
 grant_told : (d : Account) (site life clock : ℕ) (log : List Line) (w : Want)
     → IsTold w d (granted d site life clock log w)
-grant_told d site life clock log (Read object inv) = record {
+grant_told d site life clock log (Read read) = record {
   client = refl;
   command = refl;
   requests = refl;
   written = refl;
   clock = omega arith;
-  current = changed (Read object inv) (λ (t : Current). with_read (lived t site life) object log)
+  current = changed (Read read) (λ (t : Current). with_read (lived t site life) read.object log)
       (λ t. record {
         tx = refl;
         epoch = refl;
@@ -101,7 +102,7 @@ grant_told d site life clock log (Append object view own) = record {
 grant_told d site life clock log Prepare = nothing_told Prepare d
 
 promise_told : (d : Account) (clock : ℕ) (w : Want) → IsTold w d (promised d clock w)
-promise_told d clock (Read object inv) = nothing_told (Read object inv) d
+promise_told d clock (Read read) = nothing_told (Read read) d
 promise_told d clock (Append object view own) = nothing_told (Append object view own) d
 promise_told d clock Prepare = record {
   client = refl;
@@ -114,7 +115,7 @@ promise_told d clock Prepare = record {
 
 pub told : (d : Account) (q : ClientRequest) (answer : Option Answer) → IsTold q.want d (told_by d q answer)
 told d q None = nothing_told q.want d
-told d q (Some (answers.Granted life clock log)) = grant_told d q.site life clock log q.want
+told d q (Some (answers.Granted grant)) = grant_told d q.site grant.life grant.clock grant.log q.want
 told d q (Some (answers.Clash holder inv event)) = nothing_told q.want d
 told d q (Some (answers.Closed epoch)) =
     record {
@@ -130,7 +131,7 @@ told d q (Some (answers.Restarted life)) = nothing_told q.want d
 told d q (Some answers.Stale) = nothing_told q.want d
 told d q (Some answers.Fault) = nothing_told q.want d
 told d q (Some (answers.Yes clock)) = promise_told d clock q.want
-told d q (Some (answers.Shut clock log prepared)) = nothing_told q.want d
+told d q (Some (answers.Shut snapshot)) = nothing_told q.want d
 told d q (Some answers.Installed) = nothing_told q.want d
 told d q (Some (answers.Answered verdict)) = nothing_told q.want d
 
@@ -227,19 +228,19 @@ AsksForGrants n qs = (q : ClientRequest) → In q qs → q.number ≡ n → q.ta
 
 granted_passes : (d : Account) (site life clock : ℕ) (log : List Line) (w : Want) → is_prepare w ≡ false
     → clock ≤ (granted d site life clock log w).clock
-granted_passes d site life clock log (Read object inv) is = omega arith
+granted_passes d site life clock log (Read read) is = omega arith
 granted_passes d site life clock log (Append object view own) is = omega arith
 granted_passes d site life clock log Prepare is = absurd (let never : ⊥ = cc in never)
 
 -- the clock passes that of a grant which counts
 pub passes : (n : ℕ) (d : Account) (life clock : ℕ) (log : List Line) → IsOpen n d.requests → AsksForGrants n d.requests
-    → clock ≤ (counted d n (Some (answers.Granted life clock log))).clock
+    → clock ≤ (counted d n (Some (answers.Granted (grant_with life clock log)))).clock
 passes n d life clock log o asks = by (find (is_open n) d.requests) refl
   where
     by : (f : Option ClientRequest) → find (is_open n) d.requests ≡ f
-        → clock ≤ (counted_for d n (Some (answers.Granted life clock log)) f).clock
+        → clock ≤ (counted_for d n (Some (answers.Granted (grant_with life clock log))) f).clock
     by None none = absurd (not_found n d.requests none o)
     by (Some q) is =
         let f : IsFound n d.requests q = found n d.requests q is in
-        granted_passes (record d { requests = taken_for n (Some (answers.Granted life clock log)) d.requests }) q.site
+        granted_passes (record d { requests = taken_for n (Some (answers.Granted (grant_with life clock log))) d.requests }) q.site
         life clock log q.want (asks q f.among f.number_is (taken_is q.taken f.open_still))

@@ -25,7 +25,7 @@ IsCalmMessage (messages.Decision tx verdict) = Unit {0}
 IsCalmMessage (messages.Inquiry tx) = Unit {0}
 IsCalmMessage (messages.Ask tx) = Unit {0}
 IsCalmMessage (messages.Close epoch) = ⊥
-IsCalmMessage (messages.Install epoch clock log) = ⊥
+IsCalmMessage (messages.Install start) = ⊥
 
 abbrev pub IsCalmGiven : Input → Type 0
 IsCalmGiven (inputs.Called command) = Unit {0}

@@ -13,16 +13,17 @@ use Rattle.qc_msg.specs.declared.message.Want.{Want}
 use Rattle.qc_msg.specs.declared.record.Record.TheVariants as records
 use Rattle.qc_msg.specs.declared.step.Input.TheVariants as inputs
 use Rattle.qc_msg.specs.Vocabulary.{Deed, Sends, Takes, Writes}
+use Rattle.qc_msg.specs.Vocabulary.{grant_with}
 use Rattle.qc_promise.specs.Vocabulary.{is_prepare}
 use Rattle.laws_atomic.proofs.Seeing.{IsUpTo}
 
 pub record AreFounded (commits : List Commit) (ds : List Deed) : Type 0 where
   pub wrote : (c : Commit) → In (Writes (records.Commit c)) ds → In c commits
   pub lines : (e : Envelope) → In (Takes (inputs.Got e)) ds → (to life clock : ℕ) (log : List Line)
-      → e.message ≡ Answer to (Granted life clock log)
+      → e.message ≡ Answer to (Granted (grant_with life clock log))
       → (l : Line) → In l log → IsUpTo commits l.tx clock
   pub asked : (e : Envelope) → In (Takes (inputs.Got e)) ds → (to life clock : ℕ) (log : List Line)
-      → e.message ≡ Answer to (Granted life clock log)
+      → e.message ≡ Answer to (Granted (grant_with life clock log))
       → (site : ℕ) (tx : TxId) (epoch at : ℕ) (want : Want) → In (Sends to site (Request tx epoch at want)) ds
       → is_prepare want ≡ false
 

@@ -11,6 +11,7 @@ use Rattle.qc_msg.specs.declared.message.Message.{Message}
 use Rattle.qc_msg.specs.declared.message.Message.TheVariants.{Answer}
 use Rattle.qc_msg.specs.declared.message.Want.{Want}
 use Rattle.qc_msg.specs.declared.message.Want.TheVariants.{Read, Append, Prepare}
+use Rattle.qc_msg.specs.Vocabulary.{grant_with}
 use Rattle.qc_promise.specs.Vocabulary.{is_prepare}
 use Rattle.theory_machine.specs.Vocabulary.{state}
 use Rattle.theory_machine.proofs.Keeps.{laws}
@@ -18,20 +19,20 @@ use Rattle.laws_refinement.specs.Vocabulary.{Backed, IsGrantTo, IsGrantable, Net
 use Rattle.laws_refinement.proofs.Refining.{nets_refine}
 
 pub no_promise : (want : Want) → IsGrantable want → is_prepare want ≡ false
-no_promise (Read object inv) asks = refl
+no_promise (Read read) asks = refl
 no_promise (Append object view own) asks = refl
 no_promise Prepare asks = absurd asks
 
 module _ (decl : Declaration) where
   -- a grant is backed
   pub granted : (net : Net) (r : Refines decl net) (e : Envelope) → In e net.mail
-      → (to life clock : ℕ) (log : List Line) → e.message ≡ Answer to (Granted life clock log)
+      → (to life clock : ℕ) (log : List Line) → e.message ≡ Answer to (Granted (grant_with life clock log))
       → IsGrantTo decl (state r.acts) net.mail e.from to life clock log
   granted net r e among to life clock log is =
       subst (λ (m : Message). Backed decl (state r.acts) net.mail e.from e.to m) is (r.agrees.mail e among)
 
   pub lines_passed : (accepted : IsAccepted decl) (net : Net) → Reaches decl net → (e : Envelope) → In e net.mail
-      → (to life clock : ℕ) (log : List Line) → e.message ≡ Answer to (Granted life clock log)
+      → (to life clock : ℕ) (log : List Line) → e.message ≡ Answer to (Granted (grant_with life clock log))
       → (l : Line) → In l log → l.stamp.clock ≤ clock
   lines_passed accepted net reached e among to life clock log is l in_log =
       let r : Refines decl net = nets_refine decl accepted net reached in

@@ -18,6 +18,7 @@ use Rattle.qc_msg.specs.declared.message.Message.TheVariants.{Answer, Request}
 use Rattle.qc_msg.specs.declared.message.Want.{Want}
 use Rattle.qc_msg.specs.declared.step.Input.TheVariants as inputs
 use Rattle.qc_msg.specs.Vocabulary.{Entry, Sends, Takes, deeds, written}
+use Rattle.qc_msg.specs.Vocabulary.{grant_with}
 use Rattle.laws_refinement.specs.Vocabulary.{IsGrantTo, IsGrantable, Refines, lines_in}
 use Rattle.laws_refinement.proofs.Refining.{nets_refine}
 use Rattle.theory_onecopy.specs.Vocabulary.{IsLogged, OneCopy, sorted}
@@ -55,7 +56,7 @@ module _ (decl : Declaration) (script : Script) (h : List Entry) (open_inputs : 
   in_net a e among = subst (In e) (sym net.mail_is) (took_sent a [] h e among)
 
   line_up : (a : ℕ) (e : Envelope) → In (Takes (inputs.Got e)) (deeds a [] h) → (to life clock : ℕ) (log : List Line)
-      → e.message ≡ Answer to (Granted life clock log) → (l : Line) → In l log → IsUpTo (committed decl h) l.tx clock
+      → e.message ≡ Answer to (Granted (grant_with life clock log)) → (l : Line) → In l log → IsUpTo (committed decl h) l.tx clock
   line_up a e among to life clock log is l in_log =
       let k : IsLogged decl (written h) l = runs.message_lines decl script h open_inputs accepted sound run e l
       (took_sent a [] h e among) (subst (λ (m : Message). In l (lines_in m)) (sym is) in_log) in
@@ -65,7 +66,7 @@ module _ (decl : Declaration) (script : Script) (h : List Entry) (open_inputs : 
       record { commit = k.commit; listed = listed k.commit k.listed; named = sym k.named; low = omega arith }
 
   was_asked : (a : ℕ) (e : Envelope) → In (Takes (inputs.Got e)) (deeds a [] h) → (to life clock : ℕ) (log : List Line)
-      → e.message ≡ Answer to (Granted life clock log)
+      → e.message ≡ Answer to (Granted (grant_with life clock log))
       → (site : ℕ) (tx : TxId) (epoch at : ℕ) (want : Want)
       → In (Sends to site (Request tx epoch at want)) (deeds a [] h) → is_prepare want ≡ false
   was_asked a e among to life clock log is site tx epoch at want sent =

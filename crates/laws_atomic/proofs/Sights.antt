@@ -43,7 +43,7 @@ module _ (commits : List Commit) (tx : TxId) (d : Account) (s : Sight) (wrote : 
   sent_status st (messages.Inquiry other) is = is
   sent_status st (messages.Ask other) is = is
   sent_status st (messages.Close epoch) is = is
-  sent_status st (messages.Install epoch clock log) is = is
+  sent_status st (messages.Install start) is = is
 
   unasked_sees : (message : Message) → Sees commits tx d s wrote (status_sent tx st message)
   unasked_sees message = record {
@@ -97,7 +97,7 @@ module _ (commits : List Commit) (tx : TxId) (d : Account) (s : Sight) (wrote : 
   sent_sees decl number to (messages.Inquiry other) is = unasked_sees (messages.Inquiry other)
   sent_sees decl number to (messages.Ask other) is = unasked_sees (messages.Ask other)
   sent_sees decl number to (messages.Close epoch) is = unasked_sees (messages.Close epoch)
-  sent_sees decl number to (messages.Install epoch clock log) is = unasked_sees (messages.Install epoch clock log)
+  sent_sees decl number to (messages.Install start) is = unasked_sees (messages.Install start)
 
   -- a record is written, which is due
 
@@ -178,6 +178,6 @@ module _ (commits : List Commit) (tx : TxId) (d : Account) (s : Sight) (wrote : 
   wrote_sees decl (records.Prepare prepared) there is = w
   wrote_sees decl (records.Done other clock) there is = w
   wrote_sees decl (records.Close epoch) there is = w
-  wrote_sees decl (records.Install epoch clock lines) there is = w
+  wrote_sees decl (records.Install start) there is = w
   wrote_sees decl (records.Commit c) there is = commit_sees decl c (there c refl) is
-  wrote_sees decl (records.Decide epoch clock lines) there is = w
+  wrote_sees decl (records.Decide start) there is = w

@@ -10,6 +10,7 @@ use Rattle.qc_entry.specs.declared.record.Commit.{Commit}
 use Rattle.qc_msg.specs.declared.message.Answer.{Answer}
 use Rattle.qc_msg.specs.declared.message.Answer.TheVariants as answers
 use Rattle.qc_msg.specs.declared.step.Command.{Command}
+use Rattle.qc_msg.specs.Vocabulary.{grant_with}
 use Rattle.qc_promise.specs.Vocabulary.{Account, HasBefore, Sight, Status, answered, counted, is_begun, sees, waits}
 use Rattle.qc_promise.specs.Seen.{granted}
 use Rattle.laws_atomic.proofs.Counted.{AsksForGrants, IsCounted, IsOpen, counts, passes}
@@ -113,9 +114,9 @@ module _ (commits : List Commit) (tx : TxId) (d : Account) (s : Sight) (wrote : 
 
   -- a grant's lines have records that its clock has passed, and none of its requests was for a promise
   pub record IsFounded (n : ℕ) (answer : Answer) : Type 0 where
-    pub lines : (life clock : ℕ) (log : List Line) → answer ≡ answers.Granted life clock log → (l : Line) → In l log
+    pub lines : (life clock : ℕ) (log : List Line) → answer ≡ answers.Granted (grant_with life clock log) → (l : Line) → In l log
         → IsUpTo commits l.tx clock
-    pub asked : (life clock : ℕ) (log : List Line) → answer ≡ answers.Granted life clock log
+    pub asked : (life clock : ℕ) (log : List Line) → answer ≡ answers.Granted (grant_with life clock log)
         → AsksForGrants n d.requests
 
   of_lines : (clock : ℕ) (log : List Line) → ((l : Line) → In l log → IsUpTo commits l.tx clock) → (t : TxId)
@@ -126,10 +127,10 @@ module _ (commits : List Commit) (tx : TxId) (d : Account) (s : Sight) (wrote : 
 
   of_answer : (n : ℕ) (answer : Answer) → IsFounded n answer → IsOpen n d.requests → (t : TxId)
       → In t (map (λ (l : Line). l.tx) (granted answer)) → IsUpTo commits t (counted d n (Some answer)).clock
-  of_answer n (answers.Granted life clock log) f o t among =
-      higher commits t clock (counted d n (Some (answers.Granted life clock log))).clock
-      (passes n d life clock log o (f.asked life clock log refl))
-      (of_lines clock log (f.lines life clock log refl) t among)
+  of_answer n (answers.Granted grant) f o t among =
+      higher commits t grant.clock (counted d n (Some (answers.Granted grant))).clock
+      (passes n d grant.life grant.clock grant.log o (f.asked grant.life grant.clock grant.log refl))
+      (of_lines grant.clock grant.log (f.lines grant.life grant.clock grant.log refl) t among)
   of_answer n (answers.Clash holder inv event) f o t among = absurd among
   of_answer n (answers.Closed epoch) f o t among = absurd among
   of_answer n (answers.Behind epoch) f o t among = absurd among
@@ -137,7 +138,7 @@ module _ (commits : List Commit) (tx : TxId) (d : Account) (s : Sight) (wrote : 
   of_answer n answers.Stale f o t among = absurd among
   of_answer n answers.Fault f o t among = absurd among
   of_answer n (answers.Yes clock) f o t among = absurd among
-  of_answer n (answers.Shut clock log prepared) f o t among = absurd among
+  of_answer n (answers.Shut snapshot) f o t among = absurd among
   of_answer n answers.Installed f o t among = absurd among
   of_answer n (answers.Answered verdict) f o t among = absurd among
 

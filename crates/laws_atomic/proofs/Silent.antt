@@ -37,8 +37,8 @@ reads_silent decl s from number tx object inv (Some c) = refl
 
 grants_silent : (decl : Declaration) (s : SiteState) (from number : ℕ) (tx : TxId) (want : Want)
     → Silent (grants decl s from number tx want)
-grants_silent decl s from number tx (Read object inv) =
-    reads_silent decl s from number tx object inv (read_clash (relation_at decl object) s.held tx object inv)
+grants_silent decl s from number tx (Read read) =
+    reads_silent decl s from number tx read.object read.inv (read_clash (relation_at decl read.object) s.held tx read.object read.inv)
 grants_silent decl s from number tx (Append object view own) = by (append_clash (relation_at decl object) s.held tx own)
   where
     by : (o : Option Conflict) → Silent (appends_by decl s from number tx view own o)
@@ -74,8 +74,8 @@ at_silent decl s from number (messages.Decision tx verdict) = finishes_silent s 
 at_silent decl s from number (messages.Inquiry tx) = refl
 at_silent decl s from number (messages.Ask tx) = refl
 at_silent decl s from number (messages.Close k) = close_rows Silent s from number k refl refl refl refl
-at_silent decl s from number (messages.Install k clock lines) =
-    install_rows Silent s from number k clock lines refl refl refl
+at_silent decl s from number (messages.Install start) =
+    install_rows Silent s from number start.epoch start.clock start.lines refl refl refl
 
 pub site_silent : (decl : Declaration) (s : SiteState) (g : Input) → commits_in (site_takes decl s g).turn.write ≡ []
 site_silent decl s (inputs.Called command) = refl

@@ -114,7 +114,7 @@ module _ (decl : Declaration) where
   heard_calm from to (messages.Inquiry tx) proper = tt
   heard_calm from to (messages.Ask tx) proper = tt
   heard_calm from to (messages.Close epoch) proper = proper
-  heard_calm from to (messages.Install epoch clock log) proper = proper
+  heard_calm from to (messages.Install start) proper = proper
 
   pub sent_calm : (a : ℕ) (ms : List Envelope) (g : Input) → IsMailProper decl ms → WasSentTo a ms g → IsCalmGiven g
   sent_calm a ms (inputs.Called command) proper sent = tt

@@ -40,7 +40,7 @@ sent_free s number (messages.Decision tx verdict) is free = free
 sent_free s number (messages.Inquiry tx) is free = free
 sent_free s number (messages.Ask tx) is free = free
 sent_free s number (messages.Close epoch) is free = free
-sent_free s number (messages.Install epoch clock log) is free = free
+sent_free s number (messages.Install start) is free = free
 
 -- where no command runs, none has requests
 idle_asks : (decl : Declaration) (d : Account) (c : Client) → Ties decl d c → d.command ≡ None → d.requests ≡ []
@@ -64,7 +64,7 @@ heard_goes decl d (inputs.Got e) w = by e.message
     by (messages.Inquiry tx) = w
     by (messages.Ask tx) = w
     by (messages.Close epoch) = w
-    by (messages.Install epoch clock log) = w
+    by (messages.Install start) = w
 heard_goes decl d (inputs.Lost n) w = counted_goes decl n None d w
 
 module _ (decl : Declaration) (client : ℕ) (commits : List Commit) (tx : TxId) (ds : List Deed) (c : Client) (s : Sight)
@@ -111,7 +111,7 @@ module _ (decl : Declaration) (client : ℕ) (commits : List Commit) (tx : TxId)
         by (messages.Inquiry other) is = w
         by (messages.Ask other) is = w
         by (messages.Close epoch) is = w
-        by (messages.Install epoch clock log) is = w
+        by (messages.Install start) is = w
     take (inputs.Lost number) may f = lost_sees commits tx account_of s wrote st w number
         (counted account_of number None) (counts number account_of None)
 

@@ -62,7 +62,7 @@ reads_kept n answer [] all = refl
 reads_kept n answer (q ∷ qs) all = by (q.number == n) (is_none q.taken) refl (reads_kept n answer qs all.1)
   where
     no_read : (w : Want) → is_append w ≡ true → is_read w ≡ false
-    no_read (Read object inv) is = absurd (let never : ⊥ = cc in never)
+    no_read (Read read) is = absurd (let never : ⊥ = cc in never)
     no_read (Append object view own) is = refl
     no_read Prepare is = refl
 
@@ -122,7 +122,7 @@ goes_of decl d c (rests r) = asks_none r.requests
 goes_of decl d c (reads r) =
     does_read (record { object = r.object; inv = r.inv; t = r.t; runs = r.runs; all = of_reads d.requests r.reads })
   where
-    of_reads : (qs : List ClientRequest) → Every (λ (q : ClientRequest). q.want ≡ Read r.object r.inv) qs
+    of_reads : (qs : List ClientRequest) → Every (λ (q : ClientRequest). q.want ≡ Read r) qs
         → Every (λ (q : ClientRequest). is_read q.want ≡ true) qs
     of_reads [] all = tt
     of_reads (q ∷ qs) all = (ap is_read all.0, of_reads qs all.1)

@@ -44,11 +44,11 @@ module _ (low high : ℕ) (le : low ≤ high) where
   record_le (records.Prepare p) here = lines-le low high le p.lines here
   record_le (records.Done tx clock) here = (let c : clock ≤ low = here in omega arith)
   record_le (records.Close epoch) here = tt
-  record_le (records.Install epoch clock lines) here =
-      ((let c : clock ≤ low = here.0 in omega arith), lines-le low high le lines here.1)
+  record_le (records.Install start) here =
+      ((let c : start.clock ≤ low = here.0 in omega arith), lines-le low high le start.lines here.1)
   record_le (records.Commit c) here = (let k : c.stamp.clock ≤ low = here in omega arith)
-  record_le (records.Decide epoch clock lines) here =
-      ((let c : clock ≤ low = here.0 in omega arith), lines-le low high le lines here.1)
+  record_le (records.Decide start) here =
+      ((let c : start.clock ≤ low = here.0 in omega arith), lines-le low high le start.lines here.1)
 
   pub records_le : (rs : List Record) → AreWithin low rs → AreWithin high rs
   records_le rs all = every-weaker (RecordWithin low) (RecordWithin high) record_le rs all

@@ -6,7 +6,9 @@ use Rattle.qc_decl.specs.Vocabulary.{most_record_bytes}
 use Rattle.qc_entry.specs.declared.line.Line.{Line}
 use Rattle.qc_entry.specs.declared.record.Prepared.{Prepared}
 use Rattle.qc_epoch.specs.Vocabulary.{Admin}
-use Rattle.qc_msg.specs.Vocabulary.{epoch_length, Answered, Installing as Start, Shutting}
+use Rattle.qc_msg.specs.Vocabulary.{epoch_length, Answered}
+use Rattle.qc_msg.specs.declared.payload.EpochStart.{EpochStart}
+use Rattle.qc_msg.specs.declared.payload.Snapshot.{Snapshot}
 use Rattle.qc_msg.specs.declared.message.Answer.{Answer}
 use Rattle.qc_msg.specs.declared.message.Answer.TheVariants as answers
 use Rattle.qc_msg.specs.declared.message.Message.{Message}
@@ -21,6 +23,7 @@ use Rattle.laws_bounds.specs.AdminParts as parts
 use Rattle.qc_msg.specs.declared.record.Record.{Record}
 use Rattle.qc_msg.specs.declared.record.Record.TheVariants as records
 use Rattle.qc_msg.specs.declared.message.Envelope.{Envelope}
+use Rattle.qc_msg.specs.Vocabulary.{snapshot_with, start_with}
 use Rattle.laws_bounds.proofs.Cases.{answer_cases, decide_cases, epoch_cases, shut_cases}
 use Rattle.laws_bounds.proofs.AdminKeeps.{AboutPromise, CameKeeps, GivenKeeps, RecordKeeps, SendKeeps, ShutCame}
 use Rattle.laws_bounds.proofs.AdminKeeps.{WriteKeeps}
@@ -37,7 +40,7 @@ module _ (Clock : ℕ → Type 0) (Lines : List Line → Type 0) (Promise : Prep
       → ((tx : TxId) → AboutPromise Clock Lines Promise Verdict Epoch Number tx → P (messages.Ask tx))
       → ((epoch : ℕ) → Epoch epoch → P (messages.Close epoch))
       → ((epoch clock : ℕ) (lines : List Line) → StartKeeps epoch clock lines
-      → P (messages.Install epoch clock lines))
+      → P (messages.Install (start_with epoch clock lines)))
       → (message : Message) → SendKeeps Clock Lines Promise Verdict Epoch Number message → P message
   send_cases P ask close install (messages.Request tx epoch life want) keeps = absurd keeps
   send_cases P ask close install (messages.Answer to answer) keeps = absurd keeps
@@ -45,28 +48,28 @@ module _ (Clock : ℕ → Type 0) (Lines : List Line → Type 0) (Promise : Prep
   send_cases P ask close install (messages.Inquiry tx) keeps = absurd keeps
   send_cases P ask close install (messages.Ask tx) keeps = ask tx keeps
   send_cases P ask close install (messages.Close epoch) keeps = close epoch keeps
-  send_cases P ask close install (messages.Install epoch clock lines) keeps = install epoch clock lines keeps
+  send_cases P ask close install (messages.Install start) keeps = install start.epoch start.clock start.lines keeps
 
   pub write_cases : (P : Option Record → Type 0) → P None
       → ((epoch clock : ℕ) (lines : List Line)
       → StartKeeps epoch clock lines × (epoch_length lines ≤ most_record_bytes)
-      → P (Some (records.Decide epoch clock lines)))
+      → P (Some (records.Decide (start_with epoch clock lines))))
       → (write : Option Record) → WriteKeeps Clock Lines Promise Verdict Epoch Number write → P write
   write_cases P none decide None keeps = none
   write_cases P none decide (Some records.Life) keeps = absurd keeps
   write_cases P none decide (Some (records.Prepare p)) keeps = absurd keeps
   write_cases P none decide (Some (records.Done tx clock)) keeps = absurd keeps
   write_cases P none decide (Some (records.Close epoch)) keeps = absurd keeps
-  write_cases P none decide (Some (records.Install epoch clock lines)) keeps = absurd keeps
+  write_cases P none decide (Some (records.Install start)) keeps = absurd keeps
   write_cases P none decide (Some (records.Commit commit)) keeps = absurd keeps
-  write_cases P none decide (Some (records.Decide epoch clock lines)) keeps = decide epoch clock lines keeps
+  write_cases P none decide (Some (records.Decide start)) keeps = decide start.epoch start.clock start.lines keeps
 
   pub shut_keeps : (H : Option Answer → Type 0)
-      → ((clock : ℕ) (log : List Line) (prepared : List Prepared) → H (Some (answers.Shut clock log prepared))
+      → ((clock : ℕ) (log : List Line) (prepared : List Prepared) → H (Some (answers.Shut (snapshot_with clock log prepared)))
       → Clock clock × Lines log × Every Promise prepared)
       → (answer : Option Answer) → H answer → ShutCame Clock Lines Promise Verdict Epoch Number answer
   shut_keeps H at answer here =
-      shut_cases H (λ (z : Shutting). Clock z.clock × Lines z.log × Every Promise z.prepared) at answer here
+      shut_cases H (λ (z : Snapshot). Clock z.clock × Lines z.log × Every Promise z.prepared) at answer here
 
   pub given_cases : (m : Admin) (H : Input → Type 0)
       → ((number : ℕ) → H (inputs.Called (commands.Epoch number)) → Epoch number)
@@ -81,8 +84,8 @@ module _ (Clock : ℕ → Type 0) (Lines : List Line → Type 0) (Promise : Prep
   given_cases m H called got (inputs.Lost number) here = tt
 
   pub record_cases : (H : Record → Type 0)
-      → ((epoch clock : ℕ) (lines : List Line) → H (records.Decide epoch clock lines)
+      → ((epoch clock : ℕ) (lines : List Line) → H (records.Decide (start_with epoch clock lines))
       → StartKeeps epoch clock lines)
       → (r : Record) → H r → RecordKeeps Clock Lines Promise Verdict Epoch Number r
   record_cases H at r here =
-      decide_cases H (λ (i : Start). StartKeeps i.epoch i.clock i.lines) at r here
+      decide_cases H (λ (i : EpochStart). StartKeeps i.epoch i.clock i.lines) at r here

@@ -10,7 +10,7 @@ use Rattle.qc_decl.specs.Vocabulary.{most_record_bytes}
 use Rattle.qc_decl.specs.declared.declaration.Declaration.{Declaration}
 use Rattle.qc_entry.specs.declared.line.Line.{Line}
 use Rattle.qc_entry.specs.declared.record.Prepared.{Prepared}
-use Rattle.qc_epoch.specs.Vocabulary.{Admin, AdminMove, Asking, Closing, Decided, Doing, Installing, Question, Resting}
+use Rattle.qc_epoch.specs.Vocabulary.{Admin, AdminMove, Asking, Closing, Doing, Installing, Question, Resting}
 use Rattle.qc_epoch.specs.Vocabulary.{ShutSite, all_taken, clock_in, decision, first_doubt, in_asked_order, is_number}
 use Rattle.qc_epoch.specs.Vocabulary.{is_questioned, most_asks, moved, outcome_in, promised_lines, questions_of}
 use Rattle.qc_epoch.specs.Vocabulary.{shut_at, shut_list, stamp_in, stamp_of, standing_of, taken_for, with_installed}
@@ -45,7 +45,9 @@ use Rattle.qc_list.specs.Vocabulary.{In}
 use Rattle.qc_entry.specs.Vocabulary.{union}
 use Rattle.qc_msg.specs.declared.record.Record.{Record}
 use Rattle.qc_recover.specs.Admins as rulings
-use Rattle.qc_msg.specs.Vocabulary.{Answered, Installing as Start, Shutting, answer_in, asking_in, closing_in}
+use Rattle.qc_msg.specs.Vocabulary.{Answered, answer_in, asking_in, closing_in}
+use Rattle.qc_msg.specs.declared.payload.EpochStart.{EpochStart}
+use Rattle.qc_msg.specs.declared.payload.Snapshot.{Snapshot}
 use Rattle.qc_msg.specs.Vocabulary.{decide_in, epoch_in, installing_in, request_in, shut_in, wants_answer}
 use Rattle.laws_bounds.proofs.Options.{map_or}
 
@@ -110,7 +112,7 @@ module _ (Clock : ℕ → Type 0) (Lines : List Line → Type 0) (Promise : Prep
   abbrev StartKeeps : ℕ → ℕ → List Line → Type 0
   StartKeeps epoch clock lines = parts.StartKeeps Clock Lines Promise Verdict Epoch Number epoch clock lines
 
-  abbrev DecidedKeeps : Option Decided → Type 0
+  abbrev DecidedKeeps : Option EpochStart → Type 0
   DecidedKeeps o = parts.DecidedKeeps Clock Lines Promise Verdict Epoch Number o
 
   abbrev ShutKeeps : ShutSite → Type 0
@@ -146,7 +148,7 @@ module _ (Clock : ℕ → Type 0) (Lines : List Line → Type 0) (Promise : Prep
   SendKeeps message =
       MatchOption (asking_in message)
       (MatchOption (closing_in message)
-      (MatchOption (installing_in message) ⊥ (λ (i : Start). StartKeeps i.epoch i.clock i.lines)) Epoch)
+      (MatchOption (installing_in message) ⊥ (λ (i : EpochStart). StartKeeps i.epoch i.clock i.lines)) Epoch)
       AboutPromise
 
   abbrev pub SendsKeep : List Posting → Type 0
@@ -156,7 +158,7 @@ module _ (Clock : ℕ → Type 0) (Lines : List Line → Type 0) (Promise : Prep
   WriteKeeps write =
       MatchOption write (Unit {0})
       (λ (r : Record). MatchOption (decide_in r) ⊥
-      (λ (i : Start). StartKeeps i.epoch i.clock i.lines × (epoch_length i.lines ≤ most_record_bytes)))
+      (λ (i : EpochStart). StartKeeps i.epoch i.clock i.lines × (epoch_length i.lines ≤ most_record_bytes)))
 
   pub record AdminMoveKeeps (move : AdminMove) : Type 0 where
     pub admin : AdminKeeps move.admin
@@ -170,7 +172,7 @@ module _ (Clock : ℕ → Type 0) (Lines : List Line → Type 0) (Promise : Prep
   abbrev pub ShutCame : Option Answer → Type 0
   ShutCame answer =
       MatchOption (option_and_then shut_in answer) (Unit {0})
-      (λ (z : Shutting). Clock z.clock × Lines z.log × Every Promise z.prepared)
+      (λ (z : Snapshot). Clock z.clock × Lines z.log × Every Promise z.prepared)
 
   pub record CameKeeps (m : Admin) (number : ℕ) (answer : Option Answer) : Type 0 where
     pub shut : ShutCame answer
@@ -209,7 +211,7 @@ module _ (Clock : ℕ → Type 0) (Lines : List Line → Type 0) (Promise : Prep
   shut_added : (shuts : List ShutSite) (site : ℕ) (answer : Option Answer) → ShutCame answer → ShutsKeep shuts
       → ShutsKeep (with_shut_of shuts site answer)
   shut_added shuts site None here all = all
-  shut_added shuts site (Some (answers.Granted life clock log)) here all = all
+  shut_added shuts site (Some (answers.Granted grant)) here all = all
   shut_added shuts site (Some (answers.Clash holder inv event)) here all = all
   shut_added shuts site (Some (answers.Closed epoch)) here all = all
   shut_added shuts site (Some (answers.Behind epoch)) here all = all
@@ -217,8 +219,8 @@ module _ (Clock : ℕ → Type 0) (Lines : List Line → Type 0) (Promise : Prep
   shut_added shuts site (Some answers.Stale) here all = all
   shut_added shuts site (Some answers.Fault) here all = all
   shut_added shuts site (Some (answers.Yes clock)) here all = all
-  shut_added shuts site (Some (answers.Shut clock log prepared)) here all =
-      every-append ShutKeeps shuts (record { site = site; clock = clock; log = log; prepared = prepared } ∷ []) all
+  shut_added shuts site (Some (answers.Shut snapshot)) here all =
+      every-append ShutKeeps shuts (record { site = site; clock = snapshot.clock; log = snapshot.log; prepared = snapshot.prepared } ∷ []) all
       (record { clock = here.0; log = here.1; prepared = here.2 }, tt)
   shut_added shuts site (Some answers.Installed) here all = all
   shut_added shuts site (Some (answers.Answered verdict)) here all = all
@@ -298,7 +300,7 @@ module _ (Clock : ℕ → Type 0) (Lines : List Line → Type 0) (Promise : Prep
 
   -- his sends
 
-  installs_keep : (d : Decided) (sites : List ℕ) → StartKeeps d.epoch d.clock d.lines
+  installs_keep : (d : EpochStart) (sites : List ℕ) → StartKeeps d.epoch d.clock d.lines
       → SendsKeep (map (admins.install_of d) sites)
   installs_keep d [] here = tt
   installs_keep d (site ∷ sites) here = (here, installs_keep d sites here)
@@ -415,7 +417,7 @@ module _ (Clock : ℕ → Type 0) (Lines : List Line → Type 0) (Promise : Prep
         write = tt;
       }
 
-      decides_goes : (d : Decided) (closed : List ℕ) → DecidedKeeps (Some d) → Goes (admins.decides decl m d closed)
+      decides_goes : (d : EpochStart) (closed : List ℕ) → DecidedKeeps (Some d) → Goes (admins.decides decl m d closed)
       decides_goes d closed here = by (nat_le (epoch_length d.lines) most_record_bytes) refl
         where
           by : (b : Bool) → nat_le (epoch_length d.lines) most_record_bytes ≡ b
@@ -474,7 +476,7 @@ module _ (Clock : ℕ → Type 0) (Lines : List Line → Type 0) (Promise : Prep
           by (verdicts.Clash tx site) = silent
           by (verdicts.Short got need) = replied (replies.Quorum halves.Close got need)
 
-      again_goes : (o : Option Decided) → DecidedKeeps o → Goes (admins.again decl m o)
+      again_goes : (o : Option EpochStart) → DecidedKeeps o → Goes (admins.again decl m o)
       again_goes None here = replied (replies.Order m.epoch)
       again_goes (Some d) here =
           runs (admins.installing decl []) (admins.install_sends decl d) tt
@@ -597,15 +599,15 @@ module _ (Clock : ℕ → Type 0) (Lines : List Line → Type 0) (Promise : Prep
   -- as he rises he is what his last decision says
 
   abbrev pub RecordKeeps : Record → Type 0
-  RecordKeeps r = MatchOption (decide_in r) (Unit {0}) (λ (i : Start). StartKeeps i.epoch i.clock i.lines)
+  RecordKeeps r = MatchOption (decide_in r) (Unit {0}) (λ (i : EpochStart). StartKeeps i.epoch i.clock i.lines)
 
-  decision_keeps : (k : Option Decided) (r : Record) → RecordKeeps r → DecidedKeeps k → DecidedKeeps (rulings.keeps k r)
+  decision_keeps : (k : Option EpochStart) (r : Record) → RecordKeeps r → DecidedKeeps k → DecidedKeeps (rulings.keeps k r)
   decision_keeps k r here keeps =
-      map_or DecidedKeeps (λ (i : Start). StartKeeps i.epoch i.clock i.lines)
-      (λ (i : Start). Some (record { epoch = i.epoch; clock = i.clock; lines = i.lines })) k (decide_in r) here keeps
+      map_or DecidedKeeps (λ (i : EpochStart). StartKeeps i.epoch i.clock i.lines)
+      (λ (i : EpochStart). Some i) k (decide_in r) here keeps
       (λ i is. is)
 
-  decisions_keep : (k : Option Decided) (rs : List Record) → Every RecordKeeps rs → DecidedKeeps k
+  decisions_keep : (k : Option EpochStart) (rs : List Record) → Every RecordKeeps rs → DecidedKeeps k
       → DecidedKeeps (fold rulings.keeps k rs)
   decisions_keep k [] all keeps = keeps
   decisions_keep k (r ∷ rs) all keeps = decisions_keep (rulings.keeps k r) rs all.1 (decision_keeps k r all.0 keeps)

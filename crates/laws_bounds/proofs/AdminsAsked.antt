@@ -8,7 +8,8 @@ use Rattle.qc_core.proofs.AdminTurns.{IsOfAdmin, IsSentByAdmin}
 use Rattle.qc_decl.specs.declared.declaration.Declaration.{Declaration}
 use Rattle.qc_entry.specs.declared.line.Line.{Line}
 use Rattle.qc_entry.specs.declared.record.Prepared.{Prepared}
-use Rattle.qc_epoch.specs.Vocabulary.{Admin, Asking, Closing, Decided, Doing, Installing, Question, Resting}
+use Rattle.qc_epoch.specs.Vocabulary.{Admin, Asking, Closing, Doing, Installing, Question, Resting}
+use Rattle.qc_msg.specs.declared.payload.EpochStart.{EpochStart}
 use Rattle.qc_epoch.specs.Vocabulary.{ShutSite, admin_takes, numbered_first, requested, sent_one}
 use Rattle.laws_turns.proofs.Places.{slice_get-last, slice_get-more}
 use Rattle.qc_msg.specs.Vocabulary.{envelopes}
@@ -100,7 +101,7 @@ any_questions : (qs : List Question) → parts.QuestionsKeep AnyClock AnyLines A
 any_questions [] = tt
 any_questions (q ∷ qs) = ((any_taken q.tx q.taken, any_number q.tx q.number), any_questions qs)
 
-any_decided : (o : Option Decided) → parts.DecidedKeeps AnyClock AnyLines AnyPromise AnyVerdict AnyEpoch AnyNumber o
+any_decided : (o : Option EpochStart) → parts.DecidedKeeps AnyClock AnyLines AnyPromise AnyVerdict AnyEpoch AnyNumber o
 any_decided None = tt
 any_decided (Some d) = record { epoch_is = tt; clock_is = tt; lines_are = tt }
 
@@ -126,7 +127,7 @@ module _ (ms : List Envelope) where
   abbrev pub QuestionAsked : Question → Type 0
   QuestionAsked q = parts.QuestionKeeps AnyClock AnyLines AnyPromise AnyVerdict AnyEpoch (AsksAt ms) q
 
-  pub any_decided_asked : (o : Option Decided)
+  pub any_decided_asked : (o : Option EpochStart)
       → parts.DecidedKeeps AnyClock AnyLines AnyPromise AnyVerdict AnyEpoch (AsksAt ms) o
   any_decided_asked None = tt
   any_decided_asked (Some d) = record { epoch_is = tt; clock_is = tt; lines_are = tt }
@@ -174,7 +175,7 @@ module _ (ms ns : List Envelope) where
   )
   doing_more (Installing closed awaits calls installed) here = tt
 
-  decided_more : (o : Option Decided)
+  decided_more : (o : Option EpochStart)
       → parts.DecidedKeeps AnyClock AnyLines AnyPromise AnyVerdict AnyEpoch (AsksAt (ms ++ ns)) o
   decided_more None = tt
   decided_more (Some d) = record { epoch_is = tt; clock_is = tt; lines_are = tt }
@@ -224,7 +225,7 @@ one_next m (messages.Decision tx verdict) p ps number to is lined = absurd is
 one_next m (messages.Inquiry tx) p ps number to is lined = absurd is
 one_next m (messages.Ask tx) p ps number to is lined = doing_next m.doing p ps number to lined
 one_next m (messages.Close epoch) p ps number to is lined = doing_next m.doing p ps number to lined
-one_next m (messages.Install epoch clock log) p ps number to is lined = doing_next m.doing p ps number to lined
+one_next m (messages.Install start) p ps number to is lined = doing_next m.doing p ps number to lined
 
 pub sent_each_asked : (a : ℕ) (before : List Envelope) (m : Admin) (ps : List Posting) (k : ℕ) → k ≡ length before
     → Every IsSentByAdmin ps → AreLined (questions_in m.doing) ps → AdminAsked (before ++ envelopes a k ps) m

@@ -13,7 +13,8 @@ use Rattle.qc_core.proofs.AdminWrites.{admin_written}
 use Rattle.qc_decl.specs.declared.declaration.Declaration.{Declaration}
 use Rattle.qc_entry.specs.declared.line.Line.{Line}
 use Rattle.qc_entry.proofs.Union.{every-union}
-use Rattle.qc_epoch.specs.Vocabulary.{Admin, AdminMove, Asking, Closing, Decided, Doing, Installing, Question, Resting}
+use Rattle.qc_epoch.specs.Vocabulary.{Admin, AdminMove, Asking, Closing, Doing, Installing, Question, Resting}
+use Rattle.qc_msg.specs.declared.payload.EpochStart.{EpochStart}
 use Rattle.qc_epoch.specs.Vocabulary.{ShutSite, admin_takes, outcome_in, sent_one}
 use Rattle.laws_turns.proofs.Greater.{lines-le, promises-le}
 use Rattle.laws_turns.specs.Vocabulary.{AnswerWithin, GivenWithin, LinesWithin, MessageWithin, OutcomeWithin}
@@ -74,7 +75,7 @@ module _ (low high : ℕ) (le : low ≤ high) where
       (PromiseWithin high) (VerdictWithin high) AnyEpoch AnyNumber)
       (λ q here. (taken_le q.tx q.taken here.0, here.1))
 
-  decided_le : (o : Option Decided) → DecidedWithin low o → DecidedWithin high o
+  decided_le : (o : Option EpochStart) → DecidedWithin low o → DecidedWithin high o
   decided_le None here = tt
   decided_le (Some d) here = record {
     epoch_is = tt;

@@ -28,7 +28,7 @@ heard_cases decl c from number P silent takes inquired asked (messages.Decision 
 heard_cases decl c from number P silent takes inquired asked (messages.Inquiry tx) = inquired tx
 heard_cases decl c from number P silent takes inquired asked (messages.Ask tx) = asked tx
 heard_cases decl c from number P silent takes inquired asked (messages.Close epoch) = silent _
-heard_cases decl c from number P silent takes inquired asked (messages.Install epoch clock lines) = silent _
+heard_cases decl c from number P silent takes inquired asked (messages.Install start) = silent _
 
 -- its front end is called, or it commits
 pub called_cases : (decl : Declaration) (c : Client) (P : Command → ClientMove → Type 0)

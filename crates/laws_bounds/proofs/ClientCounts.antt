@@ -90,7 +90,7 @@ pub record Same (c d : Client) : Type 0 where
   pub life : d.front.life ≡ c.front.life
 
 requested_same : (c : Client) (number to : ℕ) (want : Want) → Same c (requested c number to want)
-requested_same c number to (Read object inv) = record { count = refl; life = refl }
+requested_same c number to (Read read) = record { count = refl; life = refl }
 requested_same c number to (Append object view own) = record { count = refl; life = refl }
 requested_same c number to Prepare = record { count = refl; life = refl }
 

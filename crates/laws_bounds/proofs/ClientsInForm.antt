@@ -205,7 +205,7 @@ module _ (decl : Declaration) (client : ℕ) where
 
   requested_form : (c : Client) (number to : ℕ) (want : Want) → ClientInForm c
       → ClientInForm (requested c number to want)
-  requested_form c number to (Read object inv) w =
+  requested_form c number to (Read read) w =
       record { front = requested_doing c.front number to w.front; desk = w.desk }
   requested_form c number to (Append object view own) w =
       record { front = requested_doing c.front number to w.front; desk = w.desk }

@@ -247,7 +247,7 @@ module _ (decl : Declaration) (k : ℕ) where
 
   requested_named : (c : Client) (number to : ℕ) (want : Want) → ClientNamed c
       → ClientNamed (requested c number to want)
-  requested_named c number to (Read object inv) w =
+  requested_named c number to (Read read) w =
       record {
         own = record { client = w.own.client; begun = w.own.begun };
         front = requested_doing c.front number to w.front;

@@ -30,9 +30,9 @@ module _ (decl : Declaration) (a : ℕ) where
   record_within before (records.Prepare p) fit = lines_within p.lines fit.lines
   record_within before (records.Done tx clock) fit = fit.clocks.0
   record_within before (records.Close epoch) fit = tt
-  record_within before (records.Install epoch clock lines) fit = (fit.clocks.0, lines_within lines fit.lines)
+  record_within before (records.Install start) fit = (fit.clocks.0, lines_within start.lines fit.lines)
   record_within before (records.Commit c) fit = fit.clocks.0
-  record_within before (records.Decide epoch clock lines) fit = (fit.clocks.0, lines_within lines fit.lines)
+  record_within before (records.Decide start) fit = (fit.clocks.0, lines_within start.lines fit.lines)
 
   pub fit_within : (before : ℕ) (rs : List Record) → AllFit decl a before rs → AreWithin greatest_clock rs
   fit_within before [] all = tt

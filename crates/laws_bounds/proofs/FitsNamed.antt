@@ -34,9 +34,9 @@ module _ (decl : Declaration) where
       (f.writer, f.clients.0, f.epochs.0, f.locks, f.owns, lines_fit p.lines f.lines)
   record_fits a before (records.Done tx clock) f = (f.writer, f.clients.0)
   record_fits a before (records.Close epoch) f = (f.writer, f.epochs.0)
-  record_fits a before (records.Install epoch clock lines) f = (f.writer, f.epochs.0, lines_fit lines f.lines)
+  record_fits a before (records.Install start) f = (f.writer, f.epochs.0, lines_fit start.lines f.lines)
   record_fits a before (records.Commit c) f = (f.writer, f.clients.0, f.ops)
-  record_fits a before (records.Decide epoch clock lines) f = (f.writer, f.epochs.0, lines_fit lines f.lines)
+  record_fits a before (records.Decide start) f = (f.writer, f.epochs.0, lines_fit start.lines f.lines)
 
   records_fit : (a before : ℕ) (rs : List Record) → AllFit decl a before rs → AreNamed decl a rs
   records_fit a before [] fit = tt
@@ -62,7 +62,7 @@ module _ (decl : Declaration) where
     message_known (messages.Inquiry tx) is = tt
     message_known (messages.Ask tx) is = is
     message_known (messages.Close epoch) is = tt
-    message_known (messages.Install epoch clock log) is = tt
+    message_known (messages.Install start) is = tt
 
     pub asks_known : AsksKnown fits decl script
     asks_known h open_inputs run =

@@ -9,7 +9,10 @@ use Rattle.qc_entry.specs.declared.record.Commit.{Commit}
 use Rattle.qc_entry.specs.declared.record.Prepared.{Prepared}
 use Rattle.qc_list.specs.Vocabulary.{Ascends}
 use Rattle.qc_lock.specs.Vocabulary.{lock_cmp, own_cmp}
-use Rattle.qc_msg.specs.Vocabulary.{epoch_length, prepare_length, Granting, Installing, Invocation, Shutting, decide_in}
+use Rattle.qc_msg.specs.Vocabulary.{epoch_length, prepare_length, Invocation, decide_in}
+use Rattle.qc_msg.specs.declared.payload.EpochStart.{EpochStart}
+use Rattle.qc_msg.specs.declared.payload.Snapshot.{Snapshot}
+use Rattle.qc_msg.specs.declared.payload.Grant.{Grant}
 use Rattle.qc_msg.specs.Vocabulary.{do_in, epoch_in, granted_in, install_in, prepare_in, shut_in}
 use Rattle.qc_msg.specs.declared.message.Answer.{Answer}
 use Rattle.qc_msg.specs.declared.message.Envelope.{Envelope}
@@ -83,15 +86,15 @@ VerdictInForm tx Aborted = Unit {0}
 VerdictInForm tx Active = Unit {0}
 
 abbrev pub WantInForm : Want → Type 0
-WantInForm (Read object inv) = InvocationInForm object inv
+WantInForm (Read read) = InvocationInForm read.object read.inv
 WantInForm (Append object view own) = LinesInForm view × Every IsOwn own
 WantInForm Prepare = Unit {0}
 
 abbrev pub AnswerInForm : Answer → Type 0
 AnswerInForm answer =
     MatchOption (granted_in answer)
-    (MatchOption (shut_in answer) (Unit {0}) (λ (z : Shutting). LinesInForm z.log × Every PromiseInForm z.prepared))
-    (λ (g : Granting). LinesInForm g.log)
+    (MatchOption (shut_in answer) (Unit {0}) (λ (z : Snapshot). LinesInForm z.log × Every PromiseInForm z.prepared))
+    (λ (g : Grant). LinesInForm g.log)
 
 abbrev pub CameInForm : Option Answer → Type 0
 CameInForm None = Unit {0}
@@ -104,7 +107,7 @@ MessageInForm (messages.Decision tx verdict) = VerdictInForm tx verdict
 MessageInForm (messages.Inquiry tx) = Unit {0}
 MessageInForm (messages.Ask tx) = Unit {0}
 MessageInForm (messages.Close epoch) = IsWithin 1 8 epoch
-MessageInForm (messages.Install epoch clock lines) = StartInForm epoch lines
+MessageInForm (messages.Install start) = StartInForm start.epoch start.lines
 
 abbrev pub MailInForm : List Envelope → Type 0
 MailInForm mail = Every (λ (e : Envelope). MessageInForm e.message) mail
@@ -146,13 +149,13 @@ RecordInForm records.Life = Unit {0}
 RecordInForm (records.Prepare p) = PreparedInForm p
 RecordInForm (records.Done tx clock) = IsTx tx × (1 ≤ clock)
 RecordInForm (records.Close epoch) = IsWithin 1 8 epoch
-RecordInForm (records.Install epoch clock lines) = StartInForm epoch lines
+RecordInForm (records.Install start) = StartInForm start.epoch start.lines
 RecordInForm (records.Commit c) = CommitInForm c
-RecordInForm (records.Decide epoch clock lines) = StartInForm epoch lines
+RecordInForm (records.Decide start) = StartInForm start.epoch start.lines
 
 -- records that are written are no longer than a journal's record may be
 
-abbrev pub IsBriefStart : Installing → Type 0
+abbrev pub IsBriefStart : EpochStart → Type 0
 IsBriefStart i = epoch_length i.lines ≤ most_record_bytes
 
 abbrev pub IsBrief : Record → Type 0

@@ -22,4 +22,4 @@ sent_cases decl before after to P request decision (messages.Decision tx verdict
 sent_cases decl before after to P request decision (messages.Inquiry tx) is = absurd is
 sent_cases decl before after to P request decision (messages.Ask tx) is = absurd is
 sent_cases decl before after to P request decision (messages.Close epoch) is = absurd is
-sent_cases decl before after to P request decision (messages.Install epoch clock lines) is = absurd is
+sent_cases decl before after to P request decision (messages.Install start) is = absurd is

@@ -165,11 +165,11 @@ module _ (decl : Declaration) where
 
   -- what is sent
 
-  for_named : (t : Transaction) (doing : Doing) (want : Want) → TransactionNamed decl t → DoingNamed doing
-      → IsFor decl t doing want → WantNamed decl want
-  for_named t Idle want w does never = absurd never
-  for_named t (Reading object inv calls round) want w does is = subst (WantNamed decl) (sym is) does
-  for_named t (Appending object inv event calls round) want w does is =
+  for_named : (t : Transaction) (doing : Doing) (site : ℕ) (want : Want) → TransactionNamed decl t
+      → DoingNamed doing → IsFor decl t doing site want → WantNamed decl want
+  for_named t Idle site want w does never = absurd never
+  for_named t (Reading object inv calls round) site want w does is = subst (WantNamed decl) (sym is) does
+  for_named t (Appending object inv event calls round) site want w does is =
       subst (WantNamed decl) (sym is) (log_named decl t object w, owns_named decl t object event w does.1)
 
   sent_named : (before : Front) (move : FrontMove) → FrontNamed move.front → AreSent decl before move
@@ -178,14 +178,14 @@ module _ (decl : Declaration) where
       every-from_In (λ (p : Posting). MessageNamed decl p.message) move.turn.sends
       (λ p among. one p.to p.message (sent p among))
     where
-      asks : (want : Want) (t : Transaction) → move.front.transaction ≡ Some t → IsFor decl t move.front.doing want
-          → WantNamed decl want
-      asks want t begun is = for_named t move.front.doing want (subst (BegunNamed decl) begun w.begun) w.doing is
+      asks : (to : ℕ) (want : Want) (t : Transaction) → move.front.transaction ≡ Some t
+          → IsFor decl t move.front.doing to want → WantNamed decl want
+      asks to want t begun is = for_named t move.front.doing to want (subst (BegunNamed decl) begun w.begun) w.doing is
 
       one : (to : ℕ) (message : Message) → IsSent decl before move.front to message → MessageNamed decl message
       one to =
           sent_cases decl before move.front to (MessageNamed decl)
-          (λ tx epoch life want is. asks want is.t is.begun is.wants) (λ tx verdict is. tt)
+          (λ tx epoch life want is. asks to want is.t is.begun is.wants) (λ tx verdict is. tt)
 
   pub record FrontMoveNamed (m : FrontMove) : Type 0 where
     pub front : FrontNamed m.front

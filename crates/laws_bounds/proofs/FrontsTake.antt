@@ -70,11 +70,12 @@ module _ (decl : Declaration) (client : ℕ) where
 
   -- what is sent
 
-  for_form : (t : Transaction) (doing : Doing) (want : Want) → TransactionInForm client (room doing) t
-      → DoingInForm decl client doing → IsFor decl t doing want → WantInForm want
-  for_form t Idle want w does never = absurd never
-  for_form t (Reading object inv calls round) want w does is = subst WantInForm (sym is) does
-  for_form t (Appending object inv event calls round) want w does is =
+  for_form : (t : Transaction) (doing : Doing) (site : ℕ) (want : Want)
+      → TransactionInForm client (room doing) t → DoingInForm decl client doing → IsFor decl t doing site want
+      → WantInForm want
+  for_form t Idle site want w does never = absurd never
+  for_form t (Reading object inv calls round) site want w does is = subst WantInForm (sym is) does
+  for_form t (Appending object inv event calls round) site want w does is =
       subst WantInForm (sym is)
       (log_form client 15 t object w, owns_form client decl t object event (resp_of decl object event) w does.1)
 
@@ -92,7 +93,7 @@ module _ (decl : Declaration) (client : ℕ) where
           sent_cases decl before move.front to MessageInForm
           (λ tx epoch life want is. (
             subst OrdinalsInForm (sym is.tx_is) (of is.t is.begun).begun.ordinals,
-            for_form is.t move.front.doing want (of is.t is.begun) w.doing is.wants,
+            for_form is.t move.front.doing to want (of is.t is.begun) w.doing is.wants,
           ))
           (λ tx verdict is. subst (λ (v : Outcome). VerdictInForm tx v) (sym is.aborted) tt)
 

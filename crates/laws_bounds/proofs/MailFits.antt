@@ -28,7 +28,8 @@ use Rattle.qc_msg.specs.declared.step.Input.{Input}
 use Rattle.qc_msg.specs.declared.step.Input.TheVariants as inputs
 use Rattle.qc_msg.specs.declared.turn.Posting.{Posting}
 use Rattle.qc_msg.specs.declared.turn.Turn.{Turn}
-use Rattle.qc_msg.specs.Vocabulary.{answer_in, Answered, Shutting, shut_in, verdict_in, quiet}
+use Rattle.qc_msg.specs.Vocabulary.{answer_in, Answered, shut_in, verdict_in, quiet}
+use Rattle.qc_msg.specs.declared.payload.Snapshot.{Snapshot}
 use Rattle.qc_promise.specs.Vocabulary.{asks_answer}
 use Rattle.qc_site.specs.Vocabulary.{AreByClients, SiteMove, SiteState, answers as answered_with, finishes, grants}
 use Rattle.qc_site.specs.Vocabulary.{moved, passed, promise_cmp, site_at, site_takes}
@@ -94,7 +95,7 @@ ordered_all before (p ∷ ps) first each =
 
 abbrev pub SiteAnswers : Answer → Type 0
 SiteAnswers answer =
-    MatchOption (shut_in answer) (Unit {0}) (λ (z : Shutting). AreByClients z.prepared)
+    MatchOption (shut_in answer) (Unit {0}) (λ (z : Snapshot). AreByClients z.prepared)
     × MatchOption (verdict_in answer) (Unit {0}) (λ (verdict : Outcome). ⊥)
 
 abbrev pub SiteSays : Message → Type 0
@@ -112,8 +113,8 @@ module _ (decl : Declaration) (s : SiteState) (from number : ℕ) (each : AreByC
   told = ordered_all [] s.prepared tt each
 
   granted : (tx : TxId) (want : Want) → Fits (grants decl s from number tx want)
-  granted tx (Read object inv) =
-      read_cases Fits decl s from number tx object inv (λ free. record { sends = ((tt, tt), tt); failed_sends = tt })
+  granted tx (Read read) =
+      read_cases Fits decl s from number tx read.object read.inv (λ free. record { sends = ((tt, tt), tt); failed_sends = tt })
       (λ c clash. record { sends = ((tt, tt), (tt, tt)); failed_sends = tt })
   granted tx (Append object view own) =
       append_cases Fits decl s from number tx object view own

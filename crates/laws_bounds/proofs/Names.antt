@@ -23,7 +23,9 @@ use Rattle.qc_msg.specs.declared.step.Input.{Input}
 use Rattle.qc_msg.specs.declared.step.Input.TheVariants as inputs
 use Rattle.qc_msg.specs.declared.turn.Posting.{Posting}
 use Rattle.std.specs.Prelude.{MatchOption}
-use Rattle.qc_msg.specs.Vocabulary.{Granting, Invocation, Shutting, do_in, epoch_in, granted_in, shut_in}
+use Rattle.qc_msg.specs.Vocabulary.{Invocation, do_in, epoch_in, granted_in, shut_in}
+use Rattle.qc_msg.specs.declared.payload.Snapshot.{Snapshot}
+use Rattle.qc_msg.specs.declared.payload.Grant.{Grant}
 
 module _ (decl : Declaration) where
   pub record LineNamed (l : Line) : Type 0 where
@@ -50,15 +52,15 @@ module _ (decl : Declaration) where
   -- what is said
 
   abbrev pub WantNamed : Want → Type 0
-  WantNamed (Read object inv) = HasInvocation decl object inv
+  WantNamed (Read read) = HasInvocation decl read.object read.inv
   WantNamed (Append object view own) = LinesNamed view × OwnsNamed own
   WantNamed Prepare = Unit {0}
 
   abbrev pub AnswerNamed : Answer → Type 0
   AnswerNamed answer =
       MatchOption (granted_in answer)
-      (MatchOption (shut_in answer) (Unit {0}) (λ (z : Shutting). LinesNamed z.log × Every PromiseNamed z.prepared))
-      (λ (g : Granting). LinesNamed g.log)
+      (MatchOption (shut_in answer) (Unit {0}) (λ (z : Snapshot). LinesNamed z.log × Every PromiseNamed z.prepared))
+      (λ (g : Grant). LinesNamed g.log)
 
   abbrev pub CameNamed : Option Answer → Type 0
   CameNamed None = Unit {0}
@@ -71,7 +73,7 @@ module _ (decl : Declaration) where
   MessageNamed (messages.Inquiry tx) = Unit {0}
   MessageNamed (messages.Ask tx) = tx.client < decl.clients
   MessageNamed (messages.Close epoch) = HasPlan decl epoch
-  MessageNamed (messages.Install epoch clock log) = HasPlan decl epoch × LinesNamed log
+  MessageNamed (messages.Install start) = HasPlan decl start.epoch × LinesNamed start.lines
 
   abbrev pub MailNamed : List Envelope → Type 0
   MailNamed mail = Every (λ (e : Envelope). MessageNamed e.message) mail
@@ -99,9 +101,9 @@ module _ (decl : Declaration) where
       × LinesNamed p.lines
   RecordNamed a (records.Done tx clock) = (a < decl.sites) × (tx.client < decl.clients)
   RecordNamed a (records.Close epoch) = (a < decl.sites) × HasPlan decl epoch
-  RecordNamed a (records.Install epoch clock lines) = (a < decl.sites) × HasPlan decl epoch × LinesNamed lines
+  RecordNamed a (records.Install start) = (a < decl.sites) × HasPlan decl start.epoch × LinesNamed start.lines
   RecordNamed a (records.Commit c) = (a ≡ client_actor decl c.tx.client) × (c.tx.client < decl.clients) × OpsNamed c.ops
-  RecordNamed a (records.Decide epoch clock lines) = (a ≡ administrator decl) × HasPlan decl epoch × LinesNamed lines
+  RecordNamed a (records.Decide start) = (a ≡ administrator decl) × HasPlan decl start.epoch × LinesNamed start.lines
 
   abbrev pub AreNamed : ℕ → List Record → Type 0
   AreNamed a rs = Every (RecordNamed a) rs

@@ -92,15 +92,15 @@ module _ (decl : Declaration) (accepted : IsAccepted decl) (a bound : ℕ) (low 
     lines = tt;
     ops = tt;
   }
-  said_fit before (records.Install epoch clock lines) few named within = record {
+  said_fit before (records.Install start) few named within = record {
     few = few;
     writer = named.0;
     clients = tt;
     epochs = (named.1, tt);
-    clocks = ((let here : clock ≤ bound = within.0 in omega (arith, here, low)), tt);
+    clocks = ((let here : start.clock ≤ bound = within.0 in omega (arith, here, low)), tt);
     locks = tt;
     owns = tt;
-    lines = lines_fit lines named.2 within.1;
+    lines = lines_fit start.lines named.2 within.1;
     ops = tt;
   }
   said_fit before (records.Commit c) few named within = record {
@@ -114,15 +114,15 @@ module _ (decl : Declaration) (accepted : IsAccepted decl) (a bound : ℕ) (low 
     lines = tt;
     ops = named.2;
   }
-  said_fit before (records.Decide epoch clock lines) few named within = record {
+  said_fit before (records.Decide start) few named within = record {
     few = few;
     writer = named.0;
     clients = tt;
     epochs = (named.1, tt);
-    clocks = ((let here : clock ≤ bound = within.0 in omega (arith, here, low)), tt);
+    clocks = ((let here : start.clock ≤ bound = within.0 in omega (arith, here, low)), tt);
     locks = tt;
     owns = tt;
-    lines = lines_fit lines named.2 within.1;
+    lines = lines_fit start.lines named.2 within.1;
     ops = tt;
   }
 

@@ -51,8 +51,8 @@ record_read (records.Prepare p) is = record {
 }
 record_read (records.Done tx clock) is = (is.0, is.1.0)
 record_read (records.Close epoch) is = is
-record_read (records.Install epoch clock lines) is =
-    record { epoch_is = is.epoch_is; lines_are = lines_read lines is.lines_are }
+record_read (records.Install start) is =
+    record { epoch_is = is.epoch_is; lines_are = lines_read start.lines is.lines_are }
 record_read (records.Commit c) is =
     record {
       stamp = record { client = is.stamp; clock = is.clock.0 };
@@ -60,8 +60,8 @@ record_read (records.Commit c) is =
       ops = is.ops.each_is;
       few = is.ops.few;
     }
-record_read (records.Decide epoch clock lines) is =
-    record { epoch_is = is.epoch_is; lines_are = lines_read lines is.lines_are }
+record_read (records.Decide start) is =
+    record { epoch_is = is.epoch_is; lines_are = lines_read start.lines is.lines_are }
 
 pub legal_read : (rs : List Record) → Every (λ (r : Record). is_legal r ≡ true) rs → Every RecordInForm rs
 legal_read rs all =
@@ -118,7 +118,7 @@ brief_form (records.Prepare p) here low brief =
     }
 brief_form (records.Done tx clock) here low brief = (here.0, (here.1, low))
 brief_form (records.Close epoch) here low brief = here
-brief_form (records.Install epoch clock lines) here low brief = start_form epoch clock lines here low brief
+brief_form (records.Install start) here low brief = start_form start.epoch start.clock start.lines here low brief
 brief_form (records.Commit c) here low brief =
     record {
       stamp = here.stamp.client;
@@ -126,7 +126,7 @@ brief_form (records.Commit c) here low brief =
       clock = (here.stamp.clock, low);
       ops = record { few = here.few; each_is = here.ops };
     }
-brief_form (records.Decide epoch clock lines) here low brief = start_form epoch clock lines here low brief
+brief_form (records.Decide start) here low brief = start_form start.epoch start.clock start.lines here low brief
 
 -- its length
 
@@ -172,10 +172,10 @@ brief_length (records.Done tx clock) here brief =
     (let long : length (spelled (records.Done tx clock)) ≡ 18 = refl in omega (arith, long))
 brief_length (records.Close epoch) here brief =
     (let long : length (spelled (records.Close epoch)) ≡ 2 = refl in omega (arith, long))
-brief_length (records.Install epoch clock lines) here brief =
-    (let long : length (spelled (records.Install epoch clock lines)) ≡ 10 + length (lines_form.spelled lines) =
+brief_length (records.Install start) here brief =
+    (let long : length (spelled (records.Install start)) ≡ 10 + length (lines_form.spelled start.lines) =
     omega arith in
-    start_length lines (length (spelled (records.Install epoch clock lines))) long brief)
+    start_length start.lines (length (spelled (records.Install start))) long brief)
 brief_length (records.Commit c) here brief =
     (let ops : length (ops_form.spelled c.ops) ≡ 1 + 3 * length c.ops =
     length-append (big_bytes 1 (length c.ops)) (items_spelled op_form None c.ops)
@@ -184,7 +184,7 @@ brief_length (records.Commit c) here brief =
     let long : length (spelled (records.Commit c)) ≡ 18 + length (ops_form.spelled c.ops) = omega arith in
     let few : length c.ops ≤ 16 = here.few in
     omega (arith, ops, long, few))
-brief_length (records.Decide epoch clock lines) here brief =
-    (let long : length (spelled (records.Decide epoch clock lines)) ≡ 10 + length (lines_form.spelled lines) =
+brief_length (records.Decide start) here brief =
+    (let long : length (spelled (records.Decide start)) ≡ 10 + length (lines_form.spelled start.lines) =
     omega arith in
-    start_length lines (length (spelled (records.Decide epoch clock lines))) long brief)
+    start_length start.lines (length (spelled (records.Decide start))) long brief)

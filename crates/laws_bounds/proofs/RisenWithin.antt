@@ -21,14 +21,15 @@ use Rattle.qc_recover.specs.Clients as by_client_records
 use Rattle.qc_recover.specs.Vocabulary.{Kept, done_lines, done_stamp, inquiry, keeps, kept_by, most_inquiries}
 use Rattle.qc_recover.specs.Vocabulary.{nothing_kept}
 use Rattle.qc_site.specs.Vocabulary.{in_order, latest, lines_of, prepared_of, stamped, with_stamped, without_prepared}
-use Rattle.qc_epoch.specs.Vocabulary.{Decided}
+
 use Rattle.qc_recover.specs.Admins as admins
 use Rattle.qc_stamp.specs.Vocabulary.{same_tx}
 use Rattle.qc_stamp.specs.declared.stamp.Stamp.{Stamp}
 use Rattle.qc_stamp.specs.declared.stamp.TxId.{TxId}
 use Rattle.laws_turns.specs.Vocabulary.{LinesWithin, PromisesWithin, SendsWithin}
 use Rattle.laws_bounds.specs.Vocabulary.{AreWithin, DecidedWithin, MoveWithin, RecordWithin}
-use Rattle.qc_msg.specs.Vocabulary.{Installing, decide_in, commit_of, is_life}
+use Rattle.qc_msg.specs.Vocabulary.{decide_in, commit_of, is_life}
+use Rattle.qc_msg.specs.declared.payload.EpochStart.{EpochStart}
 use Rattle.laws_bounds.proofs.Cases.{decide_cases, commit_cases}
 use Rattle.laws_bounds.proofs.Options.{map_or}
 use Rattle.std.specs.Prelude.{cond, ◌+◌}
@@ -91,16 +92,16 @@ module _ (bound : ℕ) where
   }
   site_keeps k (records.Close epoch) here w =
       record { clock = w.clock; began = w.began; lines = w.lines; promises = w.promises }
-  site_keeps k (records.Install epoch clock lines) here w = record {
+  site_keeps k (records.Install start) here w = record {
     clock =
-        (let c : latest k.clock lines ≤ bound = latest_within k.clock lines w.clock here.1 in
-        let d : clock ≤ bound = here.0 in omega arith);
+        (let c : latest k.clock start.lines ≤ bound = latest_within k.clock start.lines w.clock here.1 in
+        let d : start.clock ≤ bound = here.0 in omega arith);
     began = here.1;
     lines = tt;
     promises = tt;
   }
   site_keeps k (records.Commit c) here w = w
-  site_keeps k (records.Decide epoch clock lines) here w = w
+  site_keeps k (records.Decide start) here w = w
 
   site_kept : (rs : List Record) (k : Kept) → AreWithin bound rs → KeptWithin k → KeptWithin (fold keeps k rs)
   site_kept [] k all w = w
@@ -139,18 +140,18 @@ module _ (bound : ℕ) where
 
   -- the administrator
 
-  abbrev StartWithin : Installing → Type 0
+  abbrev StartWithin : EpochStart → Type 0
   StartWithin i = (i.clock ≤ bound) × LinesWithin bound i.lines
 
-  decided_keeps : (k : Option Decided) (r : Record) → RecordWithin bound r → DecidedWithin bound k
+  decided_keeps : (k : Option EpochStart) (r : Record) → RecordWithin bound r → DecidedWithin bound k
       → DecidedWithin bound (admins.keeps k r)
   decided_keeps k r here w =
       map_or (DecidedWithin bound) StartWithin
-      (λ (i : Installing). Some (record { epoch = i.epoch; clock = i.clock; lines = i.lines })) k (decide_in r)
+      (λ (i : EpochStart). Some i) k (decide_in r)
       (decide_cases (RecordWithin bound) StartWithin (λ epoch clock lines is. is) r here) w
       (λ i is. record { epoch_is = tt; clock_is = is.0; lines_are = is.1 })
 
-  decided_kept : (rs : List Record) (k : Option Decided) → AreWithin bound rs → DecidedWithin bound k
+  decided_kept : (rs : List Record) (k : Option EpochStart) → AreWithin bound rs → DecidedWithin bound k
       → DecidedWithin bound (fold admins.keeps k rs)
   decided_kept [] k all w = w
   decided_kept (r ∷ rs) k all w = decided_kept rs (admins.keeps k r) all.1 (decided_keeps k r all.0 w)

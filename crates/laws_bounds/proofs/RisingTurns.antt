@@ -50,9 +50,9 @@ keeps_more k (records.Done tx clock) =
     (let fewer : length (without_prepared k.promises tx) ≤ length k.promises = filter_fewer
     (λ (q : Prepared). not (same_tx q.tx tx)) k.promises in omega arith)
 keeps_more k (records.Close epoch) = omega arith
-keeps_more k (records.Install epoch clock lines) = omega arith
+keeps_more k (records.Install start) = omega arith
 keeps_more k (records.Commit c) = omega arith
-keeps_more k (records.Decide epoch clock lines) = omega arith
+keeps_more k (records.Decide start) = omega arith
 
 kept_more : (rs : List Record) (k : Kept) → length (fold keeps k rs).promises ≤ length k.promises + length rs
 kept_more [] k = omega arith

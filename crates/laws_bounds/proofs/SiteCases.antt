@@ -7,6 +7,7 @@ use Rattle.qc_msg.specs.declared.message.Message.TheVariants as messages
 use Rattle.qc_msg.specs.declared.message.Outcome.{Outcome}
 use Rattle.qc_msg.specs.declared.message.Want.{Want}
 use Rattle.qc_msg.specs.Vocabulary.{quiet}
+use Rattle.qc_msg.specs.Vocabulary.{start_with}
 use Rattle.qc_site.specs.Vocabulary.{SiteMove, SiteState, moved, site_at}
 use Rattle.qc_stamp.specs.declared.stamp.TxId.{TxId}
 
@@ -17,8 +18,8 @@ pub site_cases : (decl : Declaration) (s : SiteState) (from number : ℕ) (P : M
     → ((tx : TxId) (verdict : Outcome) → P (messages.Decision tx verdict)
     (site_at decl s from number (messages.Decision tx verdict)))
     → ((epoch : ℕ) → P (messages.Close epoch) (site_at decl s from number (messages.Close epoch)))
-    → ((epoch clock : ℕ) (lines : List Line) → P (messages.Install epoch clock lines)
-    (site_at decl s from number (messages.Install epoch clock lines)))
+    → ((epoch clock : ℕ) (lines : List Line) → P (messages.Install (start_with epoch clock lines))
+    (site_at decl s from number (messages.Install (start_with epoch clock lines))))
     → (m : Message) → P m (site_at decl s from number m)
 site_cases decl s from number P silent request decision close install (messages.Request tx epoch life want) =
     request tx epoch life want
@@ -28,5 +29,5 @@ site_cases decl s from number P silent request decision close install (messages.
 site_cases decl s from number P silent request decision close install (messages.Inquiry tx) = silent _
 site_cases decl s from number P silent request decision close install (messages.Ask tx) = silent _
 site_cases decl s from number P silent request decision close install (messages.Close epoch) = close epoch
-site_cases decl s from number P silent request decision close install (messages.Install epoch clock lines) =
-    install epoch clock lines
+site_cases decl s from number P silent request decision close install (messages.Install start) =
+    install start.epoch start.clock start.lines

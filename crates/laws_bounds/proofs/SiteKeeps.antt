@@ -8,6 +8,7 @@ use Rattle.qc_entry.specs.declared.record.Prepared.{Prepared}
 use Rattle.qc_entry.proofs.Union.{every-union}
 use Rattle.qc_msg.specs.declared.record.Record.{Record}
 use Rattle.qc_msg.specs.declared.record.Record.TheVariants as records
+use Rattle.qc_msg.specs.Vocabulary.{start_with}
 use Rattle.qc_recover.specs.Vocabulary.{Kept, done_lines, keeps, with_promise}
 use Rattle.qc_site.specs.Vocabulary.{without_prepared}
 use Rattle.qc_stamp.specs.Vocabulary.{same_tx}
@@ -25,7 +26,7 @@ module _ (Epoch : ℕ → Type 0) (Has : Line → Type 0) (Promise : Prepared �
     pub prepare : (p : Prepared) → Given (records.Prepare p) → Every Has p.lines × Promise p
     pub done : (ps : List Prepared) (tx : TxId) (clock : ℕ) → Every Promise ps → Given (records.Done tx clock)
         → Every Has (done_lines ps tx clock)
-    pub install : (epoch clock : ℕ) (lines : List Line) → Given (records.Install epoch clock lines)
+    pub install : (epoch clock : ℕ) (lines : List Line) → Given (records.Install (start_with epoch clock lines))
         → Epoch epoch × Every Has lines
 
   with_one : (ps : List Prepared) (p : Prepared) → Every Promise ps → Promise p → Every Promise (with_promise ps p)
@@ -56,15 +57,15 @@ module _ (Epoch : ℕ → Type 0) (Has : Line → Type 0) (Promise : Prepared �
     }
     keeps_has k (records.Close epoch) here w =
         record { epoch = w.epoch; began = w.began; lines = w.lines; prepares = w.prepares; promises = w.promises }
-    keeps_has k (records.Install epoch clock lines) here w = record {
-      epoch = (gives.install epoch clock lines here).0;
-      began = (gives.install epoch clock lines here).1;
+    keeps_has k (records.Install start) here w = record {
+      epoch = (gives.install start.epoch start.clock start.lines here).0;
+      began = (gives.install start.epoch start.clock start.lines here).1;
       lines = tt;
       prepares = tt;
       promises = tt;
     }
     keeps_has k (records.Commit c) here w = w
-    keeps_has k (records.Decide epoch clock lines) here w = w
+    keeps_has k (records.Decide start) here w = w
 
     pub kept_has : (rs : List Record) (k : Kept) → Every Given rs → KeptHas k → KeptHas (fold keeps k rs)
     kept_has [] k all w = w

@@ -31,8 +31,8 @@ module _ (bound : ℕ) (decl : Declaration) (s : SiteState) (from number : ℕ) 
   Writes m = WritesWithin bound m.turn
 
   granted : (tx : TxId) (want : Want) → Writes (grants decl s from number tx want)
-  granted tx (Read object inv) =
-      read_cases Writes decl s from number tx object inv (λ free. record { failed_sends = tt; write = tt })
+  granted tx (Read read) =
+      read_cases Writes decl s from number tx read.object read.inv (λ free. record { failed_sends = tt; write = tt })
       (λ c clash. record { failed_sends = tt; write = tt })
   granted tx (Append object view own) =
       append_cases Writes decl s from number tx object view own (λ free. record { failed_sends = tt; write = tt })

@@ -129,8 +129,8 @@ module _ (decl : Declaration) (s : SiteState) (from number : ℕ) (w : SiteInFor
 
     granted : (tx : TxId) (want : Want) → IsTx tx → WantInForm want
         → SiteMoveInForm (grants decl s from number tx want)
-    granted tx (Read object inv) its here =
-        read_cases SiteMoveInForm decl s from number tx object inv
+    granted tx (Read read) its here =
+        read_cases SiteMoveInForm decl s from number tx read.object read.inv
         (λ free. record {
           site =
               record {
@@ -138,14 +138,14 @@ module _ (decl : Declaration) (s : SiteState) (from number : ℕ) (w : SiteInFor
                 began = w.began;
                 log = w.log;
                 held =
-                    held_form s.held tx (record { object = object; inv = inv } ∷ []) [] w.held
+                    held_form s.held tx (record { object = read.object; inv = read.inv } ∷ []) [] w.held
                     (record { object = here.object_is; inv = here.inv_is }, tt) tt;
                 prepared = w.prepared;
               };
           sends = (
             record {
-              each_is = every-filter LineInForm (λ (l : Line). l.object == object) (known s) all_known;
-              ascend = ascends-filter line_cmp (λ (l : Line). l.object == object) (known s) known_ascends;
+              each_is = every-filter LineInForm (λ (l : Line). l.object == read.object) (known s) all_known;
+              ascend = ascends-filter line_cmp (λ (l : Line). l.object == read.object) (known s) known_ascends;
             },
             tt,
           );

@@ -78,8 +78,8 @@ module _ (decl : Declaration) where
 
     granted : (tx : TxId) (want : Want) → tx.client < decl.clients → WantNamed decl want
         → Moves (grants decl s from number tx want)
-    granted tx (Read object inv) low here =
-        read_cases Moves decl s from number tx object inv
+    granted tx (Read read) low here =
+        read_cases Moves decl s from number tx read.object read.inv
         (λ free. record {
           site =
               record {
@@ -87,10 +87,10 @@ module _ (decl : Declaration) where
                 began = w.began;
                 log = w.log;
                 held =
-                    held_named decl s.held tx (record { object = object; inv = inv } ∷ []) [] w.held low (here, tt) tt;
+                    held_named decl s.held tx (record { object = read.object; inv = read.inv } ∷ []) [] w.held low (here, tt) tt;
                 prepared = w.prepared;
               };
-          sends = (every-filter (LineNamed decl) (λ (l : Line). l.object == object) (known s) all_known, tt);
+          sends = (every-filter (LineNamed decl) (λ (l : Line). l.object == read.object) (known s) all_known, tt);
           failed_sends = tt;
           write = tt;
         })

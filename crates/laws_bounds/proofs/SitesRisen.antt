@@ -55,9 +55,9 @@ record_sorted records.Life here = tt
 record_sorted (records.Prepare p) here = (here.locks_ascend, here.own_ascend, here.lines.ascend)
 record_sorted (records.Done tx clock) here = tt
 record_sorted (records.Close epoch) here = tt
-record_sorted (records.Install epoch clock lines) here = here.lines_are.ascend
+record_sorted (records.Install start) here = here.lines_are.ascend
 record_sorted (records.Commit c) here = tt
-record_sorted (records.Decide epoch clock lines) here = tt
+record_sorted (records.Decide start) here = tt
 
 pub site_risen_form : (a : ℕ) (rs : List Record) → Every RecordInForm rs
     → SiteStands (site_of a (rs ++ records.Life ∷ []))

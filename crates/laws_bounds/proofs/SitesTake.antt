@@ -19,7 +19,7 @@ pub record SiteStands (s : SiteState) : Type 0 where
   pub sorted : IsSiteSorted s
 
 view_ascends : (want : Want) → WantInForm want → IsAscending (view_in want)
-view_ascends (Read object inv) here = tt
+view_ascends (Read read) here = tt
 view_ascends (Append object view own) here = here.0.ascend
 view_ascends Prepare here = tt
 
@@ -30,7 +30,7 @@ message_sorted (messages.Decision tx verdict) here = tt
 message_sorted (messages.Inquiry tx) here = tt
 message_sorted (messages.Ask tx) here = tt
 message_sorted (messages.Close epoch) here = tt
-message_sorted (messages.Install epoch clock lines) here = here.lines_are.ascend
+message_sorted (messages.Install start) here = here.lines_are.ascend
 
 module _ (decl : Declaration) (few : decl.clients ≤ most_clients) where
   pub site_takes_form : (s : SiteState) (g : Input) → SiteStands s → TakenInForm g

@@ -21,7 +21,9 @@ use Rattle.qc_view.specs.Vocabulary.{empty_view, with_log, with_own}
 use Rattle.qc_view.specs.declared.view.View.{View}
 use Rattle.laws_bounds.proofs.Forms.{CameInForm, EventInForm, InvocationInForm, LineInForm, LinesInForm, OrdinalsInForm}
 use Rattle.qc_front.specs.Answering.{with_granted}
-use Rattle.qc_msg.specs.Vocabulary.{Granting, Shutting, granted_in, shut_in}
+use Rattle.qc_msg.specs.Vocabulary.{granted_in, shut_in}
+use Rattle.qc_msg.specs.declared.payload.Snapshot.{Snapshot}
+use Rattle.qc_msg.specs.declared.payload.Grant.{Grant}
 use Rattle.laws_bounds.proofs.Forms.{PromiseInForm}
 use Rattle.laws_bounds.proofs.Options.{map_each, map_on}
 
@@ -199,8 +201,8 @@ module _ (client : ℕ) where
   read_form n t site object None w here = w
   read_form n t site object (Some answer) w here =
       map_on (TransactionInForm client n)
-      (MatchOption (shut_in answer) (Unit {0}) (λ (z : Shutting). LinesInForm z.log × Every PromiseInForm z.prepared))
-      (λ (g : Granting). LinesInForm g.log) (λ (g : Granting). with_granted (lived t site g.life) object g.log) t
+      (MatchOption (shut_in answer) (Unit {0}) (λ (z : Snapshot). LinesInForm z.log × Every PromiseInForm z.prepared))
+      (λ (g : Grant). LinesInForm g.log) (λ (g : Grant). with_granted (lived t site g.life) object g.log) t
       (granted_in answer) here w
       (λ g lines. view_form n (lived t site g.life) object
       (option_map (λ (v : View). with_log v g.log) (slice_get t.views object)) (lived_form n t site g.life w)
@@ -209,7 +211,7 @@ module _ (client : ℕ) where
   pub appended_form : (n : ℕ) (t : Transaction) (site : ℕ) (answer : Option Answer) → TransactionInForm client n t
       → TransactionInForm client n (appended_with t site answer)
   appended_form n t site answer w =
-      map_each (TransactionInForm client n) (λ (g : Granting). lived t site g.life) t
+      map_each (TransactionInForm client n) (λ (g : Grant). lived t site g.life) t
       (option_and_then granted_in answer) w (λ g. lived_form n t site g.life w)
 
   -- what an Append carries

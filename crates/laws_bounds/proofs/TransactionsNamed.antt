@@ -18,7 +18,9 @@ use Rattle.qc_view.specs.declared.view.View.{View}
 use Rattle.laws_bounds.proofs.EventsNamed.{EventNamed}
 use Rattle.laws_bounds.proofs.Names.{CameNamed, LineNamed, LinesNamed, OpsNamed, OwnsNamed, PromiseNamed}
 use Rattle.qc_front.specs.Answering.{with_granted}
-use Rattle.qc_msg.specs.Vocabulary.{Granting, Shutting, granted_in, shut_in}
+use Rattle.qc_msg.specs.Vocabulary.{granted_in, shut_in}
+use Rattle.qc_msg.specs.declared.payload.Snapshot.{Snapshot}
+use Rattle.qc_msg.specs.declared.payload.Grant.{Grant}
 use Rattle.laws_bounds.proofs.Options.{map_each, map_on}
 
 every-set : {A : Type 0} (P : A → Type 0) (xs : List A) (i : ℕ) (y : A) → P y → Every P xs → Every P (slice_set xs i y)
@@ -111,8 +113,8 @@ module _ (decl : Declaration) where
   read_named t site object (Some answer) w here =
       map_on TransactionNamed
       (MatchOption (shut_in answer) (Unit {0})
-      (λ (z : Shutting). LinesNamed decl z.log × Every (PromiseNamed decl) z.prepared))
-      (λ (g : Granting). LinesNamed decl g.log) (λ (g : Granting). with_granted (lived t site g.life) object g.log) t
+      (λ (z : Snapshot). LinesNamed decl z.log × Every (PromiseNamed decl) z.prepared))
+      (λ (g : Grant). LinesNamed decl g.log) (λ (g : Grant). with_granted (lived t site g.life) object g.log) t
       (granted_in answer) here w
       (λ g lines. view_named (lived t site g.life) object
       (option_map (λ (v : View). with_log v g.log) (slice_get t.views object))
@@ -123,7 +125,7 @@ module _ (decl : Declaration) where
   pub appended_named : (t : Transaction) (site : ℕ) (answer : Option Answer) → TransactionNamed t
       → TransactionNamed (appended_with t site answer)
   appended_named t site answer w =
-      map_each TransactionNamed (λ (g : Granting). lived t site g.life) t (option_and_then granted_in answer) w
+      map_each TransactionNamed (λ (g : Grant). lived t site g.life) t (option_and_then granted_in answer) w
       (λ g. record { views = w.views; own = w.own; ops = w.ops })
 
   -- what an Append carries

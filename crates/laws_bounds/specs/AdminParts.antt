@@ -4,7 +4,8 @@ use Rattle.std.specs.Prelude.{ℕ, List, Option, Some, None}
 use Rattle.std.specs.List.{AllByRecursion as Every}
 use Rattle.qc_entry.specs.declared.line.Line.{Line}
 use Rattle.qc_entry.specs.declared.record.Prepared.{Prepared}
-use Rattle.qc_epoch.specs.Vocabulary.{Admin, Asking, Closing, Decided, Doing, Installing, Question, Resting, ShutSite}
+use Rattle.qc_epoch.specs.Vocabulary.{Admin, Asking, Closing, Doing, Installing, Question, Resting, ShutSite}
+use Rattle.qc_msg.specs.declared.payload.EpochStart.{EpochStart}
 use Rattle.qc_msg.specs.declared.message.Outcome.{Outcome}
 use Rattle.qc_stamp.specs.declared.stamp.TxId.{TxId}
 
@@ -24,7 +25,7 @@ module _ (Clock : ℕ → Type 0) (Lines : List Line → Type 0) (Promise : Prep
     pub clock_is : Clock clock
     pub lines_are : Lines lines
 
-  abbrev pub DecidedKeeps : Option Decided → Type 0
+  abbrev pub DecidedKeeps : Option EpochStart → Type 0
   DecidedKeeps None = Unit {0}
   DecidedKeeps (Some d) = StartKeeps d.epoch d.clock d.lines
 

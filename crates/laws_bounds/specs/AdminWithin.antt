@@ -3,7 +3,8 @@ use Rattle.std.specs.Prelude.{ℕ, ◌≤◌, Option}
 use Rattle.laws_bounds.specs.AdminParts as parts
 use Rattle.laws_bounds.specs.AdminParts.{AnyNumber}
 use Rattle.qc_entry.specs.declared.record.Prepared.{Prepared}
-use Rattle.qc_epoch.specs.Vocabulary.{Admin, Decided}
+use Rattle.qc_epoch.specs.Vocabulary.{Admin}
+use Rattle.qc_msg.specs.declared.payload.EpochStart.{EpochStart}
 use Rattle.laws_turns.specs.Vocabulary.{LinesWithin, OutcomeWithin}
 use Rattle.qc_msg.specs.declared.message.Outcome.{Outcome}
 use Rattle.qc_stamp.specs.declared.stamp.TxId.{TxId}
@@ -22,7 +23,7 @@ VerdictWithin bound tx verdict = OutcomeWithin bound verdict
 abbrev pub AnyEpoch : ℕ → Type 0
 AnyEpoch epoch = Unit {0}
 
-abbrev pub DecidedWithin : ℕ → Option Decided → Type 0
+abbrev pub DecidedWithin : ℕ → Option EpochStart → Type 0
 DecidedWithin bound o =
     parts.DecidedKeeps (ClockWithin bound) (LinesWithin bound) (PromiseWithin bound)
     (VerdictWithin bound) AnyEpoch AnyNumber o

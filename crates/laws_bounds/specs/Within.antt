@@ -18,9 +18,9 @@ RecordWithin bound records.Life = Unit {0}
 RecordWithin bound (records.Prepare p) = LinesWithin bound p.lines
 RecordWithin bound (records.Done tx clock) = clock ≤ bound
 RecordWithin bound (records.Close epoch) = Unit {0}
-RecordWithin bound (records.Install epoch clock lines) = (clock ≤ bound) × LinesWithin bound lines
+RecordWithin bound (records.Install start) = (start.clock ≤ bound) × LinesWithin bound start.lines
 RecordWithin bound (records.Commit c) = c.stamp.clock ≤ bound
-RecordWithin bound (records.Decide epoch clock lines) = (clock ≤ bound) × LinesWithin bound lines
+RecordWithin bound (records.Decide start) = (start.clock ≤ bound) × LinesWithin bound start.lines
 
 abbrev pub AreWithin : ℕ → List Record → Type 0
 AreWithin bound rs = Every (RecordWithin bound) rs

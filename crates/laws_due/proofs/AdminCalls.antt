@@ -23,7 +23,8 @@ use Rattle.qc_msg.specs.declared.step.Command.TheVariants as commands
 use Rattle.qc_msg.specs.declared.step.Input.{Input}
 use Rattle.qc_msg.specs.declared.step.Input.TheVariants as inputs
 use Rattle.qc_msg.specs.Vocabulary.{epoch_length, quiet, sending, site_called, with_call, without_call}
-use Rattle.qc_epoch.specs.Vocabulary.{Admin, AdminMove, Asking, Closing, Decided, Doing, Installing, Question, Resting}
+use Rattle.qc_epoch.specs.Vocabulary.{Admin, AdminMove, Asking, Closing, Doing, Installing, Question, Resting}
+use Rattle.qc_msg.specs.declared.payload.EpochStart.{EpochStart}
 use Rattle.qc_epoch.specs.Vocabulary.{ShutSite, all_taken, decision, doing, first_doubt, in_asked_order, most_asks}
 use Rattle.qc_epoch.specs.Vocabulary.{moved, numbered_first, outcome_in, questions_of, requested, sent_one, standing_of}
 use Rattle.qc_epoch.specs.Vocabulary.{taken_for, with_installed, with_shut_of}
@@ -47,7 +48,7 @@ abbrev IsOther : ℕ → ℕ → Type 0
 IsOther n k = k ≡ n → ⊥
 
 module _ (decl : Declaration) (m : Admin) where
-  decides_fresh : (d : Decided) (closed : List ℕ) → IsFresh (conduct.decides decl m d closed).admin.doing
+  decides_fresh : (d : EpochStart) (closed : List ℕ) → IsFresh (conduct.decides decl m d closed).admin.doing
   decides_fresh d closed = by (nat_le (epoch_length d.lines) most_record_bytes)
     where
       by : (b : Bool) → IsFresh (cond b (moved
@@ -170,7 +171,7 @@ module _ (decl : Declaration) (m : Admin) where
   called_keeps commands.Abort plain = record { calls = λ k member. (member, tt); plain = plain }
   called_keeps (commands.Epoch number) plain = by (number == m.epoch) (number == m.epoch + 1)
     where
-      again : (o : Option Decided) → KeepsCalls (λ k. Unit {0}) (open_numbers m.doing) (conduct.again decl m o)
+      again : (o : Option EpochStart) → KeepsCalls (λ k. Unit {0}) (open_numbers m.doing) (conduct.again decl m o)
       again None = record { calls = λ k member. absurd member; plain = tt }
       again (Some d) = record { calls = λ k member. absurd member; plain = tt }
 
@@ -203,7 +204,7 @@ module _ (decl : Declaration) (m : Admin) where
   heard_keeps (messages.Inquiry tx) plain = record { calls = λ k member. (member, λ no. no); plain = plain }
   heard_keeps (messages.Ask tx) plain = record { calls = λ k member. (member, λ no. no); plain = plain }
   heard_keeps (messages.Close epoch) plain = record { calls = λ k member. (member, λ no. no); plain = plain }
-  heard_keeps (messages.Install epoch clock log) plain =
+  heard_keeps (messages.Install start) plain =
       record { calls = λ k member. (member, λ no. no); plain = plain }
 
   pub takes_keep : (g : Input) → DoingPlain m.doing
@@ -278,4 +279,4 @@ sent_call m n to (messages.Decision tx verdict) = record { calls = λ k member. 
 sent_call m n to (messages.Inquiry tx) = record { calls = λ k member. inl member; plain = λ plain. plain }
 sent_call m n to (messages.Ask tx) = asked_more m n to (messages.Ask tx) refl
 sent_call m n to (messages.Close epoch) = asked_more m n to (messages.Close epoch) refl
-sent_call m n to (messages.Install epoch clock log) = asked_more m n to (messages.Install epoch clock log) refl
+sent_call m n to (messages.Install start) = asked_more m n to (messages.Install start) refl

@@ -16,7 +16,8 @@ use Rattle.qc_plan.specs.Vocabulary.{RoundState, all_noted, clash_at, closed_at,
 use Rattle.qc_plan.specs.Vocabulary.{refusal, settled, start, verdict, weighing, weight, weight_at}
 use Rattle.qc_msg.specs.declared.message.Answer.{Answer}
 use Rattle.qc_msg.specs.declared.message.Answer.TheVariants as answers
-use Rattle.qc_msg.specs.Vocabulary.{Shutting, shut_in}
+use Rattle.qc_msg.specs.Vocabulary.{shut_in}
+use Rattle.qc_msg.specs.declared.payload.Snapshot.{Snapshot}
 use Rattle.qc_promise.specs.Vocabulary.{AdminRequest, close_asked, fresh_round, standing_for}
 use Rattle.qc_epoch.specs.Vocabulary.{standing_of}
 use Rattle.qc_epoch.specs.Conduct as conduct
@@ -43,7 +44,7 @@ apart_weighing weights = apart_filter (λ (site : ℕ). nat_lt 0 (weight_at weig
 
 pub standing_is : (answer : Option Answer) → standing_of answer ≡ standing_for answer
 standing_is None = refl
-standing_is (Some (answers.Granted life clock log)) = refl
+standing_is (Some (answers.Granted grant)) = refl
 standing_is (Some (answers.Clash holder inv event)) = refl
 standing_is (Some (answers.Closed epoch)) = refl
 standing_is (Some (answers.Behind epoch)) = refl
@@ -51,7 +52,7 @@ standing_is (Some (answers.Restarted life)) = refl
 standing_is (Some answers.Stale) = refl
 standing_is (Some answers.Fault) = refl
 standing_is (Some (answers.Yes clock)) = refl
-standing_is (Some (answers.Shut clock log prepared)) = refl
+standing_is (Some (answers.Shut snapshot)) = refl
 standing_is (Some answers.Installed) = refl
 standing_is (Some (answers.Answered verdict)) = refl
 
@@ -154,8 +155,8 @@ round_taken decl epoch number site answer cs sites numbers c =
 not_closed : (q : AdminRequest) → closed_at q.to (option_map standing_for q.taken) ≡ None
 not_closed q = by q.taken
   where
-    at : (o : Option Shutting) → closed_at q.to
-        (Some (option_map_or (λ (s : Shutting). standings.Granted) o standings.Missing)) ≡ None
+    at : (o : Option Snapshot) → closed_at q.to
+        (Some (option_map_or (λ (s : Snapshot). standings.Granted) o standings.Missing)) ≡ None
     at None = refl
     at (Some s) = refl
 
@@ -166,8 +167,8 @@ not_closed q = by q.taken
 not_clashing : (q : AdminRequest) → clash_at q.to (option_map standing_for q.taken) ≡ None
 not_clashing q = by q.taken
   where
-    at : (o : Option Shutting) → clash_at q.to
-        (Some (option_map_or (λ (s : Shutting). standings.Granted) o standings.Missing)) ≡ None
+    at : (o : Option Snapshot) → clash_at q.to
+        (Some (option_map_or (λ (s : Snapshot). standings.Granted) o standings.Missing)) ≡ None
     at None = refl
     at (Some s) = refl
 

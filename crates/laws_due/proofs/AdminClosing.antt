@@ -6,7 +6,8 @@ use Rattle.std.specs.Prelude.{is_some}
 use Rattle.std.specs.List.{AllByRecursion as Every, list_all}
 use Rattle.std.proofs.lemmas.List.{length-map}
 use Rattle.qc_list.proofs.Members.{In-first}
-use Rattle.qc_msg.specs.Vocabulary.{Installing as Started, sending}
+use Rattle.qc_msg.specs.Vocabulary.{sending}
+use Rattle.qc_msg.specs.declared.payload.EpochStart.{EpochStart}
 use Rattle.qc_decl.specs.declared.declaration.Declaration.{Declaration}
 use Rattle.qc_plan.specs.declared.standing.Asked.{Asked}
 use Rattle.qc_plan.specs.declared.standing.Verdict.{Verdict}
@@ -117,7 +118,7 @@ module _ (decl : Declaration) (some : (decl.sites == 0) ≡ false) (first : ℕ)
         stage = record {
           moves = record {
             command = (sent.frame).command ∙ moves.command;
-            next = moves.next ∙ ap (λ (o : Option Started). epoch_of o + 1) (sym (sent.frame).decided);
+            next = moves.next ∙ ap (λ (o : Option EpochStart). epoch_of o + 1) (sym (sent.frame).decided);
             unwritten = (sent.frame).written ∙ moves.unwritten;
             installs_none = sent.installs_same ∙ moves.installs_none;
           };

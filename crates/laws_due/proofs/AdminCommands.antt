@@ -14,10 +14,11 @@ use Rattle.qc_msg.specs.declared.step.Command.{Command}
 use Rattle.qc_msg.specs.declared.step.Command.TheVariants as commands
 use Rattle.qc_msg.specs.declared.step.Input.{Input}
 use Rattle.qc_msg.specs.declared.step.Input.TheVariants as inputs
-use Rattle.qc_msg.specs.Vocabulary.{Installing as Started, epoch_in, quiet}
+use Rattle.qc_msg.specs.Vocabulary.{epoch_in, quiet}
+use Rattle.qc_msg.specs.declared.payload.EpochStart.{EpochStart}
 use Rattle.qc_promise.specs.Vocabulary.{AdminAccount, IsAdminFree, admin_heard, admin_taken, decided_epoch, decided_now}
 use Rattle.qc_promise.specs.Vocabulary.{installs, site_set}
-use Rattle.qc_epoch.specs.Vocabulary.{Admin, Asking, Closing, Decided, Doing, Installing, Resting, admin_takes, doing}
+use Rattle.qc_epoch.specs.Vocabulary.{Admin, Asking, Closing, Doing, Installing, Resting, admin_takes, doing}
 use Rattle.qc_epoch.specs.Vocabulary.{install_of, install_sends, installing, moved, replies_with}
 use Rattle.qc_epoch.specs.Conduct as conduct
 use Rattle.laws_due.proofs.AdminCloses.{fresh_is}
@@ -39,7 +40,7 @@ called_now d command = record d { command = Some command; requests = []; written
 module _ (decl : Declaration) (some : (decl.sites == 0) ≡ false) (first : ℕ) (d : AdminAccount) (m : Admin)
     (base : Base d m) (rests : Rests d) where
   before : decided_now d ≡ d.decided
-  before = ap (λ (o : Option Started). option_or o d.decided) rests.unwritten
+  before = ap (λ (o : Option EpochStart). option_or o d.decided) rests.unwritten
 
   base_now : (command : Command) (x : Doing) → Base (called_now d command) (doing m x)
   base_now command x = record {
@@ -62,11 +63,11 @@ module _ (decl : Declaration) (some : (decl.sites == 0) ≡ false) (first : ℕ)
       ∙ ap (λ (n : ℕ). Some (replies.Order n)) (sym (base_called (commands.Epoch k)).epoch))
       (sym (order_decided decl (called_now d (commands.Epoch k)) base.up k refl other))
 
-  again_goes : (k : ℕ) → k ≡ decided_epoch d → (o : Option Decided) → m.decided ≡ o
+  again_goes : (k : ℕ) → k ≡ decided_epoch d → (o : Option EpochStart) → m.decided ≡ o
       → Goes decl first (called_now d (commands.Epoch k)) (conduct.again decl m o)
   again_goes k same None is =
       order_goes k (λ next. omega (arith, next, same))
-      (λ again. ap (λ (v : Option Started). is_some v)
+      (λ again. ap (λ (v : Option EpochStart). is_some v)
       ((base_called (commands.Epoch k)).decided ∙ ap (option_map started) is))
   again_goes k same (Some dd) is =
       sends_goes decl first (called_now d (commands.Epoch k)) (doing m (installing decl []))
@@ -84,7 +85,7 @@ module _ (decl : Declaration) (some : (decl.sites == 0) ≡ false) (first : ℕ)
             command = (sent.frame).command;
             same = same ∙ ap epoch_of (sym (sent.frame).decided);
             unwritten = (sent.frame).written;
-            known = ap (λ (v : Option Started). is_some v) ((sent.frame).decided ∙ known);
+            known = ap (λ (v : Option EpochStart). is_some v) ((sent.frame).decided ∙ known);
             closed_none = refl;
           });
           calls_are = refl;
@@ -181,7 +182,7 @@ module _ (decl : Declaration) (some : (decl.sites == 0) ≡ false) (n first : �
   heard_goes (messages.Inquiry tx) = quiet_goes decl first d m still
   heard_goes (messages.Ask tx) = quiet_goes decl first d m still
   heard_goes (messages.Close epoch) = quiet_goes decl first d m still
-  heard_goes (messages.Install epoch clock log) = quiet_goes decl first d m still
+  heard_goes (messages.Install start) = quiet_goes decl first d m still
 
   -- a command comes where he rests
 

@@ -10,14 +10,15 @@ use Rattle.qc_decl.specs.declared.declaration.Declaration.{Declaration}
 use Rattle.qc_plan.specs.declared.standing.Verdict.TheVariants as verdicts
 use Rattle.qc_plan.specs.Vocabulary.{verdict}
 use Rattle.qc_msg.specs.declared.reply.Reply.TheVariants as replies
-use Rattle.qc_msg.specs.Vocabulary.{Deed, Installing as Started, epoch_length, sends_of}
+use Rattle.qc_msg.specs.Vocabulary.{Deed, epoch_length, sends_of}
+use Rattle.qc_msg.specs.declared.payload.EpochStart.{EpochStart}
 use Rattle.qc_promise.specs.Vocabulary.{AdminAccount, AdminRequest, AreAdminDeedsDue, Promised, ToldShut}
 use Rattle.qc_promise.specs.Vocabulary.{admin_account_at, admin_due, all_answered, asks, close_round, close_row}
 use Rattle.qc_promise.specs.Vocabulary.{closed_sites, closes, decide_due, decide_record, decided_met, decided_now}
 use Rattle.qc_promise.specs.Vocabulary.{decided_of, decided_row, decision_due, doubt_row, first_doubt, installs}
 use Rattle.qc_promise.specs.Vocabulary.{promised_once, shuts_told, site_set, told_shut}
 use Rattle.qc_promise.specs.AdminRows.{fits_record}
-use Rattle.qc_epoch.specs.Vocabulary.{Admin, Decided, Installing, Question, ShutSite, decide_turn, decides, decision}
+use Rattle.qc_epoch.specs.Vocabulary.{Admin, Installing, Question, ShutSite, decide_turn, decides, decision}
 use Rattle.qc_epoch.specs.Vocabulary.{install_of, install_sends, installing, replies_with, settles, settles_by}
 use Rattle.qc_epoch.specs.Deciding as deciding
 use Rattle.qc_admin.specs.Vocabulary.{sent_each}
@@ -63,12 +64,12 @@ module _ (decl : Declaration) (some : (decl.sites == 0) ≡ false) (first : ℕ)
 
   -- the decision is written and installed
 
-  module _ (none : first_doubt d ≡ None) (fits : fits_record (decision_due d) ≡ true) (dd : Decided)
+  module _ (none : first_doubt d ≡ None) (fits : fits_record (decision_due d) ≡ true) (dd : EpochStart)
       (is_due : started dd ≡ decision_due d) (of_epoch : dd.epoch ≡ epoch)
       (closed_taken : all_taken (closes d) ≡ true) (asked_taken : all_taken (asks d) ≡ true) where
     decision_now : decide_due decl d ≡ Some (started dd)
     decision_now = due_met None none ∙ ap (λ (b : Bool). cond b (Some (decision_due d)) None) fits
-        ∙ ap (λ (i : Started). Some i) (sym is_due)
+        ∙ ap (λ (i : EpochStart). Some i) (sym is_due)
 
     sent : InstallsSent decl dd first 0 decl.sites (record d { written = Some (started dd) })
     sent =
@@ -85,13 +86,13 @@ module _ (decl : Declaration) (some : (decl.sites == 0) ≡ false) (first : ℕ)
       answered = answered;
       doubt = none;
       fits = fits;
-      written = ap (λ (i : Started). Some i) is_due;
+      written = ap (λ (i : EpochStart). Some i) is_due;
     }
 
     -- he is installing it
 
     now : decided_now sent.end ≡ Some (started dd)
-    now = ap (λ (o : Option Started). option_or o sent.end.decided) (sent.frame).written
+    now = ap (λ (o : Option EpochStart). option_or o sent.end.decided) (sent.frame).written
 
     admin_is : (closed : List ℕ) → sent_each
         (record { epoch = dd.epoch; decided = Some dd; doing = installing decl closed }) first (install_sends decl dd)
@@ -137,7 +138,7 @@ module _ (decl : Declaration) (some : (decl.sites == 0) ≡ false) (first : ℕ)
               why = stages.decided (record {
                 epoch = epoch;
                 command = (sent.frame).command ∙ moves.command;
-                next = moves.next ∙ ap (λ (o : Option Started). epoch_of o + 1) (sym (sent.frame).decided);
+                next = moves.next ∙ ap (λ (o : Option EpochStart). epoch_of o + 1) (sym (sent.frame).decided);
                 settled = settled_same decl (record d { written = Some (started dd) }) sent.end
                     (record {
                       closes_same = sent.closes_same;

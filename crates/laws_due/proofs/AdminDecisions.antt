@@ -14,13 +14,13 @@ use Rattle.qc_entry.specs.declared.record.Prepared.{Prepared}
 use Rattle.qc_entry.specs.Vocabulary.{union}
 use Rattle.qc_msg.specs.declared.message.Outcome.{Outcome}
 use Rattle.qc_msg.specs.declared.message.Outcome.TheVariants.{Committed, Aborted, Active}
-use Rattle.qc_msg.specs.Vocabulary.{Installing}
+use Rattle.qc_msg.specs.declared.payload.EpochStart.{EpochStart}
 use Rattle.qc_promise.specs.Vocabulary.{AdminAccount, AdminRequest, Promised, ToldShut, all_answered, ask_of}
 use Rattle.qc_promise.specs.Vocabulary.{decided_epoch, decision_due, first_doubt, lines_of, most_questions}
 use Rattle.qc_promise.specs.Vocabulary.{promised_once, shuts_told, verdict_of, with_told}
 use Rattle.qc_promise.specs.AdminRounds.{is_final}
 use Rattle.qc_promise.specs.AdminRounds as account
-use Rattle.qc_epoch.specs.Vocabulary.{Decided, Question, ShutSite, all_taken, clock_in, decision, greatest, is_settled}
+use Rattle.qc_epoch.specs.Vocabulary.{Question, ShutSite, all_taken, clock_in, decision, greatest, is_settled}
 use Rattle.qc_epoch.specs.Vocabulary.{most_asks, promised_lines, stamp_in, stamp_of, with_promised, with_shut}
 use Rattle.qc_epoch.specs.Deciding as deciding
 use Rattle.laws_due.proofs.AdminShuts.{to_shut}
@@ -29,7 +29,7 @@ use Rattle.laws_due.proofs.AdminQuestions.{about, heard, outcome_of, stamp_heard
 
 -- a decision as an account has it
 
-abbrev pub started : Decided → Installing
+abbrev pub started : EpochStart → EpochStart
 started d = record { epoch = d.epoch; clock = d.clock; lines = d.lines }
 
 -- who is in doubt first

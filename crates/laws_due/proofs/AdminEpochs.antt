@@ -6,7 +6,8 @@ use Rattle.qc_decl.specs.Vocabulary.{most_record_bytes}
 use Rattle.qc_decl.specs.declared.declaration.Declaration.{Declaration}
 use Rattle.laws_due.proofs.Epochs.{TellPlanned, TurnPlanned, says_nothing}
 use Rattle.laws_due.specs.Vocabulary.{IsPlanned, IsRecordPlanned}
-use Rattle.qc_epoch.specs.Vocabulary.{Admin, AdminMove, Asking, Closing, Decided, Doing, Installing, Question, Resting}
+use Rattle.qc_epoch.specs.Vocabulary.{Admin, AdminMove, Asking, Closing, Doing, Installing, Question, Resting}
+use Rattle.qc_msg.specs.declared.payload.EpochStart.{EpochStart}
 use Rattle.qc_epoch.specs.Vocabulary.{ShutSite, all_taken, decision, first_doubt, in_asked_order, most_asks, moved}
 use Rattle.qc_epoch.specs.Vocabulary.{new_admin, outcome_in, questions_of, standing_of, taken_for, with_installed}
 use Rattle.qc_epoch.specs.Vocabulary.{with_shut_of}
@@ -62,7 +63,7 @@ input_planned decl a (inputs.Lost number) is = tt
 
 -- his epochs
 
-abbrev pub DecidedPlanned : Declaration → Option Decided → Type 0
+abbrev pub DecidedPlanned : Declaration → Option EpochStart → Type 0
 DecidedPlanned decl None = Unit {0}
 DecidedPlanned decl (Some d) = IsPlanned decl d.epoch
 
@@ -85,7 +86,7 @@ new_admin_planned decl = record { decided = tt; doing = tt }
 
 -- what he sends
 
-installs_planned : (decl : Declaration) (d : Decided) (sites : List ℕ) → IsPlanned decl d.epoch
+installs_planned : (decl : Declaration) (d : EpochStart) (sites : List ℕ) → IsPlanned decl d.epoch
     → TellPlanned decl (map (admins.install_of d) sites)
 installs_planned decl d [] planned = tt
 installs_planned decl d (site ∷ sites) planned = (planned, installs_planned decl d sites planned)
@@ -111,7 +112,7 @@ module _ (decl : Declaration) (m : Admin) (w : AdminPlanned decl m) where
     turn = record { sends = tt; failed_sends = tt; writes = tt };
   }
 
-  decides : (d : Decided) (closed : List ℕ) → IsPlanned decl d.epoch
+  decides : (d : EpochStart) (closed : List ℕ) → IsPlanned decl d.epoch
       → AdminMovePlanned decl (admins.decides decl m d closed)
   decides d closed planned = by (nat_le (epoch_length d.lines) most_record_bytes)
     where
@@ -164,7 +165,7 @@ module _ (decl : Declaration) (m : Admin) (w : AdminPlanned decl m) where
       by (verdicts.Clash tx site) = stays
       by (verdicts.Short got need) = tells (replies.Quorum halves.Close got need)
 
-  again : (o : Option Decided) → DecidedPlanned decl o → AdminMovePlanned decl (admins.again decl m o)
+  again : (o : Option EpochStart) → DecidedPlanned decl o → AdminMovePlanned decl (admins.again decl m o)
   again None planned = tells (replies.Order m.epoch)
   again (Some d) planned = record {
     state = record { decided = w.decided; doing = tt };
@@ -240,7 +241,7 @@ module _ (decl : Declaration) (m : Admin) (w : AdminPlanned decl m) where
   heard (messages.Inquiry tx) = stays
   heard (messages.Ask tx) = stays
   heard (messages.Close epoch) = stays
-  heard (messages.Install epoch clock log) = stays
+  heard (messages.Install start) = stays
 
   pub admin_planned : (g : Input) → IsPlannedInput decl g → AdminMovePlanned decl (admins.admin_takes decl m g)
   admin_planned (inputs.Called command) planned = called command planned
@@ -265,22 +266,22 @@ module _ (decl : Declaration) (m : Admin) (w : AdminPlanned decl m) where
       record { decided = w.decided; doing = requested_planned m.doing number to w.doing }
   sent_planned number to (messages.Close epoch) =
       record { decided = w.decided; doing = requested_planned m.doing number to w.doing }
-  sent_planned number to (messages.Install epoch clock log) =
+  sent_planned number to (messages.Install start) =
       record { decided = w.decided; doing = requested_planned m.doing number to w.doing }
 
 -- he rises with the last decision of his records
 
-keeps_planned : (decl : Declaration) (k : Option Decided) (r : Record) → IsRecordPlanned decl r → DecidedPlanned decl k
+keeps_planned : (decl : Declaration) (k : Option EpochStart) (r : Record) → IsRecordPlanned decl r → DecidedPlanned decl k
     → DecidedPlanned decl (keeps k r)
 keeps_planned decl k records.Life planned w = w
 keeps_planned decl k (records.Prepare p) planned w = w
 keeps_planned decl k (records.Done tx clock) planned w = w
 keeps_planned decl k (records.Close epoch) planned w = w
-keeps_planned decl k (records.Install epoch clock lines) planned w = w
+keeps_planned decl k (records.Install start) planned w = w
 keeps_planned decl k (records.Commit commit) planned w = w
-keeps_planned decl k (records.Decide epoch clock lines) planned w = planned
+keeps_planned decl k (records.Decide start) planned w = planned
 
-kept_planned : (decl : Declaration) (k : Option Decided) (rs : List Record) → Every (IsRecordPlanned decl) rs
+kept_planned : (decl : Declaration) (k : Option EpochStart) (rs : List Record) → Every (IsRecordPlanned decl) rs
     → DecidedPlanned decl k → DecidedPlanned decl (fold keeps k rs)
 kept_planned decl k [] planned w = w
 kept_planned decl k (r ∷ rs) planned w = kept_planned decl (keeps k r) rs planned.1 (keeps_planned decl k r planned.0 w)

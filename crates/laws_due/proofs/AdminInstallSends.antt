@@ -8,11 +8,12 @@ use Rattle.qc_decl.specs.declared.declaration.Declaration.{Declaration}
 use Rattle.qc_plan.specs.Vocabulary.{first}
 use Rattle.qc_msg.specs.declared.call.Call.{Call}
 use Rattle.qc_msg.specs.declared.message.Message.TheVariants as messages
-use Rattle.qc_msg.specs.Vocabulary.{Deed, Installing as Started, Sends, sends_of}
+use Rattle.qc_msg.specs.Vocabulary.{Deed, Sends, sends_of}
+use Rattle.qc_msg.specs.declared.payload.EpochStart.{EpochStart}
 use Rattle.qc_promise.specs.Vocabulary.{AdminAccount, AdminRequest, AreAdminDeedsDue, Install, admin_account_at}
 use Rattle.qc_promise.specs.Vocabulary.{admin_requested, asks, calls_install, closes, commanded, decided_now, installs}
 use Rattle.qc_promise.specs.Vocabulary.{is_ask, is_close, is_install, is_same_start, same_line}
-use Rattle.qc_epoch.specs.Vocabulary.{Admin, Decided, Installing, doing, install_of}
+use Rattle.qc_epoch.specs.Vocabulary.{Admin, Installing, doing, install_of}
 use Rattle.qc_admin.specs.Vocabulary.{sent_each}
 use Rattle.laws_due.proofs.AdminRequests.{all_taken, calls_more, open_calls, wanting_more, wanting_same}
 use Rattle.laws_due.proofs.AdminDecisions.{started}
@@ -25,7 +26,7 @@ use Rattle.laws_due.proofs.DoRows.{all_same, line_itself}
 module _ (decl : Declaration) where
   -- Installs, to the sites that are left
 
-  pub record InstallsSent (dd : Decided) (first k c : ℕ) (d : AdminAccount) : Type 0 where
+  pub record InstallsSent (dd : EpochStart) (first k c : ℕ) (d : AdminAccount) : Type 0 where
     pub end : AdminAccount
     pub is : fold (admin_account_at decl) d (sends_of first (map (install_of dd) (range_with_len k c))) ≡ end
     pub due : (ys : List Deed) → AreAdminDeedsDue decl end ys
@@ -42,16 +43,16 @@ module _ (decl : Declaration) where
         (map (install_of dd) (range_with_len k c)) ≡ doing m
         (Installing closed awaited (open_calls (installs end)) installed)
 
-  same_start : (i : Started) → is_same_start i i ≡ true
+  same_start : (i : EpochStart) → is_same_start i i ≡ true
   same_start i = rw (eq-eqb i.epoch i.epoch refl, eq-eqb i.clock i.clock refl) (all_same same_line line_itself i.lines)
 
-  install_called : (dd : Decided) (d : AdminAccount) (k : ℕ) → commanded d ≡ Some dd.epoch
+  install_called : (dd : EpochStart) (d : AdminAccount) (k : ℕ) → commanded d ≡ Some dd.epoch
       → decided_now d ≡ Some (started dd) → length (installs d) ≡ k → calls_install d k (started dd) ≡ true
   install_called dd d k asked decided count =
       rw (
         this_some dd.epoch (commanded d) asked,
         eq-eqb k (length (installs d)) (sym count),
-        ap (λ (o : Option Started). option_map_or (is_same_start (started dd)) o false) decided
+        ap (λ (o : Option EpochStart). option_map_or (is_same_start (started dd)) o false) decided
             ∙ same_start (started dd),
       ) refl
 
@@ -67,7 +68,7 @@ module _ (decl : Declaration) where
       by true e = e
       by false e = refl
 
-  pub installs_sent : (dd : Decided) (c n first k : ℕ) (d : AdminAccount) → n ≤ first → commanded d ≡ Some dd.epoch
+  pub installs_sent : (dd : EpochStart) (c n first k : ℕ) (d : AdminAccount) → n ≤ first → commanded d ≡ Some dd.epoch
       → decided_now d ≡ Some (started dd) → length (installs d) ≡ k → Numbered n (installs d)
       → InstallsSent dd first k c d
   installs_sent dd zero n first k d low asked decided count numbers = record {
@@ -126,7 +127,7 @@ module _ (decl : Declaration) where
             ∙ more.admin m closed awaited installed;
       }
         where
-          step : admin_account_at decl d (Sends first k (messages.Install dd.epoch dd.clock dd.lines))
+          step : admin_account_at decl d (Sends first k (messages.Install dd))
               ≡ admin_requested d first k Install
           step = ap (λ (b : Bool). cond b (admin_requested d first k Install) d)
               (install_called dd d k asked decided count)

@@ -39,7 +39,7 @@ with_none sites = omega arith
 pub with_installed_set : (sites : List ℕ) (site : ℕ) (answer : Option Answer)
     → site_set (with_installed sites site answer) ≡ site_set sites + weight_if (told answer) site
 with_installed_set sites site None = with_none sites
-with_installed_set sites site (Some (answers.Granted life clock log)) = with_none sites
+with_installed_set sites site (Some (answers.Granted grant)) = with_none sites
 with_installed_set sites site (Some (answers.Clash holder inv event)) = with_none sites
 with_installed_set sites site (Some (answers.Closed epoch)) = with_none sites
 with_installed_set sites site (Some (answers.Behind epoch)) = with_none sites
@@ -47,7 +47,7 @@ with_installed_set sites site (Some (answers.Restarted life)) = with_none sites
 with_installed_set sites site (Some answers.Stale) = with_none sites
 with_installed_set sites site (Some answers.Fault) = with_none sites
 with_installed_set sites site (Some (answers.Yes clock)) = with_none sites
-with_installed_set sites site (Some (answers.Shut clock log prepared)) = with_none sites
+with_installed_set sites site (Some (answers.Shut snapshot)) = with_none sites
 with_installed_set sites site (Some answers.Installed) = set_more sites site
 with_installed_set sites site (Some (answers.Answered verdict)) = with_none sites
 

@@ -216,7 +216,7 @@ heard (Some o) = o
 
 outcome_is : (answer : Option Answer) → outcome_in answer ≡ option_and_then verdict_in answer
 outcome_is None = refl
-outcome_is (Some (answers.Granted life clock log)) = refl
+outcome_is (Some (answers.Granted grant)) = refl
 outcome_is (Some (answers.Clash holder inv event)) = refl
 outcome_is (Some (answers.Closed epoch)) = refl
 outcome_is (Some (answers.Behind epoch)) = refl
@@ -224,7 +224,7 @@ outcome_is (Some (answers.Restarted life)) = refl
 outcome_is (Some answers.Stale) = refl
 outcome_is (Some answers.Fault) = refl
 outcome_is (Some (answers.Yes clock)) = refl
-outcome_is (Some (answers.Shut clock log prepared)) = refl
+outcome_is (Some (answers.Shut snapshot)) = refl
 outcome_is (Some answers.Installed) = refl
 outcome_is (Some (answers.Answered verdict)) = refl
 

@@ -83,7 +83,7 @@ module _ (decl : Declaration) (script : Script) (accepted : IsAccepted decl) (fi
   to_other to (messages.Inquiry tx) goes is request = absurd (let never : ⊥ = cc in never)
   to_other to (messages.Ask tx) goes is request = to_client to tx.client goes is
   to_other to (messages.Close epoch) goes is request = to_site to goes
-  to_other to (messages.Install epoch clock log) goes is request = to_site to goes
+  to_other to (messages.Install start) goes is request = to_site to goes
 
   to_others : (ps : List Posting) → GoWell decl ps → Every (λ (p : Posting). IsKnown decl p.message) ps
       → AreToOthers (administrator decl) ps
@@ -130,11 +130,11 @@ module _ (decl : Declaration) (script : Script) (accepted : IsAccepted decl) (fi
       (close_cases (λ (m : SiteMove). RepliesTo e m.turn) (passed s (messages.Close epoch)) e.from e.number epoch
       (λ answer. record { answer = answer; rest = []; sends = refl })
       (λ near later. record { answer = _; rest = []; sends = refl })))
-  replied e (messages.Install epoch clock log) message goes is request =
+  replied e (messages.Install start) message goes is request =
       site_replies e goes (λ s. subst (λ (x : Message). RepliesTo e (site_at decl (passed s x) e.from e.number x).turn)
       (sym message)
       (install_cases (λ (m : SiteMove). RepliesTo e m.turn)
-      (passed s (messages.Install epoch clock log)) e.from e.number epoch clock log
+      (passed s (messages.Install start)) e.from e.number start.epoch start.clock start.lines
       (λ answer. record { answer = answer; rest = []; sends = refl })
       (λ later fits. record { answer = _; rest = []; sends = refl })))
 
@@ -197,5 +197,5 @@ module _ (decl : Declaration) (script : Script) (accepted : IsAccepted decl) (fi
           omega arith
       within (messages.Close epoch) same = let place : e.to < decl.sites = subst (GoesWell decl e.to) same goes in
           omega arith
-      within (messages.Install epoch clock log) same = let place : e.to < decl.sites =
+      within (messages.Install start) same = let place : e.to < decl.sites =
           subst (GoesWell decl e.to) same goes in omega arith

@@ -15,13 +15,14 @@ use Rattle.qc_msg.specs.declared.step.Fall.TheVariants as causes
 use Rattle.qc_msg.specs.declared.turn.Appended.{Appended}
 use Rattle.qc_msg.specs.declared.turn.Appended.TheVariants.{Done, Failed, Stopped}
 use Rattle.qc_msg.specs.declared.turn.Turn.{Turn}
-use Rattle.qc_msg.specs.Vocabulary.{Deed, Falls, Installing as Started, IsByDisk, Rises, Writes, decide_in, deeds_as}
+use Rattle.qc_msg.specs.Vocabulary.{Deed, Falls, IsByDisk, Rises, Writes, decide_in, deeds_as}
+use Rattle.qc_msg.specs.declared.payload.EpochStart.{EpochStart}
 use Rattle.qc_promise.specs.Vocabulary.{Act, AdminAccount, AreAdminDeedsDue, IsAdminDue, IsPostOf, Wrote, admin_account}
 use Rattle.qc_promise.specs.Vocabulary.{admin_account_at, admin_account_with, fallen_in, pending_next, posted_due}
 use Rattle.qc_promise.specs.Vocabulary.{rising_turn}
 use Rattle.qc_recover.specs.Vocabulary.{admin_by, admin_rises, epoch_by, rising}
 use Rattle.qc_recover.specs.Admins.{keeps, kept_by}
-use Rattle.qc_epoch.specs.Vocabulary.{Decided, new_admin}
+use Rattle.qc_epoch.specs.Vocabulary.{new_admin}
 use Rattle.laws_due.proofs.Standing.{Follows, no_act}
 use Rattle.laws_due.proofs.Fallings.{as_record}
 use Rattle.laws_due.proofs.AdminDecisions.{started}
@@ -30,28 +31,28 @@ use Rattle.laws_due.proofs.AdminRest.{IsAtRest, IsFallen, account_is, account_mo
 
 -- what rises is what the account begins anew with
 
-kept_last : (rs : List Record) (k : Option Decided) (o : Option Started) → o ≡ option_map started k
-    → fold (λ (last : Option Started) (r : Record). option_or (decide_in r) last) o rs ≡ option_map started
+kept_last : (rs : List Record) (k : Option EpochStart) (o : Option EpochStart) → o ≡ option_map started k
+    → fold (λ (last : Option EpochStart) (r : Record). option_or (decide_in r) last) o rs ≡ option_map started
     (fold keeps k rs)
 kept_last [] k o is = is
 kept_last (records.Life ∷ rs) k o is = kept_last rs k o is
 kept_last (records.Prepare p ∷ rs) k o is = kept_last rs k o is
 kept_last (records.Done tx clock ∷ rs) k o is = kept_last rs k o is
 kept_last (records.Close epoch ∷ rs) k o is = kept_last rs k o is
-kept_last (records.Install epoch clock lines ∷ rs) k o is = kept_last rs k o is
+kept_last (records.Install start ∷ rs) k o is = kept_last rs k o is
 kept_last (records.Commit commit ∷ rs) k o is = kept_last rs k o is
-kept_last (records.Decide epoch clock lines ∷ rs) k o is =
-    kept_last rs (Some (record { epoch = epoch; clock = clock; lines = lines }))
-    (Some (record { epoch = epoch; clock = clock; lines = lines })) refl
+kept_last (records.Decide start ∷ rs) k o is =
+    kept_last rs (Some start)
+    (Some start) refl
 
-epoch_started : (k : Option Decided) → epoch_by k ≡ epoch_of (option_map started k)
+epoch_started : (k : Option EpochStart) → epoch_by k ≡ epoch_of (option_map started k)
 epoch_started None = refl
 epoch_started (Some d) = refl
 
 risen_ties : (decl : Declaration) (n : ℕ) (kept : List Record)
     → Ties decl n (admin_account_with kept) (admin_rises kept).admin
 risen_ties decl n kept =
-    subst (λ (k : Option Decided). Ties decl n (admin_account_with kept) (admin_by k))
+    subst (λ (k : Option EpochStart). Ties decl n (admin_account_with kept) (admin_by k))
     (sym (fold-append keeps None kept (records.Life ∷ [])))
     (record {
       base = record {

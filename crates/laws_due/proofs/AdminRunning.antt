@@ -11,7 +11,8 @@ use Rattle.qc_msg.specs.declared.reply.Reply.TheVariants as replies
 use Rattle.qc_msg.specs.declared.step.Command.{Command}
 use Rattle.qc_msg.specs.declared.step.Input.{Input}
 use Rattle.qc_msg.specs.declared.step.Input.TheVariants as inputs
-use Rattle.qc_msg.specs.Vocabulary.{Answered, Deed, Falls, Installing as Started, Rises, Sends, Takes, Tells, Writes}
+use Rattle.qc_msg.specs.Vocabulary.{Answered, Deed, Falls, Rises, Sends, Takes, Tells, Writes}
+use Rattle.qc_msg.specs.declared.payload.EpochStart.{EpochStart}
 use Rattle.qc_msg.specs.Vocabulary.{answer_in, asking_in, closing_in, decide_in, epoch_in, installing_in}
 use Rattle.qc_stamp.specs.declared.stamp.TxId.{TxId}
 use Rattle.qc_promise.specs.Vocabulary.{AdminAccount, AdminWant, Ask, Close, Install, IsAdminFree, admin_account}
@@ -77,7 +78,7 @@ module _ (decl : Declaration) (d : AdminAccount) (up : d.up ≡ true) where
       ∙ ap (λ (b : Bool). cond b (doubt_row decl d false (first_doubt d)) None) (w.settled).answered
       ∙ ap (doubt_row decl d false) (w.settled).doubt
       ∙ ap (λ (b : Bool). cond b (decided_row decl d false) (Some replies.Fault)) (w.settled).fits
-      ∙ ap (λ (o : Option Started). cond (is_some o) (moved_row decl d (closed_sites d)) None) (w.settled).written
+      ∙ ap (λ (o : Option EpochStart). cond (is_some o) (moved_row decl d (closed_sites d)) None) (w.settled).written
       ∙ moved_none (closed_sites d) open_still
   installing_row closed open_still (stages.again w) =
       again_row_is decl d up w.epoch w.command w.same w.known false ∙ moved_none [] open_still
@@ -134,8 +135,8 @@ module _ (decl : Declaration) where
   pub written_command : (d : AdminAccount) (r : Record) → (admin_written d r).command ≡ d.command
   written_command d r = by (decide_in r)
     where
-      by : (o : Option Started)
-          → (option_map_or (λ (i : Started). record d { written = Some i }) o d).command ≡ d.command
+      by : (o : Option EpochStart)
+          → (option_map_or (λ (i : EpochStart). record d { written = Some i }) o d).command ≡ d.command
       by None = refl
       by (Some i) = refl
 
@@ -148,11 +149,11 @@ module _ (decl : Declaration) where
       → (admin_sent decl d number to message).command ≡ d.command
   sent_command d number to message = by (closing_in message) (asking_in message) (installing_in message)
     where
-      by : (c : Option ℕ) (a : Option TxId) (i : Option Started)
+      by : (c : Option ℕ) (a : Option TxId) (i : Option EpochStart)
           → (option_map_or (λ (k : ℕ). if_called_for (calls_close decl d to k) d number to Close)
           c
           (option_map_or (λ (tx : TxId). if_called_for (calls_ask decl d to tx) d number to (Ask tx)) a
-          (option_map_or (λ (x : Started). if_called_for (calls_install d to x) d number to Install) i d))).command ≡ d.command
+          (option_map_or (λ (x : EpochStart). if_called_for (calls_install d to x) d number to Install) i d))).command ≡ d.command
       by (Some k) a i = called_command (calls_close decl d to k) d number to Close
       by None (Some tx) i = called_command (calls_ask decl d to tx) d number to (Ask tx)
       by None None (Some x) = called_command (calls_install d to x) d number to Install

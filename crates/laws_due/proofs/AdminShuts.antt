@@ -10,7 +10,8 @@ use Rattle.std.proofs.lemmas.List.Folds.{find-append}
 use Rattle.qc_list.specs.Vocabulary.{In}
 use Rattle.qc_msg.specs.declared.message.Answer.{Answer}
 use Rattle.qc_msg.specs.declared.message.Answer.TheVariants as answers
-use Rattle.qc_msg.specs.Vocabulary.{Shutting, shut_in}
+use Rattle.qc_msg.specs.Vocabulary.{shut_in}
+use Rattle.qc_msg.specs.declared.payload.Snapshot.{Snapshot}
 use Rattle.qc_promise.specs.Vocabulary.{AdminRequest, ToldShut, answer_to, close_asked, told_shut}
 use Rattle.qc_epoch.specs.Vocabulary.{ShutSite, in_asked_order, shut_at, shut_list, with_shut_of}
 use Rattle.laws_due.specs.Vocabulary.{AreApart}
@@ -30,8 +31,8 @@ shut_by q = option_map to_shut (told_shut q)
 
 -- what an answer tells of its site
 
-abbrev told_by : ℕ → Option Shutting → Option ShutSite
-told_by site told = option_map (λ (s : Shutting). record
+abbrev told_by : ℕ → Option Snapshot → Option ShutSite
+told_by site told = option_map (λ (s : Snapshot). record
     { site = site; clock = s.clock; log = s.log; prepared = s.prepared }) told
 
 abbrev shut_from : ℕ → Option Answer → Option ShutSite
@@ -40,7 +41,7 @@ shut_from site answer = told_by site (option_and_then shut_in answer)
 pub with_shut_is : (shuts : List ShutSite) (site : ℕ) (answer : Option Answer)
     → with_shut_of shuts site answer ≡ shuts ++ shut_list (shut_from site answer)
 with_shut_is shuts site None = sym (append-nil shuts)
-with_shut_is shuts site (Some (answers.Granted life clock log)) = sym (append-nil shuts)
+with_shut_is shuts site (Some (answers.Granted grant)) = sym (append-nil shuts)
 with_shut_is shuts site (Some (answers.Clash holder inv event)) = sym (append-nil shuts)
 with_shut_is shuts site (Some (answers.Closed epoch)) = sym (append-nil shuts)
 with_shut_is shuts site (Some (answers.Behind epoch)) = sym (append-nil shuts)
@@ -48,14 +49,14 @@ with_shut_is shuts site (Some (answers.Restarted life)) = sym (append-nil shuts)
 with_shut_is shuts site (Some answers.Stale) = sym (append-nil shuts)
 with_shut_is shuts site (Some answers.Fault) = sym (append-nil shuts)
 with_shut_is shuts site (Some (answers.Yes clock)) = sym (append-nil shuts)
-with_shut_is shuts site (Some (answers.Shut clock log prepared)) = refl
+with_shut_is shuts site (Some (answers.Shut snapshot)) = refl
 with_shut_is shuts site (Some answers.Installed) = sym (append-nil shuts)
 with_shut_is shuts site (Some (answers.Answered verdict)) = sym (append-nil shuts)
 
 shut_took : (q : AdminRequest) (answer : Option Answer) → shut_by (took q answer) ≡ shut_from q.to answer
 shut_took q answer = by (option_and_then shut_in answer)
   where
-    by : (o : Option Shutting) → option_map to_shut (option_map (λ (s : Shutting). record { site = q.to; told = s }) o)
+    by : (o : Option Snapshot) → option_map to_shut (option_map (λ (s : Snapshot). record { site = q.to; told = s }) o)
         ≡ told_by q.to o
     by None = refl
     by (Some s) = refl
@@ -74,14 +75,14 @@ nothing_told q is = rw is refl
 
 -- who tells of itself tells its own site
 
-own_site : (site x : ℕ) (o : Option Shutting) → x ≢ site → shut_at (shut_list (told_by site o)) x ≡ None
+own_site : (site x : ℕ) (o : Option Snapshot) → x ≢ site → shut_at (shut_list (told_by site o)) x ≡ None
 own_site site x None apart = refl
 own_site site x (Some s) apart = rw (differ site x (λ same. apart (sym same))) refl
 
 by_is : (q : AdminRequest) → shut_by q ≡ told_by q.to (option_and_then shut_in (answer_to q))
 by_is q = by (option_and_then shut_in (answer_to q))
   where
-    by : (o : Option Shutting) → option_map to_shut (option_map (λ (s : Shutting). record { site = q.to; told = s }) o)
+    by : (o : Option Snapshot) → option_map to_shut (option_map (λ (s : Snapshot). record { site = q.to; told = s }) o)
         ≡ told_by q.to o
     by None = refl
     by (Some s) = refl
@@ -110,7 +111,7 @@ itself : (q : AdminRequest) → shut_at (shut_list (shut_by q)) q.to ≡ shut_by
 itself q = ap (λ (o : Option ShutSite). shut_at (shut_list o) q.to) (by_is q)
     ∙ by (option_and_then shut_in (answer_to q)) ∙ sym (by_is q)
   where
-    by : (o : Option Shutting) → shut_at (shut_list (told_by q.to o)) q.to ≡ told_by q.to o
+    by : (o : Option Snapshot) → shut_at (shut_list (told_by q.to o)) q.to ≡ told_by q.to o
     by None = refl
     by (Some s) = rw (eq-eqb q.to q.to refl) refl
 

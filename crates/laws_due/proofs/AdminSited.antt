@@ -6,7 +6,8 @@ use Rattle.std.specs.Prelude.{nat_le, slice_get}
 use Rattle.std.specs.List.{AllByRecursion as Every}
 use Rattle.qc_decl.specs.Vocabulary.{IsAccepted, client_actor, most_record_bytes, plan_in}
 use Rattle.qc_decl.specs.declared.declaration.Declaration.{Declaration}
-use Rattle.qc_epoch.specs.Vocabulary.{Admin, AdminMove, Asking, Closing, Decided, Doing, Installing, Question, Resting}
+use Rattle.qc_epoch.specs.Vocabulary.{Admin, AdminMove, Asking, Closing, Doing, Installing, Question, Resting}
+use Rattle.qc_msg.specs.declared.payload.EpochStart.{EpochStart}
 use Rattle.qc_epoch.specs.Vocabulary.{ShutSite, admin_takes, all_taken, decision, doing, first_doubt, in_asked_order}
 use Rattle.qc_epoch.specs.Vocabulary.{most_asks, new_admin, outcome_in, questions_of, requested, sent_one, standing_of}
 use Rattle.qc_epoch.specs.Vocabulary.{taken_for, with_installed, with_shut_of}
@@ -39,7 +40,7 @@ GoesWell decl to (messages.Decision tx verdict) = Unit {0}
 GoesWell decl to (messages.Inquiry tx) = Unit {0}
 GoesWell decl to (messages.Ask tx) = to ≡ client_actor decl tx.client
 GoesWell decl to (messages.Close epoch) = to < decl.sites
-GoesWell decl to (messages.Install epoch clock log) = to < decl.sites
+GoesWell decl to (messages.Install start) = to < decl.sites
 
 abbrev pub GoWell : Declaration → List Posting → Type 0
 GoWell decl ps = Every (λ (p : Posting). GoesWell decl p.to p.message) ps
@@ -77,7 +78,7 @@ module _ (decl : Declaration) (accepted : IsAccepted decl) where
   closes_go epoch [] are = tt
   closes_go epoch (s ∷ sites) are = (are.0, closes_go epoch sites are.1)
 
-  installs_go : (d : Decided) (sites : List ℕ) → AreSites decl sites → GoWell decl (map (conduct.install_of d) sites)
+  installs_go : (d : EpochStart) (sites : List ℕ) → AreSites decl sites → GoWell decl (map (conduct.install_of d) sites)
   installs_go d [] are = tt
   installs_go d (s ∷ sites) are = (are.0, installs_go d sites are.1)
 
@@ -85,11 +86,11 @@ module _ (decl : Declaration) (accepted : IsAccepted decl) where
   asks_go [] = tt
   asks_go (q ∷ qs) = (refl, asks_go qs)
 
-  all_go : (d : Decided) → GoWell decl (conduct.install_sends decl d)
+  all_go : (d : EpochStart) → GoWell decl (conduct.install_sends decl d)
   all_go d = installs_go d (conduct.all_sites decl) (sites_range decl 0 decl.sites (omega arith))
 
   module _ (m : Admin) where
-    decides_sited : (d : Decided) (closed : List ℕ) → Sited decl (conduct.decides decl m d closed)
+    decides_sited : (d : EpochStart) (closed : List ℕ) → Sited decl (conduct.decides decl m d closed)
     decides_sited d closed = by (nat_le (epoch_length d.lines) most_record_bytes)
       where
         by : (b : Bool) → Sited decl (cond b (epochs.moved
@@ -141,7 +142,7 @@ module _ (decl : Declaration) (accepted : IsAccepted decl) where
     called_sited commands.Abort state = stays_sited state
     called_sited (commands.Epoch number) state = by (number == m.epoch) (number == m.epoch + 1)
       where
-        again : (o : Option Decided) → Sited decl (conduct.again decl m o)
+        again : (o : Option EpochStart) → Sited decl (conduct.again decl m o)
         again None = record { state = tt; sends = tt }
         again (Some d) = record { state = tt; sends = all_go d }
 
@@ -190,7 +191,7 @@ module _ (decl : Declaration) (accepted : IsAccepted decl) where
     heard_sited (messages.Inquiry tx) state = stays_sited state
     heard_sited (messages.Ask tx) state = stays_sited state
     heard_sited (messages.Close epoch) state = stays_sited state
-    heard_sited (messages.Install epoch clock log) state = stays_sited state
+    heard_sited (messages.Install start) state = stays_sited state
 
     pub takes_sited : (g : Input) → IsSited decl m.doing → Sited decl (admin_takes decl m g)
     takes_sited (inputs.Called command) state = called_sited command state
@@ -211,4 +212,4 @@ module _ (decl : Declaration) (accepted : IsAccepted decl) where
     sent_sited n to (messages.Inquiry tx) state = state
     sent_sited n to (messages.Ask tx) state = requested_sited m.doing n to state
     sent_sited n to (messages.Close epoch) state = requested_sited m.doing n to state
-    sent_sited n to (messages.Install epoch clock log) state = requested_sited m.doing n to state
+    sent_sited n to (messages.Install start) state = requested_sited m.doing n to state

@@ -19,7 +19,8 @@ use Rattle.qc_msg.specs.declared.message.Outcome.{Outcome}
 use Rattle.qc_msg.specs.declared.reply.Reply.TheVariants as replies
 use Rattle.qc_msg.specs.declared.step.Command.{Command}
 use Rattle.qc_msg.specs.declared.step.Command.TheVariants as commands
-use Rattle.qc_msg.specs.Vocabulary.{Installing as Started, epoch_in, first_epoch}
+use Rattle.qc_msg.specs.Vocabulary.{epoch_in, first_epoch}
+use Rattle.qc_msg.specs.declared.payload.EpochStart.{EpochStart}
 use Rattle.qc_promise.specs.Vocabulary.{AdminAccount, AdminRequest, Promised, ToldShut, admin_due, admin_row}
 use Rattle.qc_promise.specs.Vocabulary.{all_answered, ask_of, asks, close_round, close_row, closed_sites, closes}
 use Rattle.qc_promise.specs.Vocabulary.{commanded, decide_due, decided_epoch, decided_met, decided_now, decision_due}
@@ -44,8 +45,8 @@ pub record Numbered (n : ℕ) (qs : List AdminRequest) : Type 0 where
 
 -- what was decided, whatever runs
 
-abbrev pub epoch_of : Option Started → ℕ
-epoch_of o = option_map_or (λ (i : Started). i.epoch) o first_epoch
+abbrev pub epoch_of : Option EpochStart → ℕ
+epoch_of o = option_map_or (λ (i : EpochStart). i.epoch) o first_epoch
 
 pub record Base (d : AdminAccount) (m : Admin) : Type 0 where
   pub up : d.up ≡ true
@@ -216,7 +217,7 @@ pub record IsDue (decl : Declaration) (d e : AdminAccount) : Type 0 where
   pub closed : closed_sites e ≡ closed_sites d
 
 -- a decision by what the sites told, what they have promised and how that ended
-abbrev made : ℕ → List ToldShut → List Promised → (TxId → Option Outcome) → Started
+abbrev made : ℕ → List ToldShut → List Promised → (TxId → Option Outcome) → EpochStart
 made epoch ts ps v =
     record {
       epoch = epoch + 1;
@@ -262,5 +263,5 @@ settled_same decl d e same written s =
       answered = is.answered ∙ s.answered;
       doubt = is.doubt ∙ s.doubt;
       fits = ap fits_record is.decision ∙ s.fits;
-      written = written ∙ s.written ∙ ap (λ (i : Started). Some i) (sym is.decision);
+      written = written ∙ s.written ∙ ap (λ (i : EpochStart). Some i) (sym is.decision);
     }

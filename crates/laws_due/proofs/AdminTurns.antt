@@ -9,7 +9,8 @@ use Rattle.qc_plan.specs.Vocabulary.{RoundState, note, verdict, wanted}
 use Rattle.qc_msg.specs.declared.call.Call.{Call}
 use Rattle.qc_msg.specs.declared.message.Answer.{Answer}
 use Rattle.qc_msg.specs.declared.reply.Reply.TheVariants as replies
-use Rattle.qc_msg.specs.Vocabulary.{Installing as Started, has_installed, quiet, site_called, without_call}
+use Rattle.qc_msg.specs.Vocabulary.{has_installed, quiet, site_called, without_call}
+use Rattle.qc_msg.specs.declared.payload.EpochStart.{EpochStart}
 use Rattle.qc_promise.specs.Vocabulary.{AdminAccount, AdminRequest, ToldShut, admin_counted, admin_due, asks}
 use Rattle.qc_promise.specs.Vocabulary.{close_round, close_row, closed_sites, closes, decide_due, decided_epoch}
 use Rattle.qc_promise.specs.Vocabulary.{decided_met, decided_of, decided_row, decision_due, doubt_row, first_doubt}
@@ -243,7 +244,7 @@ module _ (decl : Declaration) (some : (decl.sites == 0) ≡ false) (first : ℕ)
             ∙ ap (λ (b : Bool). cond b (doubt_row decl (admin_counted d number answer) false (first_doubt (admin_counted d number answer))) None) (w.settled).answered
             ∙ ap (doubt_row decl (admin_counted d number answer) false) (w.settled).doubt
             ∙ ap (λ (b : Bool). cond b (decided_row decl (admin_counted d number answer) false) (Some replies.Fault)) (w.settled).fits
-            ∙ ap (λ (o : Option Started). cond (is_some o) (moved_row decl (admin_counted d number answer) (closed_sites (admin_counted d number answer))) None) (w.settled).written
+            ∙ ap (λ (o : Option EpochStart). cond (is_some o) (moved_row decl (admin_counted d number answer) (closed_sites (admin_counted d number answer))) None) (w.settled).written
             ∙ moved_is (closed_sites (admin_counted d number answer)) taken
             ∙ ap (λ (v : List ℕ). Some (replies.Moved (site_set v) (site_set (installed_of (installs (admin_counted d number answer)))))) (sym w.closed_are)
         row_now taken (stages.again w) =

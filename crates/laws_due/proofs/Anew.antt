@@ -28,18 +28,18 @@ use Rattle.qc_promise.specs.Vocabulary.{short_of, taken_for, told_by}
 
 granted_client : (d : Account) (site life clock : ℕ) (log : List Line) (w : Want)
     → (granted d site life clock log w).client ≡ d.client
-granted_client d site life clock log (Read object inv) = refl
+granted_client d site life clock log (Read read) = refl
 granted_client d site life clock log (Append object view own) = refl
 granted_client d site life clock log Prepare = refl
 
 promised_client : (d : Account) (clock : ℕ) (w : Want) → (promised d clock w).client ≡ d.client
-promised_client d clock (Read object inv) = refl
+promised_client d clock (Read read) = refl
 promised_client d clock (Append object view own) = refl
 promised_client d clock Prepare = refl
 
 told_client : (d : Account) (q : ClientRequest) (answer : Option Answer) → (told_by d q answer).client ≡ d.client
 told_client d q None = refl
-told_client d q (Some (answers.Granted life clock log)) = granted_client d q.site life clock log q.want
+told_client d q (Some (answers.Granted grant)) = granted_client d q.site grant.life grant.clock grant.log q.want
 told_client d q (Some (answers.Clash holder inv event)) = refl
 told_client d q (Some (answers.Closed epoch)) = refl
 told_client d q (Some (answers.Behind epoch)) = refl
@@ -47,7 +47,7 @@ told_client d q (Some (answers.Restarted life)) = refl
 told_client d q (Some answers.Stale) = refl
 told_client d q (Some answers.Fault) = refl
 told_client d q (Some (answers.Yes clock)) = promised_client d clock q.want
-told_client d q (Some (answers.Shut clock log prepared)) = refl
+told_client d q (Some (answers.Shut snapshot)) = refl
 told_client d q (Some answers.Installed) = refl
 told_client d q (Some (answers.Answered verdict)) = refl
 
@@ -65,16 +65,16 @@ heard_client d (messages.Decision tx verdict) = refl
 heard_client d (messages.Inquiry tx) = refl
 heard_client d (messages.Ask tx) = refl
 heard_client d (messages.Close epoch) = refl
-heard_client d (messages.Install epoch clock log) = refl
+heard_client d (messages.Install start) = refl
 
 written_client : (d : Account) (w : Record) → (account_written d w).client ≡ d.client
 written_client d records.Life = refl
 written_client d (records.Prepare prepared) = refl
 written_client d (records.Done tx clock) = refl
 written_client d (records.Close epoch) = refl
-written_client d (records.Install epoch clock lines) = refl
+written_client d (records.Install start) = refl
 written_client d (records.Commit commit) = refl
-written_client d (records.Decide epoch clock lines) = refl
+written_client d (records.Decide start) = refl
 
 short_client : (d : Account) (half : Half) → (short_of d half).client ≡ d.client
 short_client d halves.Read = refl
@@ -105,7 +105,7 @@ module _ (decl : Declaration) where
   sent_client d n to (messages.Inquiry tx) = refl
   sent_client d n to (messages.Ask tx) = refl
   sent_client d n to (messages.Close epoch) = refl
-  sent_client d n to (messages.Install epoch clock log) = refl
+  sent_client d n to (messages.Install start) = refl
 
   responded_client : (d : Account) (o : Option Command) → (responded decl d o).client ≡ d.client
   responded_client d None = refl

@@ -42,7 +42,7 @@ message_fewer i (messages.Decision tx verdict) f = λ r member. member
 message_fewer i (messages.Inquiry tx) f = λ r member. member
 message_fewer i (messages.Ask tx) f = λ r member. member
 message_fewer i (messages.Close epoch) f = λ r member. member
-message_fewer i (messages.Install epoch clock log) f = λ r member. member
+message_fewer i (messages.Install start) f = λ r member. member
 
 module _ (script : Script) (a : ℕ) (i : Inbox) (e : Envelope) where
   comes_fewer : Fewer i (comes script.links a i e)
@@ -141,7 +141,7 @@ module _ (script : Script) (a : ℕ) (i : Inbox) (e : Envelope) where
       kept (messages.Inquiry tx) = ready
       kept (messages.Ask tx) = ready
       kept (messages.Close epoch) = ready
-      kept (messages.Install epoch clock log) = ready
+      kept (messages.Install start) = ready
 
 -- falls
 

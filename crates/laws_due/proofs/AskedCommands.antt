@@ -54,7 +54,7 @@ module _ (P : Command → Type 0) where
   asks_answers i (messages.Inquiry tx) f all = all
   asks_answers i (messages.Ask tx) f all = all
   asks_answers i (messages.Close epoch) f all = all
-  asks_answers i (messages.Install epoch clock log) f all = all
+  asks_answers i (messages.Install start) f all = all
 
   asks_goes : (i : Inbox) (e : Envelope) (f : _) → Asks i → Asks (goes_with i e f)
   asks_goes i e f all = asks_if (is_request e.message) _ _ (asks_if _ _ _ all all) all

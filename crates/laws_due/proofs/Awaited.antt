@@ -27,18 +27,18 @@ use Rattle.laws_due.specs.Vocabulary.{IsAnswerTo, IsAwaited, IsNotFor}
 
 granted_requests : (d : Account) (site life clock : ℕ) (log : List Line) (w : Want)
     → (granted d site life clock log w).requests ≡ d.requests
-granted_requests d site life clock log (Read object inv) = refl
+granted_requests d site life clock log (Read read) = refl
 granted_requests d site life clock log (Append object view own) = refl
 granted_requests d site life clock log Prepare = refl
 
 promised_requests : (d : Account) (clock : ℕ) (w : Want) → (promised d clock w).requests ≡ d.requests
-promised_requests d clock (Read object inv) = refl
+promised_requests d clock (Read read) = refl
 promised_requests d clock (Append object view own) = refl
 promised_requests d clock Prepare = refl
 
 told_requests : (d : Account) (p : ClientRequest) (answer : Option Answer) → (told_by d p answer).requests ≡ d.requests
 told_requests d p None = refl
-told_requests d p (Some (answers.Granted life clock log)) = granted_requests d p.site life clock log p.want
+told_requests d p (Some (answers.Granted grant)) = granted_requests d p.site grant.life grant.clock grant.log p.want
 told_requests d p (Some (answers.Clash holder inv event)) = refl
 told_requests d p (Some (answers.Closed epoch)) = refl
 told_requests d p (Some (answers.Behind epoch)) = refl
@@ -46,7 +46,7 @@ told_requests d p (Some (answers.Restarted life)) = refl
 told_requests d p (Some answers.Stale) = refl
 told_requests d p (Some answers.Fault) = refl
 told_requests d p (Some (answers.Yes clock)) = promised_requests d clock p.want
-told_requests d p (Some (answers.Shut clock log prepared)) = refl
+told_requests d p (Some (answers.Shut snapshot)) = refl
 told_requests d p (Some answers.Installed) = refl
 told_requests d p (Some (answers.Answered verdict)) = refl
 
@@ -104,16 +104,16 @@ heard_open d (messages.Decision tx verdict) q untaken among = (among, λ never. 
 heard_open d (messages.Inquiry tx) q untaken among = (among, λ never. never)
 heard_open d (messages.Ask tx) q untaken among = (among, λ never. never)
 heard_open d (messages.Close epoch) q untaken among = (among, λ never. never)
-heard_open d (messages.Install epoch clock log) q untaken among = (among, λ never. never)
+heard_open d (messages.Install start) q untaken among = (among, λ never. never)
 
 written_open : (d : Account) (w : Record) (q : ClientRequest) → In q (account_written d w).requests → In q d.requests
 written_open d records.Life q among = among
 written_open d (records.Prepare prepared) q among = among
 written_open d (records.Done tx clock) q among = among
 written_open d (records.Close epoch) q among = among
-written_open d (records.Install epoch clock lines) q among = among
+written_open d (records.Install start) q among = among
 written_open d (records.Commit commit) q among = among
-written_open d (records.Decide epoch clock lines) q among = among
+written_open d (records.Decide start) q among = among
 
 -- the deed that sent it
 pub record IsSending (x : Deed) (q : ClientRequest) : Type 0 where
@@ -147,7 +147,7 @@ module _ (decl : Declaration) where
   sent_open d n to (messages.Inquiry tx) q among = inl among
   sent_open d n to (messages.Ask tx) q among = inl among
   sent_open d n to (messages.Close epoch) q among = inl among
-  sent_open d n to (messages.Install epoch clock log) q among = inl among
+  sent_open d n to (messages.Install start) q among = inl among
 
   one_open : (d : Account) (x : Deed) (q : ClientRequest) → q.taken ≡ None → In q (account_at decl d x).requests
       → (In q d.requests × IsNotFor q.number x) ⊎ IsSending x q

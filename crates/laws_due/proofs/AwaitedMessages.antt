@@ -138,7 +138,7 @@ awaited_comes_with n i e f is = at e.message refl
     at (messages.Inquiry tx) same = awaited_copies n true i e f is
     at (messages.Ask tx) same = awaited_copies n true i e f is
     at (messages.Close epoch) same = awaited_copies n true i e f is
-    at (messages.Install epoch clock log) same = awaited_copies n true i e f is
+    at (messages.Install start) same = awaited_copies n true i e f is
 
 -- a message goes
 

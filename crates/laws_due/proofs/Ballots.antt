@@ -53,7 +53,7 @@ against_are t asked (q ∷ qs) all = by q.taken all.0.life (against_are t asked 
         (ballots.first_against (map (ballot_of (begun_of t asked)) qs)) ≡ option_or (against q o) (first_against qs)
     by None life e = e
     by (Some None) life e = refl
-    by (Some (Some (answers.Granted l clock log))) life e = refl
+    by (Some (Some (answers.Granted grant))) life e = refl
     by (Some (Some (answers.Clash holder inv event))) life e = refl
     by (Some (Some (answers.Closed epoch))) life e = refl
     by (Some (Some (answers.Behind epoch))) life e = refl
@@ -61,7 +61,7 @@ against_are t asked (q ∷ qs) all = by q.taken all.0.life (against_are t asked 
     by (Some (Some answers.Stale)) life e = refl
     by (Some (Some answers.Fault)) life e = refl
     by (Some (Some (answers.Yes clock))) life e = e
-    by (Some (Some (answers.Shut clock log prepared))) life e = refl
+    by (Some (Some (answers.Shut snapshot))) life e = refl
     by (Some (Some answers.Installed)) life e = refl
     by (Some (Some (answers.Answered verdict))) life e = refl
 

@@ -40,7 +40,7 @@ sent_planned decl front next to (messages.Decision tx v) is = tt
 sent_planned decl front next to (messages.Inquiry tx) is = tt
 sent_planned decl front next to (messages.Ask tx) is = tt
 sent_planned decl front next to (messages.Close epoch) is = absurd is
-sent_planned decl front next to (messages.Install epoch clock log) is = absurd is
+sent_planned decl front next to (messages.Install start) is = absurd is
 
 every_of : (P : Posting → Type 0) (ps : List Posting) → ((p : Posting) → In p ps → P p) → Every P ps
 every_of P [] each = tt
@@ -58,7 +58,7 @@ prepare_planned decl (messages.Decision tx verdict) is = tt
 prepare_planned decl (messages.Inquiry tx) is = tt
 prepare_planned decl (messages.Ask tx) is = tt
 prepare_planned decl (messages.Close epoch) is = absurd is
-prepare_planned decl (messages.Install epoch clock log) is = absurd is
+prepare_planned decl (messages.Install start) is = absurd is
 
 all_prepare : (decl : Declaration) (ps : List Posting) → Every (λ (p : Posting). IsPrepare p.message) ps
     → TellPlanned decl ps
@@ -125,7 +125,7 @@ heard_planned decl c from number (messages.Decision tx verdict) = tt
 heard_planned decl c from number (messages.Inquiry tx) = (tt, tt)
 heard_planned decl c from number (messages.Ask tx) = (tt, tt)
 heard_planned decl c from number (messages.Close epoch) = tt
-heard_planned decl c from number (messages.Install epoch clock log) = tt
+heard_planned decl c from number (messages.Install start) = tt
 
 pub client_takes_planned : (decl : Declaration) (c : Client) (g : Input)
     → TellPlanned decl (client_takes decl c g).turn.sends

@@ -57,7 +57,7 @@ module _ (decl : Declaration) (script : Script) (accepted : IsAccepted decl) (as
   to_site to (messages.Inquiry tx) is request = absurd (let never : ⊥ = cc in never)
   to_site to (messages.Ask tx) is request = absurd is
   to_site to (messages.Close epoch) is request = absurd is
-  to_site to (messages.Install epoch clock log) is request = absurd is
+  to_site to (messages.Install start) is request = absurd is
 
   to_sites : (ps : List Posting) → AreProper decl ps → AreToOthers a ps
   to_sites [] are = tt

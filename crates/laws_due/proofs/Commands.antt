@@ -30,18 +30,18 @@ use Rattle.qc_site.specs.Vocabulary.{site_after}
 
 granted_command : (d : Account) (site life clock : ℕ) (log : List Line) (w : Want)
     → (granted d site life clock log w).command ≡ d.command
-granted_command d site life clock log (Read object inv) = refl
+granted_command d site life clock log (Read read) = refl
 granted_command d site life clock log (Append object view own) = refl
 granted_command d site life clock log Prepare = refl
 
 promised_command : (d : Account) (clock : ℕ) (w : Want) → (promised d clock w).command ≡ d.command
-promised_command d clock (Read object inv) = refl
+promised_command d clock (Read read) = refl
 promised_command d clock (Append object view own) = refl
 promised_command d clock Prepare = refl
 
 told_command : (d : Account) (q : ClientRequest) (answer : Option Answer) → (told_by d q answer).command ≡ d.command
 told_command d q None = refl
-told_command d q (Some (answers.Granted life clock log)) = granted_command d q.site life clock log q.want
+told_command d q (Some (answers.Granted grant)) = granted_command d q.site grant.life grant.clock grant.log q.want
 told_command d q (Some (answers.Clash holder inv event)) = refl
 told_command d q (Some (answers.Closed epoch)) = refl
 told_command d q (Some (answers.Behind epoch)) = refl
@@ -49,7 +49,7 @@ told_command d q (Some (answers.Restarted life)) = refl
 told_command d q (Some answers.Stale) = refl
 told_command d q (Some answers.Fault) = refl
 told_command d q (Some (answers.Yes clock)) = promised_command d clock q.want
-told_command d q (Some (answers.Shut clock log prepared)) = refl
+told_command d q (Some (answers.Shut snapshot)) = refl
 told_command d q (Some answers.Installed) = refl
 told_command d q (Some (answers.Answered verdict)) = refl
 
@@ -67,16 +67,16 @@ heard_command d (messages.Decision tx verdict) = refl
 heard_command d (messages.Inquiry tx) = refl
 heard_command d (messages.Ask tx) = refl
 heard_command d (messages.Close epoch) = refl
-heard_command d (messages.Install epoch clock log) = refl
+heard_command d (messages.Install start) = refl
 
 written_command : (d : Account) (w : Record) → (account_written d w).command ≡ d.command
 written_command d records.Life = refl
 written_command d (records.Prepare prepared) = refl
 written_command d (records.Done tx clock) = refl
 written_command d (records.Close epoch) = refl
-written_command d (records.Install epoch clock lines) = refl
+written_command d (records.Install start) = refl
 written_command d (records.Commit commit) = refl
-written_command d (records.Decide epoch clock lines) = refl
+written_command d (records.Decide start) = refl
 
 sent_command : (decl : Declaration) (d : Account) (n to : ℕ) (m : Message)
     → (account_sent decl d n to m).command ≡ d.command
@@ -94,7 +94,7 @@ sent_command decl d n to (messages.Decision tx verdict) = refl
 sent_command decl d n to (messages.Inquiry tx) = refl
 sent_command decl d n to (messages.Ask tx) = refl
 sent_command decl d n to (messages.Close epoch) = refl
-sent_command decl d n to (messages.Install epoch clock log) = refl
+sent_command decl d n to (messages.Install start) = refl
 
 runs_step : (decl : Declaration) (d : Account) (deed : Deed)
     → runs_at (is_some d.command) deed ≡ is_some (account_at decl d deed).command

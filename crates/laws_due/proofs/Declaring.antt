@@ -36,7 +36,7 @@ module _ (decl : Declaration) (accepted : IsAccepted decl) where
   told_planned (messages.Inquiry tx) told = tt
   told_planned (messages.Ask tx) told = tt
   told_planned (messages.Close k) told = tt
-  told_planned (messages.Install k clock lines) told = tt
+  told_planned (messages.Install start) told = tt
 
   -- an object that has a kind has a table
   has_table : (object : ℕ) → is_some (kind_at decl object) ≡ true → is_some (table_at decl object) ≡ true

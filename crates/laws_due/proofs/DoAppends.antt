@@ -70,9 +70,10 @@ module _ (decl : Declaration) (number : ℕ) (d : Account) (desk : Desk) (t : Cu
   abbrev want : Want
   want = Append object (view_of t object) (own_appended decl t object event)
 
-  want_is : append_want decl x object event ≡ want
+  want_is : append_want decl x object event ≡ (λ site. want)
   want_is =
-      ap (λ (v : List Line). Append object v (own_appended decl t object event))
+      let want_by : List Line → ℕ → Want = λ v site. Append object v (own_appended decl t object event) in
+      ap want_by
       (view_same decl t asked views object inv event k.records k.logs chosen)
 
   pub row_is : (qs : List ClientRequest) → verdict (read_round qs) ≡ verdicts.Met
@@ -163,7 +164,7 @@ module _ (decl : Declaration) (number : ℕ) (d : Account) (desk : Desk) (t : Cu
       → verdict (read_round qs) ≡ verdicts.Met → verdict (round qs) ≡ verdicts.Waiting → Every (IsOpenIn is_append) qs
       → Goes decl number (run d t object inv qs)
       (by_front (record { front = f; desk = desk })
-      (fronts.goes_on (front_of d tr doing) x (Appending object inv event (calls_in qs)) want (round qs)))
+      (fronts.goes_on (front_of d tr doing) x (Appending object inv event (calls_in qs)) (λ site. want) (round qs)))
   waits qs f tr doing met still open_in =
       record { tells = sym (row_is qs met ∙ ap (append_row decl object event) still); due = a.due; ties = a.ties }
     where
@@ -256,7 +257,7 @@ module _ (decl : Declaration) (number : ℕ) (d : Account) (desk : Desk) (t : Cu
           (by_front (record { front = f; desk = desk })
           (fronts.append_by decl (front_of d tr doing) x object inv event (calls_in qs) (round qs) v))
       by verdicts.Waiting is =
-          subst (λ (w : Want). Goes decl number (run d t object inv qs)
+          subst (λ (w : ℕ → Want). Goes decl number (run d t object inv qs)
           (by_front (record { front = f; desk = desk })
           (fronts.goes_on (front_of d tr doing) x (Appending object inv event (calls_in qs)) w (round qs))))
           (sym want_is)

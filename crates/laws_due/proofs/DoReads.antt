@@ -27,6 +27,7 @@ use Rattle.qc_msg.specs.declared.reply.Half.TheVariants as halves
 use Rattle.qc_msg.specs.declared.reply.Reply.TheVariants as replies
 use Rattle.qc_msg.specs.declared.step.Command.TheVariants as commands
 use Rattle.qc_msg.specs.Vocabulary.{calls_from, sending, with_site}
+use Rattle.qc_msg.specs.Vocabulary.{read_of}
 use Rattle.qc_promise.specs.Vocabulary.{Account, ClientRequest, Current, answer_of, answer_row, command_asks, doomed_if}
 use Rattle.qc_promise.specs.Vocabulary.{is_append, is_next_voter, is_read, read_row, requests_for, with_absent}
 use Rattle.laws_due.specs.Vocabulary.{Goes, IsOpenIn, Ties, calls_in, front_of, reads, transaction_of}
@@ -51,7 +52,7 @@ module _ (decl : Declaration) (number : ℕ) (d : Account) (desk : Desk) (t : Cu
   round qs = round_at decl d t is_read (read_need_of decl t.epoch object inv) qs
 
   abbrev want : Want
-  want = Read object inv
+  want = Read (read_of object inv)
 
   pub reads_tie : (asked_now : List ℕ) (qs : List ClientRequest) → Every (IsRead object inv) qs
       → Ties decl (run d t object inv qs)
@@ -109,7 +110,7 @@ module _ (decl : Declaration) (number : ℕ) (d : Account) (desk : Desk) (t : Cu
       → verdict (round qs) ≡ verdicts.Waiting → Every (IsRead object inv) qs
       → Goes decl number (run d t object inv qs)
       (by_front (record { front = f; desk = desk })
-      (fronts.goes_on (front_of d tr doing) x (Reading object inv (calls_in qs)) want (round qs)))
+      (fronts.goes_on (front_of d tr doing) x (Reading object inv (calls_in qs)) (λ site. want) (round qs)))
   waits qs f tr doing still all =
       record {
         tells = sym (due_do decl d desk t views object inv qs k

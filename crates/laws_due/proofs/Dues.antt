@@ -33,9 +33,9 @@ module _ (decl : Declaration) where
   wrote d (records.Prepare prepared) w = w
   wrote d (records.Done tx clock) w = w
   wrote d (records.Close epoch) w = w
-  wrote d (records.Install epoch clock lines) w = w
+  wrote d (records.Install start) w = w
   wrote d (records.Commit commit) w = record { up = w.up; known = w.known; current = w.current; command = w.command }
-  wrote d (records.Decide epoch clock lines) w = w
+  wrote d (records.Decide start) w = w
 
   sent : (d : Account) (number to : ℕ) (m : Message) → IsWithin decl d
       → IsWithin decl (accounting.account_sent decl d number to m)
@@ -57,7 +57,7 @@ module _ (decl : Declaration) where
   sent d number to (messages.Inquiry tx) w = w
   sent d number to (messages.Ask tx) w = w
   sent d number to (messages.Close epoch) w = w
-  sent d number to (messages.Install epoch clock log) w = w
+  sent d number to (messages.Install start) w = w
 
   responded : (d : Account) (o : Option Command) → IsWithin decl d → IsWithin decl (accounting.responded decl d o)
   responded d None w = w

@@ -112,9 +112,9 @@ module _ (decl : Declaration) where
 
   granted : (d : Account) (site life clock : ℕ) (log : List Line) (want : Want) → IsWithin decl d
       → IsWithin decl (accounting.granted d site life clock log want)
-  granted d site life clock log (Read object inv) w =
+  granted d site life clock log (Read read) w =
       changed (record d { clock = max d.clock clock })
-      (λ (t : Current). accounting.with_read (accounting.lived t site life) object log) (λ t. refl)
+      (λ (t : Current). accounting.with_read (accounting.lived t site life) read.object log) (λ t. refl)
       (passed d (max d.clock clock) w)
   granted d site life clock log (Append object view own) w =
       changed (record d { clock = max d.clock clock }) (λ (t : Current). accounting.lived t site life) (λ t. refl)
@@ -123,7 +123,7 @@ module _ (decl : Declaration) where
 
   promised : (d : Account) (clock : ℕ) (want : Want) → IsWithin decl d
       → IsWithin decl (accounting.promised d clock want)
-  promised d clock (Read object inv) w = w
+  promised d clock (Read read) w = w
   promised d clock (Append object view own) w = w
   promised d clock Prepare w = passed d (max d.clock clock) w
 
@@ -131,7 +131,7 @@ module _ (decl : Declaration) where
       → IsDeclaredDeed decl
       (Takes (inputs.Got (record { number = 0; from = 0; to = 0; message = messages.Answer to a }))) → IsWithin decl d
       → IsWithin decl (accounting.told_by d q (Some a))
-  told_by d q (answers.Granted life clock log) to plan w = granted d q.site life clock log q.want w
+  told_by d q (answers.Granted grant) to plan w = granted d q.site grant.life grant.clock grant.log q.want w
   told_by d q (answers.Clash holder inv event) to plan w = w
   told_by d q (answers.Closed epoch) to plan w =
       record {
@@ -145,7 +145,7 @@ module _ (decl : Declaration) where
   told_by d q answers.Stale to plan w = w
   told_by d q answers.Fault to plan w = w
   told_by d q (answers.Yes clock) to plan w = promised d clock q.want w
-  told_by d q (answers.Shut clock log prepared) to plan w = w
+  told_by d q (answers.Shut snapshot) to plan w = w
   told_by d q answers.Installed to plan w = w
   told_by d q (answers.Answered verdict) to plan w = w
 
@@ -180,4 +180,4 @@ module _ (decl : Declaration) where
   heard d (messages.Inquiry tx) plan w = w
   heard d (messages.Ask tx) plan w = w
   heard d (messages.Close epoch) plan w = w
-  heard d (messages.Install epoch clock log) plan w = w
+  heard d (messages.Install start) plan w = w

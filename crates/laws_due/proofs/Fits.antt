@@ -67,7 +67,7 @@ turn_client decl move n turn = by turn.write
 -- a front end asks for no promise
 
 abbrev NoPromise : Want → Type 0
-NoPromise (Read object inv) = Unit {0}
+NoPromise (Read read) = Unit {0}
 NoPromise (Append object view own) = Unit {0}
 NoPromise Prepare = ⊥
 
@@ -78,7 +78,7 @@ IsFrontal (messages.Decision tx verdict) = Unit {0}
 IsFrontal (messages.Inquiry tx) = Unit {0}
 IsFrontal (messages.Ask tx) = Unit {0}
 IsFrontal (messages.Close epoch) = Unit {0}
-IsFrontal (messages.Install epoch clock log) = Unit {0}
+IsFrontal (messages.Install start) = Unit {0}
 
 one_frontal : (c : Client) (n to : ℕ) (m : Message) → IsFrontal m
     → sent_one c n to m ≡ record c { front = numbered_one c.front n to m }
@@ -86,7 +86,7 @@ one_frontal c n to (messages.Request tx epoch life want) is = by want is
   where
     by : (w : Want) → NoPromise w → sent_one c n to (messages.Request tx epoch life w)
         ≡ record c { front = numbered_one c.front n to (messages.Request tx epoch life w) }
-    by (Read object inv) ok = refl
+    by (Read read) ok = refl
     by (Append object view own) ok = refl
     by Prepare ok = absurd ok
 one_frontal c n to (messages.Answer number answer) is = refl
@@ -94,7 +94,7 @@ one_frontal c n to (messages.Decision tx verdict) is = refl
 one_frontal c n to (messages.Inquiry tx) is = refl
 one_frontal c n to (messages.Ask tx) is = refl
 one_frontal c n to (messages.Close epoch) is = refl
-one_frontal c n to (messages.Install epoch clock log) is = refl
+one_frontal c n to (messages.Install start) is = refl
 
 all_frontal : (decl : Declaration) (move : ClientMove) (n : ℕ) (ps : List Posting)
     → Every (λ (p : Posting). IsFrontal p.message) ps
@@ -104,10 +104,10 @@ all_frontal decl move n (p ∷ ps) all =
     all_frontal decl (record move { client = sent_one move.client n p.to p.message }) (n + 1) ps all.1
     ∙ ap (λ (c : Client). numbered_all c.front (n + 1) ps) (one_frontal move.client n p.to p.message all.0)
 
-requests_frontal : (b : Begun) (want : Want) → NoPromise want → (sites : List ℕ)
+requests_frontal : (b : Begun) (want : ℕ → Want) → ((site : ℕ) → NoPromise (want site)) → (sites : List ℕ)
     → Every (λ (p : Posting). IsFrontal p.message) (map (request_of b want) sites)
 requests_frontal b want ok [] = tt
-requests_frontal b want ok (s ∷ sites) = (ok, requests_frontal b want ok sites)
+requests_frontal b want ok (s ∷ sites) = (ok s, requests_frontal b want ok sites)
 
 no_request : (m : Message) → is_request m ≡ false → IsFrontal m
 no_request (messages.Request tx epoch life want) is = let never : ⊥ = cc in absurd never
@@ -116,14 +116,14 @@ no_request (messages.Decision tx verdict) is = tt
 no_request (messages.Inquiry tx) is = tt
 no_request (messages.Ask tx) is = tt
 no_request (messages.Close epoch) is = tt
-no_request (messages.Install epoch clock log) is = tt
+no_request (messages.Install start) is = tt
 
 nobody_frontal : (sends : List Posting) → AsksNobody sends → Every (λ (p : Posting). IsFrontal p.message) sends
 nobody_frontal sends none = every-from_In (λ (p : Posting). IsFrontal p.message) sends
     (λ p among. no_request p.message (none p among))
 
-asks_frontal : (b : Begun) (want : Want) (calls : List Call) (round : RoundState) (sends : List Posting)
-    → NoPromise want → AsksAll b want calls round sends → Every (λ (p : Posting). IsFrontal p.message) sends
+asks_frontal : (b : Begun) (want : ℕ → Want) (calls : List Call) (round : RoundState) (sends : List Posting)
+    → ((site : ℕ) → NoPromise (want site)) → AsksAll b want calls round sends → Every (λ (p : Posting). IsFrontal p.message) sends
 asks_frontal b want calls round sends ok (inl quiet) =
     subst (λ (ps : List Posting). Every (λ (p : Posting). IsFrontal p.message) ps) (sym quiet.0) tt
 asks_frontal b want calls round sends ok (inr asks) =
@@ -136,9 +136,9 @@ move_frontal decl t Idle sends asks = nobody_frontal sends asks
 move_frontal decl None (Reading object inv calls round) sends asks = nobody_frontal sends asks
 move_frontal decl None (Appending object inv event calls round) sends asks = nobody_frontal sends asks
 move_frontal decl (Some t) (Reading object inv calls round) sends asks =
-    asks_frontal t.begun (read_want object inv) calls round sends tt asks
+    asks_frontal t.begun (read_want object inv) calls round sends (λ site. tt) asks
 move_frontal decl (Some t) (Appending object inv event calls round) sends asks =
-    asks_frontal t.begun (append_want decl t object event) calls round sends tt asks
+    asks_frontal t.begun (append_want decl t object event) calls round sends (λ site. tt) asks
 
 -- what holds after a turn
 abbrev pub HoldsAfter : Declaration → ℕ → ClientMove → Type 0
@@ -162,7 +162,7 @@ front_holds decl n c move holds at_once = record {
 -- a desk asks for promises alone
 
 abbrev NoHalf : Want → Type 0
-NoHalf (Read object inv) = ⊥
+NoHalf (Read read) = ⊥
 NoHalf (Append object view own) = ⊥
 NoHalf Prepare = Unit {0}
 
@@ -173,13 +173,13 @@ IsDeskly (messages.Decision tx verdict) = Unit {0}
 IsDeskly (messages.Inquiry tx) = Unit {0}
 IsDeskly (messages.Ask tx) = Unit {0}
 IsDeskly (messages.Close epoch) = Unit {0}
-IsDeskly (messages.Install epoch clock log) = Unit {0}
+IsDeskly (messages.Install start) = Unit {0}
 
 one_deskly : (c : Client) (n to : ℕ) (m : Message) → IsDeskly m → (sent_one c n to m).front ≡ c.front
 one_deskly c n to (messages.Request tx epoch life want) is = by want is
   where
     by : (w : Want) → NoHalf w → (sent_one c n to (messages.Request tx epoch life w)).front ≡ c.front
-    by (Read object inv) ok = absurd ok
+    by (Read read) ok = absurd ok
     by (Append object view own) ok = absurd ok
     by Prepare ok = refl
 one_deskly c n to (messages.Answer number answer) is = refl
@@ -187,7 +187,7 @@ one_deskly c n to (messages.Decision tx verdict) is = refl
 one_deskly c n to (messages.Inquiry tx) is = refl
 one_deskly c n to (messages.Ask tx) is = refl
 one_deskly c n to (messages.Close epoch) is = refl
-one_deskly c n to (messages.Install epoch clock log) is = refl
+one_deskly c n to (messages.Install start) is = refl
 
 all_deskly : (decl : Declaration) (move : ClientMove) (n : ℕ) (ps : List Posting)
     → Every (λ (p : Posting). IsDeskly p.message) ps
@@ -200,7 +200,7 @@ deskly_prepare : (m : Message) → IsPrepare m → IsDeskly m
 deskly_prepare (messages.Request tx epoch life want) is = by want is
   where
     by : (w : Want) → IsPromiseWanted w → NoHalf w
-    by (Read object inv) ok = ok
+    by (Read read) ok = ok
     by (Append object view own) ok = ok
     by Prepare ok = tt
 deskly_prepare (messages.Answer number answer) is = tt
@@ -208,7 +208,7 @@ deskly_prepare (messages.Decision tx verdict) is = tt
 deskly_prepare (messages.Inquiry tx) is = tt
 deskly_prepare (messages.Ask tx) is = tt
 deskly_prepare (messages.Close epoch) is = tt
-deskly_prepare (messages.Install epoch clock log) is = tt
+deskly_prepare (messages.Install start) is = tt
 
 decisions_deskly : (b : Begun) (o : Outcome) (sites : List ℕ)
     → Every (λ (p : Posting). IsDeskly p.message)
@@ -290,7 +290,7 @@ heard_fits decl n c from number (messages.Decision tx verdict) h = h
 heard_fits decl n c from number (messages.Inquiry tx) h = record { front = h.front; numbered = h.numbered }
 heard_fits decl n c from number (messages.Ask tx) h = record { front = h.front; numbered = h.numbered }
 heard_fits decl n c from number (messages.Close epoch) h = h
-heard_fits decl n c from number (messages.Install epoch clock log) h = h
+heard_fits decl n c from number (messages.Install start) h = h
 
 pub takes_fit : (decl : Declaration) (n : ℕ) (c : Client) (g : Input) → Holds decl c
     → HoldsAfter decl n (client_takes decl c g)

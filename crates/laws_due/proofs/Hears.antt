@@ -24,6 +24,7 @@ use Rattle.qc_msg.specs.declared.message.Answer.TheVariants as answers
 use Rattle.qc_msg.specs.declared.message.Want.{Want}
 use Rattle.qc_msg.specs.declared.message.Want.TheVariants.{Read, Append, Prepare}
 use Rattle.qc_msg.specs.Vocabulary.{without_call}
+use Rattle.qc_msg.specs.Vocabulary.{grant_with}
 use Rattle.qc_promise.specs.Vocabulary.{Account, ClientRequest, Current, answer_of, append_row, counted, counted_for}
 use Rattle.qc_promise.specs.Vocabulary.{granted, is_append, is_open, is_read, lived, promised, standing_of, taken_for}
 use Rattle.qc_promise.specs.Vocabulary.{told_by}
@@ -37,7 +38,7 @@ use Rattle.laws_due.proofs.Turns.{desk_kept, still_goes}
 -- Appends
 
 other_half : (w : Want) → is_append w ≡ true → is_read w ≡ false
-other_half (Read object inv) is = let never : ⊥ = cc in absurd never
+other_half (Read read) is = let never : ⊥ = cc in absurd never
 other_half (Append object view own) is = refl
 other_half Prepare is = let never : ⊥ = cc in absurd never
 
@@ -148,13 +149,13 @@ module _ (decl : Declaration) (number : ℕ) (d : Account) (desk : Desk) (t : Cu
   agrants : (n life clock : ℕ) (log : List Line) (q : ClientRequest) → find (is_open n) qs ≡ Some q
       → Goes decl number
       (run (record d { clock = max d.clock clock }) (lived t q.site life) object inv
-      (taken_for n (Some (answers.Granted life clock log)) qs))
+      (taken_for n (Some (answers.Granted (grant_with life clock log))) qs))
       (by_front ahere
-      (append_counts decl (learns anow (Some (answers.Granted life clock log))) ax object inv event (calls_in qs)
-      around n q.site (Some (answers.Granted life clock log))))
+      (append_counts decl (learns anow (Some (answers.Granted (grant_with life clock log)))) ax object inv event (calls_in qs)
+      around n q.site (Some (answers.Granted (grant_with life clock log)))))
   agrants n life clock log q is =
       aon_with (record d { clock = max d.clock clock }) (lived t q.site life) kept chosen (λ hs. refl) (λ rs. refl) n
-      (Some (answers.Granted life clock log)) q is
+      (Some (answers.Granted (grant_with life clock log))) q is
     where
       kept : Runs decl (record d { clock = max d.clock clock }) desk (lived t q.site life) views
       kept =
@@ -172,12 +173,12 @@ module _ (decl : Declaration) (number : ℕ) (d : Account) (desk : Desk) (t : Cu
       → Goes decl number (told_by (run d t object inv (taken_for n answer qs)) q answer)
       (by_front ahere
       (append_counts decl (learns anow answer) ax object inv event (calls_in qs) around n q.site answer))
-  acounts_go n q is (Read o i) half want answer = absurd (let never : ⊥ = cc in never)
+  acounts_go n q is (Read read) half want answer = absurd (let never : ⊥ = cc in never)
   acounts_go n q is Prepare half want answer = absurd (let never : ⊥ = cc in never)
   acounts_go n q is (Append o v own) half want None = astays n None q is
-  acounts_go n q is (Append o v own) half want (Some (answers.Granted life clock log)) =
-      subst (λ (w : Want). Goes decl number (granted (run d t object inv (taken_for n (Some (answers.Granted life clock log)) qs)) q.site life clock log w)
-      (by_front ahere (append_counts decl (learns anow (Some (answers.Granted life clock log))) ax object inv event (calls_in qs) around n q.site (Some (answers.Granted life clock log))))) (sym want) (agrants n life clock log q is)
+  acounts_go n q is (Append o v own) half want (Some (answers.Granted grant)) =
+      subst (λ (w : Want). Goes decl number (granted (run d t object inv (taken_for n (Some (answers.Granted grant)) qs)) q.site grant.life grant.clock grant.log w)
+      (by_front ahere (append_counts decl (learns anow (Some (answers.Granted grant))) ax object inv event (calls_in qs) around n q.site (Some (answers.Granted grant))))) (sym want) (agrants n grant.life grant.clock grant.log q is)
   acounts_go n q is (Append o v own) half want (Some (answers.Clash holder i ev)) =
       astays n (Some (answers.Clash holder i ev)) q is
   acounts_go n q is (Append o v own) half want (Some (answers.Closed epoch)) = acloses n epoch q is
@@ -194,8 +195,8 @@ module _ (decl : Declaration) (number : ℕ) (d : Account) (desk : Desk) (t : Cu
       (append_counts decl (learns anow (Some (answers.Yes clock))) ax object inv event (calls_in qs) around n
       q.site (Some (answers.Yes clock)))))
       (sym want) (astays n (Some (answers.Yes clock)) q is)
-  acounts_go n q is (Append o v own) half want (Some (answers.Shut clock log prepared)) =
-      astays n (Some (answers.Shut clock log prepared)) q is
+  acounts_go n q is (Append o v own) half want (Some (answers.Shut snapshot)) =
+      astays n (Some (answers.Shut snapshot)) q is
   acounts_go n q is (Append o v own) half want (Some answers.Installed) = astays n (Some answers.Installed) q is
   acounts_go n q is (Append o v own) half want (Some (answers.Answered verdict)) =
       astays n (Some (answers.Answered verdict)) q is

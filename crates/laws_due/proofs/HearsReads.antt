@@ -23,6 +23,7 @@ use Rattle.qc_msg.specs.declared.message.Answer.TheVariants as answers
 use Rattle.qc_msg.specs.declared.message.Want.{Want}
 use Rattle.qc_msg.specs.declared.message.Want.TheVariants.{Read}
 use Rattle.qc_msg.specs.Vocabulary.{without_call}
+use Rattle.qc_msg.specs.Vocabulary.{grant_with, read_of}
 use Rattle.qc_promise.specs.Vocabulary.{Account, ClientRequest, Current, counted, counted_for, granted, is_open}
 use Rattle.qc_promise.specs.Vocabulary.{is_read, lived, promised, read_row, standing_of, taken_for, told_by, with_read}
 use Rattle.laws_due.specs.Vocabulary.{AreApart, Goes, IsBegun, IsOpenIn, calls_in, front_of, transaction_of}
@@ -106,17 +107,17 @@ module _ (decl : Declaration) (number : ℕ) (d : Account) (desk : Desk) (t : Cu
   grants : (n life clock : ℕ) (log : List Line) (q : ClientRequest) → find (is_open n) qs ≡ Some q
       → Goes decl number
       (run (record d { clock = max d.clock clock }) (with_read (lived t q.site life) object log) object inv
-      (taken_for n (Some (answers.Granted life clock log)) qs))
+      (taken_for n (Some (answers.Granted (grant_with life clock log))) qs))
       (by_front here
-      (fronts.reads decl (learns now (Some (answers.Granted life clock log)))
-      (read_with x q.site object (Some (answers.Granted life clock log))) object inv
-      (without_call (calls_in qs) n) (note round q.site (standing_of (Some (answers.Granted life clock log))))))
+      (fronts.reads decl (learns now (Some (answers.Granted (grant_with life clock log))))
+      (read_with x q.site object (Some (answers.Granted (grant_with life clock log)))) object inv
+      (without_call (calls_in qs) n) (note round q.site (standing_of (Some (answers.Granted (grant_with life clock log)))))))
   grants n life clock log q is =
-      subst (λ (y : Transaction). Goes decl number (run e u object inv (taken_for n (Some (answers.Granted life clock log)) qs))
+      subst (λ (y : Transaction). Goes decl number (run e u object inv (taken_for n (Some (answers.Granted (grant_with life clock log))) qs))
       (by_front here
-      (fronts.reads decl (learns now (Some (answers.Granted life clock log))) y object inv
-      (without_call (calls_in qs) n) (note round q.site (standing_of (Some (answers.Granted life clock log)))))))
-      (sym b.is) (on_with e u y.begun.asked y.views kept (λ rs. refl) n (Some (answers.Granted life clock log)) q is)
+      (fronts.reads decl (learns now (Some (answers.Granted (grant_with life clock log)))) y object inv
+      (without_call (calls_in qs) n) (note round q.site (standing_of (Some (answers.Granted (grant_with life clock log))))))))
+      (sym b.is) (on_with e u y.begun.asked y.views kept (λ rs. refl) n (Some (answers.Granted (grant_with life clock log))) q is)
     where
       e : Account
       e = record d { clock = max d.clock clock }
@@ -138,19 +139,19 @@ module _ (decl : Declaration) (number : ℕ) (d : Account) (desk : Desk) (t : Cu
         room = k.room;
         records =
             subst (λ (z : Transaction). RecordsHold decl z.views z.own z.begun.ops) b.is
-            (read_recorded decl x q.site object (Some (answers.Granted life clock log)) k.records);
+            (read_recorded decl x q.site object (Some (answers.Granted (grant_with life clock log))) k.records);
         logs = b.logs;
         desk_is = desk_kept d (record d { clock = max d.clock clock }) desk k.desk_is refl (omega arith) (omega arith);
       }
 
-  counts_go : (n : ℕ) (q : ClientRequest) → find (is_open n) qs ≡ Some q → q.want ≡ Read object inv
+  counts_go : (n : ℕ) (q : ClientRequest) → find (is_open n) qs ≡ Some q → q.want ≡ Read (read_of object inv)
       → (answer : Option Answer)
       → Goes decl number (told_by (run d t object inv (taken_for n answer qs)) q answer)
       (by_front here (read_counts decl (learns now answer) x object inv (calls_in qs) round n q.site answer))
   counts_go n q is want None = stays n None q is
-  counts_go n q is want (Some (answers.Granted life clock log)) =
-      subst (λ (w : Want). Goes decl number (granted (run d t object inv (taken_for n (Some (answers.Granted life clock log)) qs)) q.site life clock log w)
-      (by_front here (read_counts decl (learns now (Some (answers.Granted life clock log))) x object inv (calls_in qs) round n q.site (Some (answers.Granted life clock log))))) (sym want) (grants n life clock log q is)
+  counts_go n q is want (Some (answers.Granted grant)) =
+      subst (λ (w : Want). Goes decl number (granted (run d t object inv (taken_for n (Some (answers.Granted grant)) qs)) q.site grant.life grant.clock grant.log w)
+      (by_front here (read_counts decl (learns now (Some (answers.Granted grant))) x object inv (calls_in qs) round n q.site (Some (answers.Granted grant))))) (sym want) (grants n grant.life grant.clock grant.log q is)
   counts_go n q is want (Some (answers.Clash holder i event)) = stays n (Some (answers.Clash holder i event)) q is
   counts_go n q is want (Some (answers.Closed epoch)) = closes n epoch q is
   counts_go n q is want (Some (answers.Behind epoch)) = stays n (Some (answers.Behind epoch)) q is
@@ -164,7 +165,7 @@ module _ (decl : Declaration) (number : ℕ) (d : Account) (desk : Desk) (t : Cu
       (read_counts decl (learns now (Some (answers.Yes clock))) x object inv (calls_in qs) round n q.site
       (Some (answers.Yes clock)))))
       (sym want) (stays n (Some (answers.Yes clock)) q is)
-  counts_go n q is want (Some (answers.Shut clock log prepared)) = stays n (Some (answers.Shut clock log prepared)) q is
+  counts_go n q is want (Some (answers.Shut snapshot)) = stays n (Some (answers.Shut snapshot)) q is
   counts_go n q is want (Some answers.Installed) = stays n (Some answers.Installed) q is
   counts_go n q is want (Some (answers.Answered verdict)) = stays n (Some (answers.Answered verdict)) q is
 

@@ -41,9 +41,9 @@ NoCommit records.Life = Unit {0}
 NoCommit (records.Prepare prepared) = Unit {0}
 NoCommit (records.Done tx clock) = Unit {0}
 NoCommit (records.Close epoch) = Unit {0}
-NoCommit (records.Install epoch clock lines) = Unit {0}
+NoCommit (records.Install start) = Unit {0}
 NoCommit (records.Commit commit) = ⊥
-NoCommit (records.Decide epoch clock lines) = Unit {0}
+NoCommit (records.Decide start) = Unit {0}
 
 abbrev pub NoCommitIn : Option Record → Type 0
 NoCommitIn None = Unit {0}
@@ -78,8 +78,8 @@ prepares_mute s from number tx = by (not (is_held s.held tx)) (is_prepared s.pre
 
 grants_mute : (decl : Declaration) (s : SiteState) (from number : ℕ) (tx : TxId) (want : Want)
     → IsMute (grants decl s from number tx want).turn
-grants_mute decl s from number tx (Read object inv) =
-    reads_mute decl s from number tx object inv (read_clash (relation_at decl object) s.held tx object inv)
+grants_mute decl s from number tx (Read read) =
+    reads_mute decl s from number tx read.object read.inv (read_clash (relation_at decl read.object) s.held tx read.object read.inv)
 grants_mute decl s from number tx (Append object view own) = by (append_clash (relation_at decl object) s.held tx own)
   where
     by : (o : Option Conflict) → IsMute (appends_by decl s from number tx view own o).turn
@@ -119,8 +119,8 @@ site_mute decl s from number (messages.Ask tx) = mute_quiet
 site_mute decl s from number (messages.Close k) =
     close_cases (λ (m : SiteMove). IsMute m.turn) s from number k (λ answer. record { told = refl; write = tt })
     (λ near later. record { told = refl; write = tt })
-site_mute decl s from number (messages.Install k clock lines) =
-    install_cases (λ (m : SiteMove). IsMute m.turn) s from number k clock lines
+site_mute decl s from number (messages.Install start) =
+    install_cases (λ (m : SiteMove). IsMute m.turn) s from number start.epoch start.clock start.lines
     (λ answer. record { told = refl; write = tt }) (λ later fits. record { told = refl; write = tt })
 
 takes_mute : (decl : Declaration) (s : SiteState) (g : Input) → IsMute (site_takes decl s g).turn

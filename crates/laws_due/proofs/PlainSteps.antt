@@ -120,7 +120,7 @@ answers_left i (messages.Decision tx verdict) f = same_left i i refl refl
 answers_left i (messages.Inquiry tx) f = same_left i i refl refl
 answers_left i (messages.Ask tx) f = same_left i i refl refl
 answers_left i (messages.Close epoch) f = same_left i i refl refl
-answers_left i (messages.Install epoch clock log) f = same_left i i refl refl
+answers_left i (messages.Install start) f = same_left i i refl refl
 
 goes_left : (i : Inbox) (e : Envelope) (f : Fate) → Leaves i (goes_with i e f)
 goes_left i e f =

@@ -18,18 +18,18 @@ one_life k records.Life = refl
 one_life k (records.Prepare p) = refl
 one_life k (records.Done tx clock) = refl
 one_life k (records.Close epoch) = refl
-one_life k (records.Install epoch clock lines) = refl
+one_life k (records.Install start) = refl
 one_life k (records.Commit commit) = refl
-one_life k (records.Decide epoch clock lines) = refl
+one_life k (records.Decide start) = refl
 
 one_clock : (k : Kept) (r : Record) → (keeps k r).clock ≡ clock_with k.clock r
 one_clock k records.Life = refl
 one_clock k (records.Prepare p) = refl
 one_clock k (records.Done tx clock) = refl
 one_clock k (records.Close epoch) = refl
-one_clock k (records.Install epoch clock lines) = refl
+one_clock k (records.Install start) = refl
 one_clock k (records.Commit commit) = refl
-one_clock k (records.Decide epoch clock lines) = refl
+one_clock k (records.Decide start) = refl
 
 all_lives : (rs : List Record) (k : Kept) → (fold keeps k rs).life ≡ fold life_with k.life rs
 all_lives [] k = refl

@@ -23,9 +23,9 @@ one_kept decl k records.Life is w = record { epoch = w.epoch; closed = w.closed 
 one_kept decl k (records.Prepare p) is w = record { epoch = w.epoch; closed = w.closed }
 one_kept decl k (records.Done tx clock) is w = record { epoch = w.epoch; closed = w.closed }
 one_kept decl k (records.Close epoch) is w = record { epoch = w.epoch; closed = is }
-one_kept decl k (records.Install epoch clock lines) is w = record { epoch = is; closed = tt }
+one_kept decl k (records.Install start) is w = record { epoch = is; closed = tt }
 one_kept decl k (records.Commit commit) is w = w
-one_kept decl k (records.Decide epoch clock lines) is w = w
+one_kept decl k (records.Decide start) is w = w
 
 all_kept : (decl : Declaration) (rs : List Record) (k : Kept) → Every (IsRecordPlanned decl) rs → KeptPlanned decl k
     → KeptPlanned decl (fold keeps k rs)

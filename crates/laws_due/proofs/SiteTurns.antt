@@ -60,7 +60,7 @@ declared_request decl e (messages.Decision tx verdict) is request p = absurd (le
 declared_request decl e (messages.Inquiry tx) is request p = absurd (let never : ⊥ = cc in never)
 declared_request decl e (messages.Ask tx) is request p = absurd p
 declared_request decl e (messages.Close epoch) is request p = absurd p
-declared_request decl e (messages.Install epoch clock log) is request p = absurd p
+declared_request decl e (messages.Install start) is request p = absurd p
 
 -- what an actor is while it is up, by its deeds
 

@@ -27,18 +27,18 @@ use Rattle.qc_promise.specs.Vocabulary.{is_asked_for, is_open, promised, respond
 
 granted_up : (d : Account) (site life clock : ℕ) (log : List Line) (w : Want)
     → (granted d site life clock log w).up ≡ d.up
-granted_up d site life clock log (Read object inv) = refl
+granted_up d site life clock log (Read read) = refl
 granted_up d site life clock log (Append object view own) = refl
 granted_up d site life clock log Prepare = refl
 
 promised_up : (d : Account) (clock : ℕ) (w : Want) → (promised d clock w).up ≡ d.up
-promised_up d clock (Read object inv) = refl
+promised_up d clock (Read read) = refl
 promised_up d clock (Append object view own) = refl
 promised_up d clock Prepare = refl
 
 told_up : (d : Account) (q : ClientRequest) (answer : Option Answer) → (told_by d q answer).up ≡ d.up
 told_up d q None = refl
-told_up d q (Some (answers.Granted life clock log)) = granted_up d q.site life clock log q.want
+told_up d q (Some (answers.Granted grant)) = granted_up d q.site grant.life grant.clock grant.log q.want
 told_up d q (Some (answers.Clash holder inv event)) = refl
 told_up d q (Some (answers.Closed epoch)) = refl
 told_up d q (Some (answers.Behind epoch)) = refl
@@ -46,7 +46,7 @@ told_up d q (Some (answers.Restarted life)) = refl
 told_up d q (Some answers.Stale) = refl
 told_up d q (Some answers.Fault) = refl
 told_up d q (Some (answers.Yes clock)) = promised_up d clock q.want
-told_up d q (Some (answers.Shut clock log prepared)) = refl
+told_up d q (Some (answers.Shut snapshot)) = refl
 told_up d q (Some answers.Installed) = refl
 told_up d q (Some (answers.Answered verdict)) = refl
 
@@ -64,16 +64,16 @@ heard_up d (messages.Decision tx verdict) = refl
 heard_up d (messages.Inquiry tx) = refl
 heard_up d (messages.Ask tx) = refl
 heard_up d (messages.Close epoch) = refl
-heard_up d (messages.Install epoch clock log) = refl
+heard_up d (messages.Install start) = refl
 
 written_up : (d : Account) (w : Record) → (account_written d w).up ≡ d.up
 written_up d records.Life = refl
 written_up d (records.Prepare prepared) = refl
 written_up d (records.Done tx clock) = refl
 written_up d (records.Close epoch) = refl
-written_up d (records.Install epoch clock lines) = refl
+written_up d (records.Install start) = refl
 written_up d (records.Commit commit) = refl
-written_up d (records.Decide epoch clock lines) = refl
+written_up d (records.Decide start) = refl
 
 short_up : (d : Account) (half : Half) → (short_of d half).up ≡ d.up
 short_up d halves.Read = refl
@@ -104,7 +104,7 @@ module _ (decl : Declaration) where
   sent_up d n to (messages.Inquiry tx) = refl
   sent_up d n to (messages.Ask tx) = refl
   sent_up d n to (messages.Close epoch) = refl
-  sent_up d n to (messages.Install epoch clock log) = refl
+  sent_up d n to (messages.Install start) = refl
 
   responded_up : (d : Account) (o : Option Command) → (responded decl d o).up ≡ d.up
   responded_up d None = refl

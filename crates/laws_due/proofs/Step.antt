@@ -269,7 +269,7 @@ module _ (decl : Declaration) (number : ℕ) (d : Account) (c : Client) (h : Hol
   heard_go from n (messages.Ask tx) ties =
       record { tells = sym (tied_none decl d c h ties); due = (tt, tt); ties = ties }
   heard_go from n (messages.Close epoch) ties = still_goes decl number d c (tied_none decl d c h ties) ties
-  heard_go from n (messages.Install epoch clock log) ties = still_goes decl number d c (tied_none decl d c h ties) ties
+  heard_go from n (messages.Install start) ties = still_goes decl number d c (tied_none decl d c h ties) ties
 
   pub inputs_are_answered_as_is_due : (g : Input) → IsFreeFor d g → Ties decl d c
       → Goes decl number (account_taken d g) (client_takes decl c g)

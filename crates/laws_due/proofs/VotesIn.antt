@@ -136,12 +136,12 @@ module _ (decl : Declaration) (number : ℕ) (d : Account) (t : Current) (asked 
       (by_desk here (desks.counts (desks.learns desk answer) b (without_call (calls_in qs) n)
       (cast (map (ballot_of b) qs) q.site (vote_of b q.site answer))))
   counts_go n q is want None = stays n None q is
-  counts_go n q is want (Some (answers.Granted life told log)) =
+  counts_go n q is want (Some (answers.Granted grant)) =
       subst (λ (w : Want). Goes decl number (granted
-      (commit_at d t (taken_for n (Some (answers.Granted life told log)) qs)) q.site life told log w)
+      (commit_at d t (taken_for n (Some (answers.Granted grant)) qs)) q.site grant.life grant.clock grant.log w)
       (by_desk here (desks.counts desk b (without_call (calls_in qs) n)
-      (cast (map (ballot_of b) qs) q.site (vote_of b q.site (Some (answers.Granted life told log))))))) (sym want)
-      (stays n (Some (answers.Granted life told log)) q is)
+      (cast (map (ballot_of b) qs) q.site (vote_of b q.site (Some (answers.Granted grant))))))) (sym want)
+      (stays n (Some (answers.Granted grant)) q is)
   counts_go n q is want (Some (answers.Clash holder inv event)) = stays n (Some (answers.Clash holder inv event)) q is
   counts_go n q is want (Some (answers.Closed told)) =
       on_with (record d { known = max d.known told }) (max desk_epoch told) low
@@ -156,7 +156,7 @@ module _ (decl : Declaration) (number : ℕ) (d : Account) (t : Current) (asked 
       (cast (map (ballot_of b) qs) q.site (vote_of b q.site (Some (answers.Yes told))))))) (sym want)
       (on_with (record d { clock = max d.clock told }) desk_epoch
       (let less : clock ≤ d.clock = low in omega arith) known n (Some (answers.Yes told)) q is refl)
-  counts_go n q is want (Some (answers.Shut told log prepared)) = stays n (Some (answers.Shut told log prepared)) q is
+  counts_go n q is want (Some (answers.Shut snapshot)) = stays n (Some (answers.Shut snapshot)) q is
   counts_go n q is want (Some answers.Installed) = stays n (Some answers.Installed) q is
   counts_go n q is want (Some (answers.Answered verdict)) = stays n (Some (answers.Answered verdict)) q is
 

@@ -215,7 +215,7 @@ heard_turn decl c from number (messages.Decision tx verdict) = inl refl
 heard_turn decl c from number (messages.Inquiry tx) = inl refl
 heard_turn decl c from number (messages.Ask tx) = inl refl
 heard_turn decl c from number (messages.Close epoch) = inl refl
-heard_turn decl c from number (messages.Install epoch clock log) = inl refl
+heard_turn decl c from number (messages.Install start) = inl refl
 
 pub takes_turn : (decl : Declaration) (c : Client) (g : Input) → IsClientTurn (client_takes decl c g).turn
 takes_turn decl c (inputs.Called command) = called_turn decl c command

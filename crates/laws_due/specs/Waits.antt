@@ -13,6 +13,7 @@ use Rattle.qc_msg.specs.declared.message.Want.{Want}
 use Rattle.qc_msg.specs.declared.step.Input.{Input}
 use Rattle.qc_msg.specs.declared.step.Input.TheVariants as inputs
 use Rattle.qc_msg.specs.Vocabulary.{Deed, Falls, Rises, Sends, Takes, Tells, Writes, Answered, answer_in}
+use Rattle.qc_msg.specs.Vocabulary.{grant_with}
 use Rattle.qc_plan.specs.Vocabulary.{has_granted, weight}
 use Rattle.qc_promise.specs.Vocabulary.{Account, ClientRequest, Current, is_read, round_of, weights_of}
 use Rattle.laws_due.specs.Ties.{IsDo}
@@ -28,7 +29,7 @@ pub record IsGranted (q : ClientRequest) : Type 0 where
   pub life : ℕ
   pub clock : ℕ
   pub log : List Line
-  pub is : q.taken ≡ Some (Some (Granted life clock log))
+  pub is : q.taken ≡ Some (Some (Granted (grant_with life clock log)))
 
 -- the sites that granted a half weigh what it needs
 abbrev pub IsEnough : Declaration → Account → Current → (Want → Bool) → ℕ → Type 0

@@ -19,6 +19,7 @@ use Rattle.qc_msg.specs.declared.reply.Reply.{Reply}
 use Rattle.qc_msg.specs.declared.reply.Reply.TheVariants as replies
 use Rattle.qc_msg.specs.declared.step.Command.{Command}
 use Rattle.qc_msg.specs.Vocabulary.{Invocation, commit_of, do_in, is_life}
+use Rattle.qc_msg.specs.Vocabulary.{grant_with}
 use Rattle.qc_promise.specs.Vocabulary.{Account, ClientRequest, Current, account_heard, account_sent, account_told_in}
 use Rattle.qc_promise.specs.Vocabulary.{account_written, answer_of, counted, found_absent, granted, is_asked_for}
 use Rattle.qc_promise.specs.Vocabulary.{new_current, promised, refused, responded, short_of, told_by, with_absent}
@@ -29,12 +30,12 @@ use Rattle.qc_promise.specs.Vocabulary.{with_current, with_response}
 pub told_cases : (d : Account) (q : ClientRequest) (P : Option Answer → Account → Type 0)
     → ((answer : Option Answer) → P answer d)
     → ((life clock : ℕ) (log : List Line)
-    → P (Some (answers.Granted life clock log)) (granted d q.site life clock log q.want))
+    → P (Some (answers.Granted (grant_with life clock log))) (granted d q.site life clock log q.want))
     → ((epoch : ℕ) → P (Some (answers.Closed epoch)) (record d { known = max d.known epoch }))
     → ((clock : ℕ) → P (Some (answers.Yes clock)) (promised d clock q.want)) → (answer : Option Answer)
     → P answer (told_by d q answer)
 told_cases d q P same grant close promise None = same None
-told_cases d q P same grant close promise (Some (answers.Granted life clock log)) = grant life clock log
+told_cases d q P same grant close promise (Some (answers.Granted grant_here)) = grant grant_here.life grant_here.clock grant_here.log
 told_cases d q P same grant close promise (Some (answers.Clash holder inv event)) = same _
 told_cases d q P same grant close promise (Some (answers.Closed epoch)) = close epoch
 told_cases d q P same grant close promise (Some (answers.Behind epoch)) = same _
@@ -42,7 +43,7 @@ told_cases d q P same grant close promise (Some (answers.Restarted life)) = same
 told_cases d q P same grant close promise (Some answers.Stale) = same _
 told_cases d q P same grant close promise (Some answers.Fault) = same _
 told_cases d q P same grant close promise (Some (answers.Yes clock)) = promise clock
-told_cases d q P same grant close promise (Some (answers.Shut clock log prepared)) = same _
+told_cases d q P same grant close promise (Some (answers.Shut snapshot)) = same _
 told_cases d q P same grant close promise (Some answers.Installed) = same _
 told_cases d q P same grant close promise (Some (answers.Answered verdict)) = same _
 
@@ -57,7 +58,7 @@ heard_cases d P same answered (messages.Decision tx verdict) = same _
 heard_cases d P same answered (messages.Inquiry tx) = same _
 heard_cases d P same answered (messages.Ask tx) = same _
 heard_cases d P same answered (messages.Close epoch) = same _
-heard_cases d P same answered (messages.Install epoch clock log) = same _
+heard_cases d P same answered (messages.Install start) = same _
 
 -- a record, and a message that is sent
 
@@ -92,7 +93,7 @@ sent_cases decl d n to P same asked (messages.Decision tx verdict) = same _
 sent_cases decl d n to P same asked (messages.Inquiry tx) = same _
 sent_cases decl d n to P same asked (messages.Ask tx) = same _
 sent_cases decl d n to P same asked (messages.Close epoch) = same _
-sent_cases decl d n to P same asked (messages.Install epoch clock log) = same _
+sent_cases decl d n to P same asked (messages.Install start) = same _
 
 -- what a reply records of the running command
 

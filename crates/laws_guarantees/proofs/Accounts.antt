@@ -19,6 +19,7 @@ use Rattle.qc_msg.specs.declared.message.Want.TheVariants.{Read, Append, Prepare
 use Rattle.qc_msg.specs.declared.step.Command.{Command}
 use Rattle.qc_msg.specs.declared.step.Input.TheVariants as inputs
 use Rattle.qc_msg.specs.Vocabulary.{Deed, Sends, Takes, has_granted, with_life}
+use Rattle.qc_msg.specs.Vocabulary.{grant_with}
 use Rattle.qc_promise.specs.Vocabulary.{Account, ClientRequest, Current, granted, is_open, lived, promised, taken_for}
 use Rattle.qc_promise.specs.Vocabulary.{told_by, with_read}
 use Rattle.laws_guarantees.proofs.AccountCases.{told_cases}
@@ -44,7 +45,7 @@ pub record WasGranted (ds : List Deed) (tx : TxId) (site : ℕ) : Type 0 where
   pub life : ℕ
   pub clock : ℕ
   pub log : List Line
-  pub taken : WasTaken ds number (answers.Granted life clock log)
+  pub taken : WasTaken ds number (answers.Granted (grant_with life clock log))
 
 pub record HasGrounds (ds : List Deed) (d : Account) : Type 0 where
   pub sent : (q : ClientRequest) → In q d.requests → (t : Current) × (d.current ≡ Some t) × WasSent ds q t.tx
@@ -79,7 +80,7 @@ granted_more ds x tx site g = record {
   life = g.life;
   clock = g.clock;
   log = g.log;
-  taken = taken_more ds x g.number (answers.Granted g.life g.clock g.log) g.taken;
+  taken = taken_more ds x g.number (answers.Granted g) g.taken;
 }
 
 -- the same account
@@ -123,14 +124,14 @@ after_taken number answer q (p ∷ qs) among = by (is_open number p) refl among 
 granted_requests : (d : Account) (site life clock : ℕ) (log : List Line) (w : Want)
     → ((granted d site life clock log w).requests ≡ d.requests)
     × ((granted d site life clock log w).command ≡ d.command)
-granted_requests d site life clock log (Read object inv) = (refl, refl)
+granted_requests d site life clock log (Read read) = (refl, refl)
 granted_requests d site life clock log (Append object view own) = (refl, refl)
 granted_requests d site life clock log Prepare = (refl, refl)
 
 pub promised_requests : (d : Account) (clock : ℕ) (w : Want)
     → ((promised d clock w).requests ≡ d.requests) × ((promised d clock w).command ≡ d.command)
     × ((promised d clock w).current ≡ d.current)
-promised_requests d clock (Read object inv) = (refl, refl, refl)
+promised_requests d clock (Read read) = (refl, refl, refl)
 promised_requests d clock (Append object view own) = (refl, refl, refl)
 promised_requests d clock Prepare = (refl, refl, refl)
 
@@ -147,7 +148,7 @@ pub record IsGrant (answer : Option Answer) : Type 0 where
   pub life : ℕ
   pub clock : ℕ
   pub log : List Line
-  pub is : answer ≡ Some (answers.Granted life clock log)
+  pub is : answer ≡ Some (answers.Granted (grant_with life clock log))
 
 -- the transaction is the same, and its lives too, but for the site of a request that is granted
 pub record IsSameBut (o : Option Current) (site : ℕ) (answer : Option Answer) (t : Current) : Type 0 where
@@ -183,7 +184,7 @@ one_life lives site life s has = by (has_granted lives site) has
 
 changed : (o : Option Current) (site life clock : ℕ) (log : List Line) (change : Current → Current)
     → ((x : Current) → ((change x).tx ≡ x.tx) × ((change x).lives ≡ with_life x.lives site life)) → (t : Current)
-    → option_map change o ≡ Some t → IsSameBut o site (Some (answers.Granted life clock log)) t
+    → option_map change o ≡ Some t → IsSameBut o site (Some (answers.Granted (grant_with life clock log))) t
 changed None site life clock log change keeps t is = absurd (let never : ⊥ = cc in never)
 changed (Some x) site life clock log change keeps t is =
     let same : t ≡ change x = cc in
@@ -208,12 +209,12 @@ told_current d p answer t is = told_cases d p (λ a e. e.current ≡ Some t → 
     (sym (promised_requests d clock p.want).2 ∙ is)) answer is
   where
     by : (life clock : ℕ) (log : List Line) (w : Want) → (granted d p.site life clock log w).current ≡ Some t
-        → IsSameBut d.current p.site (Some (answers.Granted life clock log)) t
-    by life clock log (Read object inv) is = changed d.current p.site life clock log
-        (λ (x : Current). with_read (lived x p.site life) object log) (λ x. (refl, refl)) t is
+        → IsSameBut d.current p.site (Some (answers.Granted (grant_with life clock log))) t
+    by life clock log (Read read) is = changed d.current p.site life clock log
+        (λ (x : Current). with_read (lived x p.site life) read.object log) (λ x. (refl, refl)) t is
     by life clock log (Append object view own) is = changed d.current p.site life clock log
         (λ (x : Current). lived x p.site life) (λ x. (refl, refl)) t is
-    by life clock log Prepare is = same_but d.current p.site (Some (answers.Granted life clock log)) t is
+    by life clock log Prepare is = same_but d.current p.site (Some (answers.Granted (grant_with life clock log))) t is
 
 -- a request that is open has the number, and nothing was taken for it
 

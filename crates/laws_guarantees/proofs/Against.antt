@@ -82,7 +82,7 @@ against_forgets : (q : ClientRequest) (o : Option (Option Answer)) (site : ℕ) 
 against_forgets q None site is = absurd (let never : ⊥ = cc in never)
 against_forgets q (Some None) site is = absurd
     (let e : causes.NoAnswer q.site ≡ causes.Forgot site = cc in let never : ⊥ = cc in never)
-against_forgets q (Some (Some (answers.Granted life clock log))) site is = (answers.Granted life clock log, refl, tt)
+against_forgets q (Some (Some (answers.Granted grant))) site is = (answers.Granted grant, refl, tt)
 against_forgets q (Some (Some (answers.Clash holder inv event))) site is = (answers.Clash holder inv event, refl, tt)
 against_forgets q (Some (Some (answers.Closed epoch))) site is =
     absurd (let e : causes.Closed epoch q.site ≡ causes.Forgot site = cc in let never : ⊥ = cc in never)
@@ -93,7 +93,7 @@ against_forgets q (Some (Some answers.Stale)) site is = (answers.Stale, refl, tt
 against_forgets q (Some (Some answers.Fault)) site is =
     absurd (let e : causes.Fault q.site ≡ causes.Forgot site = cc in let never : ⊥ = cc in never)
 against_forgets q (Some (Some (answers.Yes clock))) site is = absurd (let never : ⊥ = cc in never)
-against_forgets q (Some (Some (answers.Shut clock log prepared))) site is = (answers.Shut clock log prepared, refl, tt)
+against_forgets q (Some (Some (answers.Shut snapshot))) site is = (answers.Shut snapshot, refl, tt)
 against_forgets q (Some (Some answers.Installed)) site is = (answers.Installed, refl, tt)
 against_forgets q (Some (Some (answers.Answered outcome))) site is = (answers.Answered outcome, refl, tt)
 
@@ -113,7 +113,7 @@ first_is (p ∷ qs) why is = by (against p p.taken) refl is (first_is qs why)
 -- the reply to a commit
 
 is_prepared_want : (w : Want) → is_prepare w ≡ true → w ≡ Prepare
-is_prepared_want (Read object inv) is = absurd (let never : ⊥ = cc in never)
+is_prepared_want (Read read) is = absurd (let never : ⊥ = cc in never)
 is_prepared_want (Append object view own) is = absurd (let never : ⊥ = cc in never)
 is_prepared_want Prepare is = refl
 

@@ -25,6 +25,7 @@ use Rattle.qc_site.specs.Vocabulary.{prepared_of, promise_of, promised, reads, r
 use Rattle.qc_site.specs.Vocabulary.{site_takes, votes}
 use Rattle.qc_lock.specs.declared.clash.Clash.{Clash as Conflict}
 use Rattle.qc_msg.specs.Vocabulary.{quiet}
+use Rattle.qc_msg.specs.Vocabulary.{grant_with, start_with}
 use Rattle.qc_stamp.specs.declared.stamp.Stamp.{Stamp}
 use Rattle.qc_site.proofs.RequestCases.{append_cases, close_cases, prepare_cases, read_cases, request_cases}
 use Rattle.qc_site.proofs.Cases.{install_cases}
@@ -80,12 +81,12 @@ request_says decl s from number tx epoch life want =
     (λ is. by want)
   where
     by : (w : Want) → Says number Anything (grants decl s from number tx w)
-    by (Read object inv) = read_cases (Says number Anything) decl s from number tx object inv
-        (λ free. says_one Anything (reads s from number tx object inv) from number
-        (answers.Granted s.life s.clock (of_object (known s) object)) refl tt)
+    by (Read read) = read_cases (Says number Anything) decl s from number tx read.object read.inv
+        (λ free. says_one Anything (reads s from number tx read.object read.inv) from number
+        (answers.Granted (grant_with s.life s.clock (of_object (known s) read.object))) refl tt)
         (λ c clash. says_clash Anything decl (moved s (clashing decl from number c)) from number c refl tt)
     by (Append object view own) = append_cases (Says number Anything) decl s from number tx object view own
-        (λ free. says_one Anything (appends s from number tx view own) from number (answers.Granted s.life s.clock [])
+        (λ free. says_one Anything (appends s from number tx view own) from number (answers.Granted (grant_with s.life s.clock []))
         refl tt) (λ c clash. says_clash Anything decl (moved s (clashing decl from number c)) from number c refl tt)
     by Prepare =
         prepare_cases (Says number Anything) s from number tx
@@ -109,7 +110,7 @@ install_says s from number k clock lines =
     install_cases (Says number Anything) s from number k clock lines
     (λ answer. says_one Anything (moved s (answering_turn from number answer)) from number answer refl tt)
     (λ later fits. says_one Anything
-    (moved (installed s k clock lines) (recording from number (records.Install k clock lines) answers.Installed))
+    (moved (installed s k clock lines) (recording from number (records.Install (start_with k clock lines)) answers.Installed))
     from number answers.Installed refl tt)
 
 -- what is answered under a number was taken under it

@@ -19,7 +19,8 @@ use Rattle.qc_msg.specs.declared.step.Command.{Command}
 use Rattle.qc_msg.specs.declared.step.Command.TheVariants as commands
 use Rattle.qc_msg.specs.declared.turn.Posting.{Posting}
 use Rattle.qc_msg.specs.declared.turn.Turn.{Turn}
-use Rattle.qc_msg.specs.Vocabulary.{quiet, site_called, telling, without_call, Granting, granted_in}
+use Rattle.qc_msg.specs.Vocabulary.{quiet, site_called, telling, without_call, granted_in}
+use Rattle.qc_msg.specs.declared.payload.Grant.{Grant}
 use Rattle.qc_view.specs.declared.view.View.{View}
 use Rattle.qc_view.specs.Vocabulary.{with_log, with_own}
 use Rattle.qc_front.specs.declared.doing.Doing.{Doing}
@@ -159,10 +160,10 @@ module _ (s : ℕ) (x : TxId) where
         × ((read_with t site object answer).begun.asked ≡ t.begun.asked)
     read_begun t site object answer = by (option_and_then granted_in answer)
       where
-        by : (o : Option Granting)
-            → ((option_map_or (λ (g : Granting). with_granted (lived t site g.life) object g.log) o t).begun.tx
+        by : (o : Option Grant)
+            → ((option_map_or (λ (g : Grant). with_granted (lived t site g.life) object g.log) o t).begun.tx
             ≡ t.begun.tx)
-            × ((option_map_or (λ (g : Granting). with_granted (lived t site g.life) object g.log) o t).begun.asked
+            × ((option_map_or (λ (g : Grant). with_granted (lived t site g.life) object g.log) o t).begun.asked
             ≡ t.begun.asked)
         by None = (refl, refl)
         by (Some g) = (

@@ -88,11 +88,11 @@ pub record KeepsEpoch (d e : Account) : Type 0 where
 
 granted_epoch : (d : Account) (site life clock : ℕ) (log : List Line) (want : Want)
     → KeepsEpoch d (granted d site life clock log want)
-granted_epoch d site life clock log (Read object inv) =
+granted_epoch d site life clock log (Read read) =
     record {
       client = refl;
       epoch = same_epoch (record d { clock = max d.clock clock })
-          (λ (t : Current). with_read (lived t site life) object log) (λ t. refl);
+          (λ (t : Current). with_read (lived t site life) read.object log) (λ t. refl);
     }
 granted_epoch d site life clock log (Append object view own) =
     record {
@@ -102,7 +102,7 @@ granted_epoch d site life clock log (Append object view own) =
 granted_epoch d site life clock log Prepare = record { client = refl; epoch = refl }
 
 promised_epoch : (d : Account) (clock : ℕ) (want : Want) → KeepsEpoch d (promised d clock want)
-promised_epoch d clock (Read object inv) = record { client = refl; epoch = refl }
+promised_epoch d clock (Read read) = record { client = refl; epoch = refl }
 promised_epoch d clock (Append object view own) = record { client = refl; epoch = refl }
 promised_epoch d clock Prepare = record { client = refl; epoch = refl }
 

@@ -93,13 +93,13 @@ changed (Some x) change keeps t is =
 
 granted_kept : (d : Account) (site life clock : ℕ) (log : List Line) (w : Want) (t : Current)
     → (granted d site life clock log w).current ≡ Some t → WasBegun d.current t
-granted_kept d site life clock log (Read object inv) t is =
-    changed d.current (λ (x : Current). with_read (lived x site life) object log)
+granted_kept d site life clock log (Read read) t is =
+    changed d.current (λ (x : Current). with_read (lived x site life) read.object log)
     (λ x. record {
       tx = refl;
       epoch = refl;
       ops = refl;
-      view = λ o l among. grows x.read_grants (record { object = object; log = log } ∷ []) o l among;
+      view = λ o l among. grows x.read_grants (record { object = read.object; log = log } ∷ []) o l among;
       lives = life_added x.lives site life;
     }) t is
 granted_kept d site life clock log (Append object view own) t is =
@@ -115,7 +115,7 @@ granted_kept d site life clock log Prepare t is = same d.current t is
 
 promised_kept : (d : Account) (clock : ℕ) (w : Want) (t : Current) → (promised d clock w).current ≡ Some t
     → WasBegun d.current t
-promised_kept d clock (Read object inv) t is = same d.current t is
+promised_kept d clock (Read read) t is = same d.current t is
 promised_kept d clock (Append object view own) t is = same d.current t is
 promised_kept d clock Prepare t is = same d.current t is
 

@@ -63,7 +63,7 @@ answers_calm copies i (messages.Decision tx verdict) c = c
 answers_calm copies i (messages.Inquiry tx) c = c
 answers_calm copies i (messages.Ask tx) c = c
 answers_calm copies i (messages.Close epoch) c = c
-answers_calm copies i (messages.Install epoch clock log) c = c
+answers_calm copies i (messages.Install start) c = c
 
 comes_calm : (a : ℕ) (copies : List Envelope) (i : Inbox) (e : Envelope) → IsCalm copies i
     → IsCalm (copies ++ copy_for a e) (comes [] a i e)

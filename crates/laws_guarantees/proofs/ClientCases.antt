@@ -37,4 +37,4 @@ module _ (decl : Declaration) (c : Client) where
   heard_cases from number P same answer inquire ask (messages.Inquiry tx) = inquire tx
   heard_cases from number P same answer inquire ask (messages.Ask tx) = ask tx
   heard_cases from number P same answer inquire ask (messages.Close epoch) = same _
-  heard_cases from number P same answer inquire ask (messages.Install epoch clock log) = same _
+  heard_cases from number P same answer inquire ask (messages.Install start) = same _

@@ -47,7 +47,7 @@ request_word name (messages.Decision tx verdict) never = absurd never
 request_word name (messages.Inquiry tx) never = never
 request_word name (messages.Ask tx) never = never
 request_word name (messages.Close epoch) never = never
-request_word name (messages.Install epoch clock log) never = never
+request_word name (messages.Install start) never = never
 
 requests_words : (name : Option TxId) (ps : List Posting) → Every (λ (p : Posting). IsRequestFor name p.message) ps
     → AreClientWords ps

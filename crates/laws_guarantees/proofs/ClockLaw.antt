@@ -46,12 +46,12 @@ module _ (decl : Declaration) where
 
   granted_clock : (d : Account) (site life clock : ℕ) (log : List Line) (w : Want)
       → d.clock ≤ (granted d site life clock log w).clock
-  granted_clock d site life clock log (Read object inv) = omega arith
+  granted_clock d site life clock log (Read read) = omega arith
   granted_clock d site life clock log (Append object view own) = omega arith
   granted_clock d site life clock log Prepare = omega arith
 
   promised_clock : (d : Account) (clock : ℕ) (w : Want) → d.clock ≤ (promised d clock w).clock
-  promised_clock d clock (Read object inv) = omega arith
+  promised_clock d clock (Read read) = omega arith
   promised_clock d clock (Append object view own) = omega arith
   promised_clock d clock Prepare = omega arith
 
@@ -129,19 +129,19 @@ module _ (decl : Declaration) where
 
   grant_passes : (d : Account) (site life told clock : ℕ) (log : List Line) (w : Want) → GrantTells clock told w
       → clock ≤ (granted d site life told log w).clock
-  grant_passes d site life told clock log (Read object inv) is = omega arith
+  grant_passes d site life told clock log (Read read) is = omega arith
   grant_passes d site life told clock log (Append object view own) is = omega arith
   grant_passes d site life told clock log Prepare is = absurd is
 
   promise_passes : (d : Account) (told clock : ℕ) (w : Want) → PromiseTells clock told w
       → clock ≤ (promised d told w).clock
-  promise_passes d told clock (Read object inv) is = absurd is
+  promise_passes d told clock (Read read) is = absurd is
   promise_passes d told clock (Append object view own) is = absurd is
   promise_passes d told clock Prepare is = omega arith
 
   told_passes : (d : Account) (q : ClientRequest) (answer : Answer) (clock : ℕ) → TellsClock clock q.want answer
       → clock ≤ (told_by d q (Some answer)).clock
-  told_passes d q (answers.Granted life told log) clock is = grant_passes d q.site life told clock log q.want is
+  told_passes d q (answers.Granted grant) clock is = grant_passes d q.site grant.life grant.clock clock grant.log q.want is
   told_passes d q (answers.Clash holder inv event) clock is = absurd is
   told_passes d q (answers.Closed epoch) clock is = absurd is
   told_passes d q (answers.Behind epoch) clock is = absurd is
@@ -149,7 +149,7 @@ module _ (decl : Declaration) where
   told_passes d q answers.Stale clock is = absurd is
   told_passes d q answers.Fault clock is = absurd is
   told_passes d q (answers.Yes told) clock is = promise_passes d told clock q.want is
-  told_passes d q (answers.Shut told log prepared) clock is = absurd is
+  told_passes d q (answers.Shut snapshot) clock is = absurd is
   told_passes d q answers.Installed clock is = absurd is
   told_passes d q (answers.Answered outcome) clock is = absurd is
 

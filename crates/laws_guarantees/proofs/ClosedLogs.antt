@@ -13,6 +13,7 @@ use Rattle.qc_msg.specs.declared.message.Message.{Message}
 use Rattle.qc_msg.specs.declared.message.Message.TheVariants as messages
 use Rattle.qc_msg.specs.declared.message.Want.TheVariants.{Read}
 use Rattle.qc_msg.specs.Vocabulary.{Entry, mail, written}
+use Rattle.qc_msg.specs.Vocabulary.{grant_with, read_of}
 use Rattle.theory_onecopy.specs.Vocabulary.{IsClosedLog, IsLogged}
 use Rattle.theory_machine.specs.Vocabulary.{OfGrant, site_after, state}
 use Rattle.theory_machine.proofs.ClaimLaws as claims
@@ -37,8 +38,8 @@ module _ (decl : Declaration) (script : Script) (accepted : IsAccepted decl) (so
 
   pub granted_logs_are_closed : (request answer : Envelope) (tx : TxId) (number epoch named object inv life clock : ℕ)
       (log : List Line) → slice_get (mail h) number ≡ Some request
-      → request.message ≡ messages.Request tx epoch named (Read object inv)
-      → In answer (mail h) → answer.message ≡ messages.Answer number (Granted life clock log)
+      → request.message ≡ messages.Request tx epoch named (Read (read_of object inv))
+      → In answer (mail h) → answer.message ≡ messages.Answer number (Granted (grant_with life clock log))
       → IsClosedLog decl (written h) log
   granted_logs_are_closed request answer tx number epoch named object inv life clock log found asked sent is l m among
       committed same before depends =
@@ -51,11 +52,11 @@ module _ (decl : Declaration) (script : Script) (accepted : IsAccepted decl) (so
       by : IsGrantTo decl (state (mirror decl script accepted sound h open_inputs run).acts)
           (stood decl script accepted sound h open_inputs run).net.mail answer.from number life clock log → In m log
       by b =
-          let r : IsRequest (mail h) number request.to tx (Read object inv) =
+          let r : IsRequest (mail h) number request.to tx (Read (read_of object inv)) =
           record { epoch = epoch; life = named; is = (request, found, refl, asked) } in
           let one : (answer.from ≡ request.to) × (b.tx ≡ tx)
-          × (b.want ≡ Read object inv) = one_request decl script accepted sound h open_inputs run number answer.from
-          request.to b.tx tx b.want (Read object inv)
+          × (b.want ≡ Read read) = one_request decl script accepted sound h open_inputs run number answer.from
+          request.to b.tx tx b.want (Read (read_of object inv))
           (subst (λ (ms : List Envelope). IsRequest ms number answer.from b.tx b.want)
           (stood decl script accepted sound h open_inputs run).mail_is
           (record { epoch = b.epoch; life = b.named; is = b.request })) r in

@@ -45,7 +45,7 @@ NoneStale decl h = (a : ℕ) → is_client decl a ≡ true → (q : ClientReques
     → q.want ≡ Prepare → q.taken ≡ Some (Some answers.Stale) → ⊥
 
 prepare_is : (want : Want) → is_prepare want ≡ true → want ≡ Prepare
-prepare_is (Read object inv) is = absurd (let never : ⊥ = cc in never)
+prepare_is (Read read) is = absurd (let never : ⊥ = cc in never)
 prepare_is (Append object view own) is = absurd (let never : ⊥ = cc in never)
 prepare_is Prepare is = refl
 
@@ -54,7 +54,7 @@ none_against : (decl : Declaration) (a : ℕ) (h : List Entry) (q : ClientReques
     → GoodTaken decl a h Prepare o → against q o ≡ None
 none_against decl a h q fresh None is good = refl
 none_against decl a h q fresh (Some None) is never = absurd never
-none_against decl a h q fresh (Some (Some (answers.Granted life clock log))) is never = absurd never
+none_against decl a h q fresh (Some (Some (answers.Granted grant))) is never = absurd never
 none_against decl a h q fresh (Some (Some (answers.Clash holder inv event))) is never = absurd never
 none_against decl a h q fresh (Some (Some (answers.Closed epoch))) is never = absurd never
 none_against decl a h q fresh (Some (Some (answers.Behind epoch))) is never = absurd never
@@ -62,7 +62,7 @@ none_against decl a h q fresh (Some (Some (answers.Restarted life))) is never = 
 none_against decl a h q fresh (Some (Some answers.Stale)) is good = absurd (fresh is)
 none_against decl a h q fresh (Some (Some answers.Fault)) is never = absurd never
 none_against decl a h q fresh (Some (Some (answers.Yes clock))) is good = refl
-none_against decl a h q fresh (Some (Some (answers.Shut clock log prepared))) is never = absurd never
+none_against decl a h q fresh (Some (Some (answers.Shut snapshot))) is never = absurd never
 none_against decl a h q fresh (Some (Some answers.Installed)) is never = absurd never
 none_against decl a h q fresh (Some (Some (answers.Answered verdict))) is never = absurd never
 

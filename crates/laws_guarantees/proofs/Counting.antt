@@ -70,8 +70,8 @@ counted_grounds ds x d number answer takes k = by (find (is_open number) d.reque
 
                 by_want : (d : Account) (site life clock : ℕ) (log : List Line) (w : Want) (t : Current)
                     → d.current ≡ Some t → (granted d site life clock log w).current ≡ None → ⊥
-                by_want d site life clock log (Read object inv) t was is =
-                    mapped d.current (λ (y : Current). with_read (lived y site life) object log) t was is
+                by_want d site life clock log (Read read) t was is =
+                    mapped d.current (λ (y : Current). with_read (lived y site life) read.object log) t was is
                 by_want d site life clock log (Append object view own) t was is =
                     mapped d.current (λ (y : Current). lived y site life) t was is
                 by_want d site life clock log Prepare t was is = let never : ⊥ = cc in never
@@ -155,6 +155,6 @@ counted_grounds ds x d number answer takes k = by (find (is_open number) d.reque
                     life = g.life;
                     clock = g.clock;
                     log = g.log;
-                    taken = now_taken (answers.Granted g.life g.clock g.log) g.is;
+                    taken = now_taken (answers.Granted g) g.is;
                   })
             ])

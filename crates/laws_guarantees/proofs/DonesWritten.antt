@@ -17,7 +17,8 @@ use Rattle.qc_msg.specs.declared.record.Record.{Record}
 use Rattle.qc_msg.specs.declared.record.Record.TheVariants as records
 use Rattle.qc_msg.specs.declared.step.Input.{Input}
 use Rattle.qc_msg.specs.declared.step.Input.TheVariants as inputs
-use Rattle.qc_msg.specs.Vocabulary.{Deed, Installing, Requested, Takes, epoch_length}
+use Rattle.qc_msg.specs.Vocabulary.{Deed, Requested, Takes, epoch_length}
+use Rattle.qc_msg.specs.declared.payload.EpochStart.{EpochStart}
 use Rattle.qc_msg.specs.declared.message.Answer.{Answer}
 use Rattle.qc_msg.specs.declared.message.Answer.TheVariants as answers
 use Rattle.qc_msg.specs.declared.step.Fall.{Fall}
@@ -119,13 +120,13 @@ module _ (decl : Declaration) where
       by false false true t c is = let never : ⊥ = cc in never
       by false false false t c is = let never : ⊥ = cc in never
 
-  install_writes : (ds : List Deed) (e : Envelope) (i : Installing) → WritesNoDone (install_turn ds e i).write
+  install_writes : (ds : List Deed) (e : Envelope) (i : EpochStart) → WritesNoDone (install_turn ds e i).write
   install_writes ds e i = by (nat_le i.epoch (epoch_shown ds)) (nat_le (epoch_length i.lines) most_record_bytes)
     where
       by : (is_known fits : Bool)
           → WritesNoDone
           (cond is_known (telling_turn e answers.Installed)
-          (cond fits (recording_turn e (records.Install i.epoch i.clock i.lines) answers.Installed)
+          (cond fits (recording_turn e (records.Install i) answers.Installed)
           (telling_turn e (answers.Behind (epoch_shown ds))))).write
       by true fits t c is = let never : ⊥ = cc in never
       by false true t c is = let never : ⊥ = cc in never
@@ -161,9 +162,9 @@ module _ (decl : Declaration) where
   message_brings ds tx clock e (messages.Ask t) is = none_written tx clock is
   message_brings ds tx clock e (messages.Close epoch) is =
       absurd (close_writes ds (letter e (messages.Close epoch)) epoch tx clock is)
-  message_brings ds tx clock e (messages.Install epoch at log) is =
-      absurd (install_writes ds (letter e (messages.Install epoch at log))
-      (record { epoch = epoch; clock = at; lines = log }) tx clock is)
+  message_brings ds tx clock e (messages.Install start) is =
+      absurd (install_writes ds (letter e (messages.Install start))
+      start tx clock is)
 
   pub given_brings : (ds : List Deed) (tx : TxId) (clock : ℕ) (g : Input) (more : List Deed)
       → (turn_due decl ds g).write ≡ Some (records.Done tx clock) → IsBrought tx clock (Takes g ∷ more)

@@ -58,8 +58,8 @@ one_life lives site life is first = by (has_granted lives site)
 
 granted_first : (d : Account) (site life clock : ℕ) (log : List Line) (want : Want) → life ≡ first_life
     → IsFirstAccount d → IsFirstAccount (granted d site life clock log want)
-granted_first d site life clock log (wants.Read object inv) is f =
-    changed (record d { clock = max d.clock clock }) (λ (t : Current). with_read (lived t site life) object log)
+granted_first d site life clock log (wants.Read read) is f =
+    changed (record d { clock = max d.clock clock }) (λ (t : Current). with_read (lived t site life) read.object log)
     (λ t first. (first.0, one_life t.lives site life is first.1)) (record { known = f.known; current = f.current })
 granted_first d site life clock log (wants.Append object view own) is f =
     changed (record d { clock = max d.clock clock }) (λ (t : Current). lived t site life)
@@ -67,7 +67,7 @@ granted_first d site life clock log (wants.Append object view own) is f =
 granted_first d site life clock log wants.Prepare is f = f
 
 promised_first : (d : Account) (clock : ℕ) (want : Want) → IsFirstAccount d → IsFirstAccount (promised d clock want)
-promised_first d clock (wants.Read object inv) f = f
+promised_first d clock (wants.Read read) f = f
 promised_first d clock (wants.Append object view own) f = f
 promised_first d clock wants.Prepare f = record { known = f.known; current = f.current }
 

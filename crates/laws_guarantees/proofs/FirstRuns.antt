@@ -90,7 +90,7 @@ said_first (messages.Decision tx verdict) first word = tt
 said_first (messages.Inquiry tx) first never = absurd never
 said_first (messages.Ask tx) first never = absurd never
 said_first (messages.Close epoch) first never = absurd never
-said_first (messages.Install epoch clock log) first never = absurd never
+said_first (messages.Install start) first never = absurd never
 
 all_said : (n : ℕ) (ps : List Posting) (more : List Deed) → Every SendsFirst (sends_of n ps ++ more) → AreClientWords ps
     → SayFirst ps

@@ -40,11 +40,11 @@ module _ (decl : Declaration) (ms : List Envelope) (n : ℕ) (s : SiteState) (fi
     (open_ones : AreOpen ms s.held) (from number : ℕ) where
   granted : (tx : TxId) (epoch life : ℕ) (want : Want)
       → AnswersTo ms number (messages.Request tx epoch life want) (grants decl s from number tx want)
-  granted tx epoch life (Read object inv) =
-      read_cases (AnswersTo ms number (messages.Request tx epoch life (Read object inv))) decl s from number tx object
-      inv (λ free. ((refl, tt), tt))
+  granted tx epoch life (Read read) =
+      read_cases (AnswersTo ms number (messages.Request tx epoch life (Read read))) decl s from number tx read.object
+      read.inv (λ free. ((refl, tt), tt))
       (λ c clash. let w : IsInTheWay ms tx c =
-      read_way (relation_at decl object) ms s.held tx object inv c open_ones clash in
+      read_way (relation_at decl read.object) ms s.held tx read.object read.inv c open_ones clash in
       ((refl, (w.is_open, w.another)), (tt, tt)))
   granted tx epoch life (Append object view own) =
       append_cases (AnswersTo ms number (messages.Request tx epoch life (Append object view own))) decl s from number tx

@@ -9,7 +9,7 @@ use Rattle.qc_msg.specs.Vocabulary.{Answered, answer_in as answered_in}
 
 -- the answers that count as against a promise because the site has forgotten the transaction
 abbrev pub Forgets : Answer → Type 0
-Forgets (answers.Granted life clock log) = Unit {0}
+Forgets (answers.Granted grant) = Unit {0}
 Forgets (answers.Clash holder inv event) = Unit {0}
 Forgets (answers.Closed epoch) = ⊥
 Forgets (answers.Behind epoch) = Unit {0}
@@ -17,7 +17,7 @@ Forgets (answers.Restarted life) = ⊥
 Forgets answers.Stale = Unit {0}
 Forgets answers.Fault = ⊥
 Forgets (answers.Yes clock) = ⊥
-Forgets (answers.Shut clock log prepared) = Unit {0}
+Forgets (answers.Shut snapshot) = Unit {0}
 Forgets answers.Installed = Unit {0}
 Forgets (answers.Answered verdict) = Unit {0}
 

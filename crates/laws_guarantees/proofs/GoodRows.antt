@@ -21,7 +21,8 @@ use Rattle.qc_msg.specs.declared.message.Want.{Want}
 use Rattle.qc_msg.specs.declared.message.Want.TheVariants.{Append, Prepare, Read}
 use Rattle.qc_msg.specs.declared.reply.Reply.{Reply}
 use Rattle.qc_msg.specs.declared.reply.Reply.TheVariants as replies
-use Rattle.qc_msg.specs.Vocabulary.{Entry, deeds, Clashing, Granting, clash_in, closed_in, granted_in}
+use Rattle.qc_msg.specs.Vocabulary.{Entry, deeds, Clashing, clash_in, closed_in, granted_in}
+use Rattle.qc_msg.specs.declared.payload.Grant.{Grant}
 use Rattle.qc_script.specs.Vocabulary.{Runs}
 use Rattle.qc_script.specs.declared.script.Script.{Script}
 use Rattle.laws_turns.specs.Vocabulary.{ActsIn, AsksDeclared}
@@ -52,7 +53,7 @@ good_standing decl a h (Some (Some answer)) want half is_half its good =
   where
     hold : (want : Want) (half : Want → Bool) → IsHalf half → half want ≡ true → (answer : Answer)
         → GoodTaken decl a h want (Some (Some answer)) → GoodHold decl a h answer
-    hold (Read object inv) half is_half its answer good = good
+    hold (Read read) half is_half its answer good = good
     hold (Append object view own) half is_half its answer good = good
     hold Prepare half of_reads its answer good = absurd (let never : ⊥ = cc in never)
     hold Prepare half of_appends its answer good = absurd (let never : ⊥ = cc in never)
@@ -61,10 +62,10 @@ good_standing decl a h (Some (Some answer)) want half is_half its good =
         → GoodStanding (IsElsewhere decl a h) (Some (standing_of (Some answer)))
     by answer = at (granted_in answer) (clash_in answer) (closed_in answer)
       where
-        at : (g : Option Granting) (c : Option Clashing) (closed : Option ℕ)
+        at : (g : Option Grant) (c : Option Clashing) (closed : Option ℕ)
             → MatchOption g (MatchOption c ⊥ (λ (c : Clashing). IsElsewhere decl a h c.holder))
-            (λ (g : Granting). Unit {0})
-            → GoodStanding (IsElsewhere decl a h) (Some (option_map_or (λ (x : Granting). standings.Granted) g
+            (λ (g : Grant). Unit {0})
+            → GoodStanding (IsElsewhere decl a h) (Some (option_map_or (λ (x : Grant). standings.Granted) g
             (option_map_or (λ (c : Clashing). standings.Clash c.holder) c
             (option_map_or standings.Closed closed standings.Missing))))
         at (Some g) c closed good = tt

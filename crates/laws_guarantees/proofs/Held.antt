@@ -83,14 +83,14 @@ module _ (decl : Declaration) (ms : List Envelope) (s : SiteState) (from number 
 
   granted : (tx : TxId) (epoch life : ℕ) (want : Want)
       → Now (messages.Request tx epoch life want) (grants decl s from number tx want).site.held
-  granted tx epoch life (Read object inv) =
-      read_cases (λ (m : SiteMove). Now (messages.Request tx epoch life (Read object inv)) m.site.held) decl s from
-      number tx object inv
+  granted tx epoch life (Read read) =
+      read_cases (λ (m : SiteMove). Now (messages.Request tx epoch life (Read read)) m.site.held) decl s from
+      number tx read.object read.inv
       (λ free. held-more decl (λ (x : TxId). open_said x (is_open x ms)
-      (messages.Request tx epoch life (Read object inv)) ≡ true) s.held tx
-      (record { object = object; inv = inv } ∷ []) [] (requested tx epoch life (Read object inv))
-      (request_opens tx epoch life (Read object inv) (is_open tx ms) refl))
-      (λ c clash. requested tx epoch life (Read object inv))
+      (messages.Request tx epoch life (Read read)) ≡ true) s.held tx
+      (record { object = read.object; inv = read.inv } ∷ []) [] (requested tx epoch life (Read read))
+      (request_opens tx epoch life (Read read) (is_open tx ms) refl))
+      (λ c clash. requested tx epoch life (Read read))
   granted tx epoch life (Append object view own) =
       append_cases (λ (m : SiteMove). Now (messages.Request tx epoch life (Append object view own)) m.site.held) decl s
       from number tx object view own
@@ -136,7 +136,7 @@ module _ (decl : Declaration) (ms : List Envelope) (s : SiteState) (from number 
   at (messages.Inquiry tx) calm = all
   at (messages.Ask tx) calm = all
   at (messages.Close epoch) calm = absurd calm
-  at (messages.Install epoch clock log) calm = absurd calm
+  at (messages.Install start) calm = absurd calm
 
 -- over all that a site does
 

@@ -135,8 +135,8 @@ module _ (decl : Declaration) (script : Script) (accepted : IsAccepted decl) (so
     wanted_known x o e is = by want refl is
       where
         by : (w : Want) → want ≡ w → IsWanted w x → IsKnown o
-        by (Read object inv) same locked =
-            absurd (let clash : Own o ≡ Lock (record { object = object; inv = inv }) = sym e ∙ locked in
+        by (Read read) same locked =
+            absurd (let clash : Own o ≡ Lock (record { object = read.object; inv = read.inv }) = sym e ∙ locked in
             let never : ⊥ = cc in never)
         by (Append object view own) same has =
             let one : o ≡ has.0 = (let both_are : Own o ≡ Own has.0 = sym e ∙ has.1 in cc) in
@@ -151,7 +151,7 @@ module _ (decl : Declaration) (script : Script) (accepted : IsAccepted decl) (so
       where
         by_want : (e : Envelope) (epoch life : ℕ) (w : Want) → In e (mail h)
             → e.message ≡ messages.Request c.tx epoch life w → In l (own_wanted w) → IsKnown l
-        by_want e epoch life (Read object inv) sent is member = absurd member
+        by_want e epoch life (Read read) sent is member = absurd member
         by_want e epoch life (Append object view own) sent is member =
             own_known e c.tx epoch life object view own l sent is member
         by_want e epoch life Prepare sent is member = absurd member
@@ -183,6 +183,6 @@ module _ (decl : Declaration) (script : Script) (accepted : IsAccepted decl) (so
       where
         by : (w : Want) → ((x : Item) → IsWanted w x → IsHeld (held_of (held_shown (deeds site [] h)) c.tx) x)
             → HasWanted (held_of (held_shown (deeds site [] h)) c.tx) w
-        by (Read object inv) held = held (Lock (record { object = object; inv = inv })) refl
+        by (Read read) held = held (Lock (record { object = read.object; inv = read.inv })) refl
         by (Append object view own) held = λ o among. held (Own o) (o, refl, among)
         by Prepare held = tt

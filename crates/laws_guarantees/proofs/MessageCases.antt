@@ -20,7 +20,7 @@ asking_cases P none asks (messages.Decision tx verdict) = none _
 asking_cases P none asks (messages.Inquiry tx) = none _
 asking_cases P none asks (messages.Ask tx) = none _
 asking_cases P none asks (messages.Close epoch) = none _
-asking_cases P none asks (messages.Install epoch clock log) = none _
+asking_cases P none asks (messages.Install start) = none _
 
 pub answering_cases : (P : Message → Option Answered → Type 0) → ((m : Message) → P m None)
     → ((to : ℕ) (answer : Answer) → P (messages.Answer to answer) (Some (record { to = to; answer = answer })))
@@ -31,7 +31,7 @@ answering_cases P none answers (messages.Decision tx verdict) = none _
 answering_cases P none answers (messages.Inquiry tx) = none _
 answering_cases P none answers (messages.Ask tx) = none _
 answering_cases P none answers (messages.Close epoch) = none _
-answering_cases P none answers (messages.Install epoch clock log) = none _
+answering_cases P none answers (messages.Install start) = none _
 
 pub commit_cases : (P : Record → Option CommitRecord → Type 0) → ((w : Record) → P w None)
     → ((commit : CommitRecord) → P (records.Commit commit) (Some commit)) → (w : Record) → P w (commit_of w)
@@ -39,6 +39,6 @@ commit_cases P none commits records.Life = none _
 commit_cases P none commits (records.Prepare prepared) = none _
 commit_cases P none commits (records.Done tx clock) = none _
 commit_cases P none commits (records.Close epoch) = none _
-commit_cases P none commits (records.Install epoch clock lines) = none _
+commit_cases P none commits (records.Install start) = none _
 commit_cases P none commits (records.Commit commit) = commits commit
-commit_cases P none commits (records.Decide epoch clock lines) = none _
+commit_cases P none commits (records.Decide start) = none _

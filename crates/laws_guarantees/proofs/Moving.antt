@@ -60,8 +60,8 @@ alters n o change names ops lives = Changes refl change names
 module _ (decl : Declaration) where
   granted_step : (d : Account) (site life clock : ℕ) (log : List Line) (w : Want)
       → Step d (granted d site life clock log w)
-  granted_step d site life clock log (Read object inv) =
-      alters d.count d.current (λ (t : Current). with_read (lived t site life) object log) (λ t. refl) (λ t. refl)
+  granted_step d site life clock log (Read read) =
+      alters d.count d.current (λ (t : Current). with_read (lived t site life) read.object log) (λ t. refl) (λ t. refl)
       (λ t. life_added t.lives site life)
   granted_step d site life clock log (Append object view own) =
       alters d.count d.current (λ (t : Current). lived t site life) (λ t. refl) (λ t. refl)
@@ -69,7 +69,7 @@ module _ (decl : Declaration) where
   granted_step d site life clock log Prepare = stays d
 
   promised_step : (d : Account) (clock : ℕ) (w : Want) → Step d (promised d clock w)
-  promised_step d clock (Read object inv) = stays d
+  promised_step d clock (Read read) = stays d
   promised_step d clock (Append object view own) = stays d
   promised_step d clock Prepare = stays d
 

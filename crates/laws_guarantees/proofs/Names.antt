@@ -40,15 +40,15 @@ named_with d change same = by d.current
 
 granted_named : (d : Account) (site life clock : ℕ) (log : List Line) (want : Want)
     → name_of (granted d site life clock log want) ≡ name_of d
-granted_named d site life clock log (wants.Read object inv) =
-    named_with (record d { clock = max d.clock clock }) (λ (t : Current). with_read (lived t site life) object log)
+granted_named d site life clock log (wants.Read read) =
+    named_with (record d { clock = max d.clock clock }) (λ (t : Current). with_read (lived t site life) read.object log)
     (λ t. refl)
 granted_named d site life clock log (wants.Append object view own) =
     named_with (record d { clock = max d.clock clock }) (λ (t : Current). lived t site life) (λ t. refl)
 granted_named d site life clock log wants.Prepare = refl
 
 promised_named : (d : Account) (clock : ℕ) (want : Want) → name_of (promised d clock want) ≡ name_of d
-promised_named d clock (wants.Read object inv) = refl
+promised_named d clock (wants.Read read) = refl
 promised_named d clock (wants.Append object view own) = refl
 promised_named d clock wants.Prepare = refl
 

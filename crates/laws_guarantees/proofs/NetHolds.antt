@@ -115,7 +115,7 @@ module _ (decl : Declaration) (accepted : IsAccepted decl) where
   sorted_want : (net : Net) (from to : ℕ) (tx : TxId) (epoch life : ℕ) (want : Want) (m : Refines decl net)
       → Backed decl (state m.acts) net.mail from to (messages.Request tx epoch life want)
       → IsMessageSorted (messages.Request tx epoch life want)
-  sorted_want net from to tx epoch life (Read object inv) m b = tt
+  sorted_want net from to tx epoch life (Read read) m b = tt
   sorted_want net from to tx epoch life (Append object view own) m b = b.3.1
   sorted_want net from to tx epoch life Prepare m b = tt
 
@@ -128,7 +128,7 @@ module _ (decl : Declaration) (accepted : IsAccepted decl) where
   sorted_message net from to (messages.Inquiry tx) m calm b = tt
   sorted_message net from to (messages.Ask tx) m calm b = tt
   sorted_message net from to (messages.Close epoch) m calm b = tt
-  sorted_message net from to (messages.Install epoch clock log) m calm b = absurd calm
+  sorted_message net from to (messages.Install start) m calm b = absurd calm
 
   sorted_step : (net : Net) (a : ℕ) (s : SiteState) (g : Input) → IsCalm decl net → MayCome net a g → IsCalmGiven g
       → IsSiteSorted s → IsSiteSorted (site_takes decl s g).site

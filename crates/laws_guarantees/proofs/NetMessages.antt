@@ -16,6 +16,7 @@ use Rattle.laws_refinement.specs.Vocabulary.{IsRequest}
 use Rattle.laws_guarantees.proofs.SiteMoves.{EndsBy, IsFull}
 use Rattle.std.specs.Prelude.{MatchOption, option_map}
 use Rattle.qc_msg.specs.Vocabulary.{Requested, request_in}
+use Rattle.qc_msg.specs.Vocabulary.{grant_with}
 
 -- no actor is a site and a client
 pub both : (decl : Declaration) (a : ℕ) → is_site decl a ≡ true → is_client decl a ≡ true → ⊥
@@ -53,7 +54,7 @@ pub record IsGrantedBy (mail : List Envelope) (site : ℕ) (tx : TxId) : Type 0 
   pub life : ℕ
   pub clock : ℕ
   pub log : List Line
-  pub grants : answer.message ≡ messages.Answer number (answers.Granted life clock log)
+  pub grants : answer.message ≡ messages.Answer number (answers.Granted (grant_with life clock log))
   pub want : Want
   pub asked : IsRequest mail number site tx want
 

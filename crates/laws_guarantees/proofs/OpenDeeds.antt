@@ -74,7 +74,7 @@ transaction_one : (c : Client) (number to : ℕ) (message : Message)
 transaction_one c number to message = by (request_in message)
   where
     want : (w : Want) → (requested c number to w).front.transaction ≡ c.front.transaction
-    want (Read object inv) = refl
+    want (Read read) = refl
     want (Append object view own) = refl
     want Prepare = refl
 

@@ -253,7 +253,7 @@ module _ (decl : Declaration) (script : Script) (accepted : IsAccepted decl) (as
       by (messages.Inquiry tx) is never = absurd never
       by (messages.Ask tx) is never = absurd never
       by (messages.Close epoch) is never = absurd never
-      by (messages.Install epoch clock log) is never = absurd never
+      by (messages.Install start) is never = absurd never
 
   -- what is open at a site by the mail is open by its client's deeds, and so the begun one
   pub open_begun : (s : ℕ) (x : TxId) → is_open_at s x (mail h) ≡ true

@@ -17,6 +17,7 @@ use Rattle.qc_msg.specs.declared.step.Command.{Command}
 use Rattle.qc_msg.specs.declared.step.Command.TheVariants as commands
 use Rattle.qc_msg.specs.declared.step.Input.TheVariants as inputs
 use Rattle.qc_msg.specs.Vocabulary.{Deed, Sends, Takes}
+use Rattle.qc_msg.specs.Vocabulary.{read_of}
 use Rattle.qc_promise.specs.Vocabulary.{Account, Current, account_at, answer_of, carries, command_asks, is_asked_for}
 use Rattle.qc_promise.specs.Vocabulary.{is_of, new_account, next_own, own_appended, same_line, same_own, weighs}
 use Rattle.laws_due.specs.Vocabulary.{AreByRows, IsByRow}
@@ -63,12 +64,12 @@ module _ (decl : Declaration) where
       → IsNamedWant decl want × IsFull want
   asks_right d t site want None named is = absurd (let never : ⊥ = cc in never)
   asks_right d t site want (Some commands.Begin) named is = absurd (let never : ⊥ = cc in never)
-  asks_right d t site (Read o i) (Some (commands.Do object inv)) named is =
-      let both : ((o == object) && (i == inv)) ≡ true = and_first ((o == object) && (i == inv)) _ is in
-      let same : o ≡ object = eqb-true o object (and_first (o == object) (i == inv) both) in
-      let kin : i ≡ inv = eqb-true i inv (and_second (o == object) (i == inv) both) in (
-        subst (λ (x : ℕ). IsNamedWant decl (Read x i)) (sym same)
-            (subst (λ (x : ℕ). IsNamedWant decl (Read object x)) (sym kin) (named (commands.Do object inv) refl)),
+  asks_right d t site (Read read) (Some (commands.Do object inv)) named is =
+      let both : ((read.object == object) && (read.inv == inv)) ≡ true = and_first ((read.object == object) && (read.inv == inv)) _ is in
+      let same : read.object ≡ object = eqb-true read.object object (and_first (read.object == object) (read.inv == inv) both) in
+      let kin : read.inv ≡ inv = eqb-true read.inv inv (and_second (read.object == object) (read.inv == inv) both) in (
+        subst (λ (x : ℕ). IsNamedWant decl (Read (read_of x read.inv))) (sym same)
+            (subst (λ (x : ℕ). IsNamedWant decl (Read (read_of object x))) (sym kin) (named (commands.Do object inv) refl)),
         tt,
       )
   asks_right d t site (Append o view own) (Some (commands.Do object inv)) named is = (
@@ -78,7 +79,7 @@ module _ (decl : Declaration) where
         (and_first ((o == object) && carries decl t object view own (answer_of decl t object inv)) _ is)),
   )
   asks_right d t site Prepare (Some (commands.Do object inv)) named is = absurd (let never : ⊥ = cc in never)
-  asks_right d t site (Read o i) (Some commands.Commit) named is = absurd (let never : ⊥ = cc in never)
+  asks_right d t site (Read read) (Some commands.Commit) named is = absurd (let never : ⊥ = cc in never)
   asks_right d t site (Append o view own) (Some commands.Commit) named is = absurd (let never : ⊥ = cc in never)
   asks_right d t site Prepare (Some commands.Commit) named is = (tt, tt)
   asks_right d t site want (Some commands.Abort) named is = absurd (let never : ⊥ = cc in never)

@@ -46,7 +46,7 @@ use Rattle.laws_guarantees.proofs.NetHolds.{WasAsked, locks_asked, sites_sorted}
 -- each Read that was sent names what is declared
 
 abbrev pub IsNamedWant : Declaration → Want → Type 0
-IsNamedWant decl (Read object inv) = IsNamedAt decl object inv
+IsNamedWant decl (Read read) = IsNamedAt decl read.object read.inv
 IsNamedWant decl (Append object view own) = Unit {0}
 IsNamedWant decl Prepare = Unit {0}
 

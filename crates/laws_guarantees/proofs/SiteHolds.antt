@@ -17,6 +17,7 @@ use Rattle.qc_msg.specs.declared.step.Input.{Input}
 use Rattle.qc_msg.specs.declared.step.Input.TheVariants as inputs
 use Rattle.qc_msg.specs.declared.turn.Posting.{Posting}
 use Rattle.qc_msg.specs.Vocabulary.{envelopes}
+use Rattle.qc_msg.specs.Vocabulary.{grant_with}
 use Rattle.theory_machine.specs.Vocabulary.{state}
 use Rattle.qc_site.specs.Vocabulary.{SiteMove, SiteState, passed, site_at, site_takes}
 use Rattle.laws_refinement.specs.Vocabulary.{Backed, IsGrantTo, IsRequest, MayCome, Net, Refines, after_site}
@@ -50,7 +51,7 @@ module _ (decl : Declaration) (accepted : IsAccepted decl) where
       (want : Want) → AreFullMessages net.mail → ((e : Envelope) → In e net.mail → slice_get net.mail e.number ≡ Some e)
       → MayCome net a g
       → In p (site_takes decl (net.sites a) g).turn.sends
-      → p.message ≡ messages.Answer number (answers.Granted life clock log) → (more : List Envelope)
+      → p.message ≡ messages.Answer number (answers.Granted (grant_with life clock log)) → (more : List Envelope)
       → IsRequest (net.mail ++ more) number a tx want
       → ((n : ℕ) (e : Envelope) → slice_get net.mail n ≡ Some e → slice_get (net.mail ++ more) n ≡ Some e)
       → is_held (site_takes decl (net.sites a) g).site.held tx ≡ true
@@ -58,7 +59,7 @@ module _ (decl : Declaration) (accepted : IsAccepted decl) where
       by (answers_request g number first tx asked.epoch asked.life want asked_there)
     where
       first : IsAnswering g number
-      first = answers_inputs decl (net.sites a) g p number (answers.Granted life clock log) posted is
+      first = answers_inputs decl (net.sites a) g p number (answers.Granted (grant_with life clock log)) posted is
 
       first_here : In first.envelope net.mail
       first_here = (subst (MayCome net a) first.is came).0

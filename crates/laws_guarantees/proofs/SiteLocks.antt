@@ -16,6 +16,7 @@ use Rattle.qc_lock.proofs.Entries.{entry-without, held-without_other, locks_give
 use Rattle.qc_msg.specs.declared.message.Message.{Message}
 use Rattle.qc_msg.specs.declared.message.Message.TheVariants as messages
 use Rattle.qc_msg.specs.declared.message.Want.TheVariants.{Read}
+use Rattle.qc_msg.specs.Vocabulary.{read_of}
 use Rattle.qc_site.specs.Vocabulary.{SiteState, site_at}
 use Rattle.laws_atomic.proofs.FirstSites.{IsCalmMessage}
 use Rattle.qc_site.proofs.Cases.{state_cases}
@@ -73,7 +74,7 @@ drop_back held u tx x h = by (same_tx u tx) refl
     by false other = subst (λ (e : Held). In x e.locks) (held-without_other held u tx other) h
 
 abbrev pub Asks : Message → TxId → ReadLock → Type 0
-Asks m tx x = (epoch : ℕ) × (life : ℕ) × (m ≡ messages.Request tx epoch life (Read x.object x.inv))
+Asks m tx x = (epoch : ℕ) × (life : ℕ) × (m ≡ messages.Request tx epoch life (Read x))
 
 pub locks_were_asked : (decl : Declaration) (s : SiteState) (from number : ℕ) (m : Message) (tx : TxId) (x : ReadLock)
     → IsCalmMessage m → In x (held_of (site_at decl s from number m).site.held tx).locks
@@ -87,7 +88,7 @@ locks_were_asked decl s from number m tx x calm =
         epoch,
         life,
         elim new.1 [
-          | inl e ↦ same ∙ (λ i. messages.Request (new.0 i) epoch life (Read (sym e i).object (sym e i).inv))
+          | inl e ↦ same ∙ (λ i. messages.Request (new.0 i) epoch life (Read (read_of (sym e i).object (sym e i).inv)))
           | inr never ↦ absurd never
         ],
       )

@@ -26,7 +26,9 @@ use Rattle.qc_msg.specs.declared.turn.Posting.{Posting}
 use Rattle.qc_site.specs.Vocabulary.{SiteMove, SiteState, answers as answering_turn, clashing, closed_fault, fault_of}
 use Rattle.qc_site.specs.Vocabulary.{grants, is_final, is_prepared, moved, prepare_length, prepares, promise_of}
 use Rattle.qc_site.specs.Vocabulary.{promised, site_at, votes}
-use Rattle.qc_msg.specs.Vocabulary.{quiet, Granting, granted_in}
+use Rattle.qc_msg.specs.Vocabulary.{quiet, granted_in}
+use Rattle.qc_msg.specs.declared.payload.Grant.{Grant}
+use Rattle.qc_msg.specs.Vocabulary.{grant_with}
 use Rattle.qc_site.proofs.RequestCases.{append_cases, choose, fault_is, prepare_cases, read_cases, request_cases}
 use Rattle.qc_site.proofs.Cases.{state_cases}
 use Rattle.laws_atomic.proofs.FirstSites.{IsCalmMessage}
@@ -83,20 +85,20 @@ held_given held tx t locks own is = by (same_tx tx t) refl
 
 -- an Append has own lines
 abbrev pub IsFull : Want → Type 0
-IsFull (Read object inv) = Unit {0}
+IsFull (Read read) = Unit {0}
 IsFull (Append object view own) = 0 < length own
 IsFull Prepare = Unit {0}
 
 abbrev IsNoGrant : Answer → Type 0
-IsNoGrant answer = MatchOption (granted_in answer) (Unit {0}) (λ (g : Granting). ⊥)
+IsNoGrant answer = MatchOption (granted_in answer) (Unit {0}) (λ (g : Grant). ⊥)
 
 abbrev HoldsGranted : TxId → SiteMove → Type 0
 HoldsGranted tx m =
     (p : Posting) (k life clock : ℕ) (log : List Line) → In p m.turn.sends
-    → p.message ≡ messages.Answer k (answers.Granted life clock log) → is_held m.site.held tx ≡ true
+    → p.message ≡ messages.Answer k (answers.Granted (grant_with life clock log)) → is_held m.site.held tx ≡ true
 
 no_grant : (tx : TxId) (number : ℕ) (m : SiteMove) → Says number IsNoGrant m → HoldsGranted tx m
-no_grant tx number m says p k life clock log among is = absurd (says p k (answers.Granted life clock log) among is).1
+no_grant tx number m says p k life clock log among is = absurd (says p k (answers.Granted (grant_with life clock log)) among is).1
 
 pub granted_is_held : (decl : Declaration) (s : SiteState) (from number : ℕ) (tx : TxId) (epoch life : ℕ) (want : Want)
     → IsFull want → HoldsGranted tx (site_at decl s from number (messages.Request tx epoch life want))
@@ -116,8 +118,8 @@ granted_is_held decl s from number tx epoch life want full =
         at true is = absurd (let none : length (o ∷ os) ≡ 0 = eqb-true (length (o ∷ os)) 0 is in omega arith)
 
     by : (w : Want) → IsFull w → HoldsGranted tx (grants decl s from number tx w)
-    by (Read object inv) full = read_cases (HoldsGranted tx) decl s from number tx object inv
-        (λ free p k life clock log among is. given_now s.held tx (record { object = object; inv = inv } ∷ []) [] refl)
+    by (Read read) full = read_cases (HoldsGranted tx) decl s from number tx read.object read.inv
+        (λ free p k life clock log among is. given_now s.held tx (record { object = read.object; inv = read.inv } ∷ []) [] refl)
         (λ c clash. no_grant tx number (moved s (clashing decl from number c))
         (says_clash IsNoGrant decl (moved s (clashing decl from number c)) from number c refl tt))
     by (Append object view own) full = append_cases (HoldsGranted tx) decl s from number tx object view own

@@ -74,7 +74,7 @@ module _ (s : ℕ) (x : TxId) where
 
   -- requests
 
-  asks_from : (b : Begun) (w : Transaction) (want : Want) (sites : List ℕ) → w.begun.tx ≡ b.tx
+  asks_from : (b : Begun) (w : Transaction) (want : ℕ → Want) (sites : List ℕ) → w.begun.tx ≡ b.tx
       → ((site : ℕ) → In site sites → In site w.begun.asked)
       → (before : Bool) → (before ≡ true → HasAsked s x (Some w))
       → open_posted s x before (map (request_of b want) sites) ≡ true → HasAsked s x (Some w)
@@ -88,7 +88,7 @@ module _ (s : ℕ) (x : TxId) where
       one false other now = has now
       one true here now = by (same_tx b.tx x) refl now
         where
-          by : (t : Bool) → same_tx b.tx x ≡ t → cond (t && asks_to_hold want) true before ≡ true
+          by : (t : Bool) → same_tx b.tx x ≡ t → cond (t && asks_to_hold (want site)) true before ≡ true
               → HasAsked s x (Some w)
           by true same held =
               record {
@@ -100,7 +100,7 @@ module _ (s : ℕ) (x : TxId) where
           by false other held = has held
 
   -- the round's requests go to sites that the transaction knows
-  pub asks : (t u : Transaction) (want : Want) (sites : List ℕ) → u.begun.tx ≡ t.begun.tx
+  pub asks : (t u : Transaction) (want : ℕ → Want) (sites : List ℕ) → u.begun.tx ≡ t.begun.tx
       → u.begun.asked ≡ t.begun.asked
       → Keeps (Some t) (Some (with_asked u sites)) (map (request_of u.begun want) sites)
   asks t u want sites tx asked before has is =

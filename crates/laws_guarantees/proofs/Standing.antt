@@ -45,7 +45,7 @@ undecided tx (messages.Decision t verdict) none = by (same_tx t tx) refl (is_fin
 undecided tx (messages.Inquiry t) none = refl
 undecided tx (messages.Ask t) none = refl
 undecided tx (messages.Close epoch) none = refl
-undecided tx (messages.Install epoch clock log) none = refl
+undecided tx (messages.Install start) none = refl
 
 pub not_ended : (tx : TxId) (ds : List Deed)
     → ((e : Envelope) (verdict : Outcome) → In (Takes (inputs.Got e)) ds → e.message ≡ messages.Decision tx verdict
@@ -132,7 +132,7 @@ was_taken (d ∷ ds) g among = elim (in_split g (option_map_or (standing_by ds) 
 -- what stands is held
 
 abbrev pub own_wanted : Want → List OwnLine
-own_wanted (Read object inv) = []
+own_wanted (Read read) = []
 own_wanted (Append object view own) = own
 own_wanted Prepare = []
 
@@ -144,8 +144,8 @@ Agrees gs tx x =
 holding_keeps : (held : List Held) (u : TxId) (w : Want) (tx : TxId) (x : Item)
     → ((o l : OwnLine) → x ≡ Own o → u ≡ tx → In l (own_wanted w) → o.op ≡ l.op → o ≡ l) → IsHeld (held_of held tx) x
     → IsHeld (held_of (holding held u w) tx) x
-holding_keeps held u (Read object inv) tx x agree h =
-    given_keeps held u tx (record { object = object; inv = inv } ∷ []) [] x (λ o l is same never. absurd never) h
+holding_keeps held u (Read read) tx x agree h =
+    given_keeps held u tx (record { object = read.object; inv = read.inv } ∷ []) [] x (λ o l is same never. absurd never) h
 holding_keeps held u (Append object view own) tx x agree h = given_keeps held u tx [] own x agree h
 holding_keeps held u Prepare tx x agree h = h
 
@@ -157,16 +157,16 @@ kept (g ∷ gs) held tx x agree h =
     (holding_keeps held g.tx g.want tx x (λ o l is. agree o l g is (inl refl)) h)
 
 abbrev pub IsWanted : Want → Item → Type 0
-IsWanted (Read object inv) x = x ≡ Lock (record { object = object; inv = inv })
+IsWanted (Read read) x = x ≡ Lock (record { object = read.object; inv = read.inv })
 IsWanted (Append object view own) x = (o : OwnLine) × (x ≡ Own o) × In o own
 IsWanted Prepare x = ⊥
 
 holding_has : (held : List Held) (tx : TxId) (w : Want) (x : Item)
     → ((o l : OwnLine) → x ≡ Own o → In l (own_wanted w) → o.op ≡ l.op → o ≡ l) → IsWanted w x
     → IsHeld (held_of (holding held tx w) tx) x
-holding_has held tx (Read object inv) x agree is =
-    subst (λ (y : Item). IsHeld (held_of (with_held held tx (record { object = object; inv = inv } ∷ []) []) tx) y)
-    (sym is) (lock_given_here held tx (record { object = object; inv = inv }))
+holding_has held tx (Read read) x agree is =
+    subst (λ (y : Item). IsHeld (held_of (with_held held tx (record { object = read.object; inv = read.inv } ∷ []) []) tx) y)
+    (sym is) (lock_given_here held tx (record { object = read.object; inv = read.inv }))
 holding_has held tx (Append object view own) x agree is =
     subst (λ (y : Item). IsHeld (held_of (with_held held tx [] own) tx) y) (sym is.1)
     (own_given_here held tx own is.0 (λ l among. agree is.0 l is.1 among) is.2)

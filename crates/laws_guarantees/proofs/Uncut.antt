@@ -92,7 +92,7 @@ module _ (decl : Declaration) where
       request_cases HasNoCut decl s from number tx epoch life want refl (λ fault is. refl) (λ is. by want)
     where
       by : (w : Want) → HasNoCut (grants decl s from number tx w)
-      by (Read object inv) = read_cases HasNoCut decl s from number tx object inv (λ free. refl) (λ c clash. refl)
+      by (Read read) = read_cases HasNoCut decl s from number tx read.object read.inv (λ free. refl) (λ c clash. refl)
       by (Append object view own) = append_cases HasNoCut decl s from number tx object view own (λ free. refl)
           (λ c clash. refl)
       by Prepare = prepare_cases HasNoCut s from number tx refl (λ held stands. refl) (λ held made. refl)
@@ -143,9 +143,9 @@ module _ (decl : Declaration) where
   deed_uncut d (Writes (records.Prepare prepared)) after steady due = absurd due
   deed_uncut d (Writes (records.Done tx clock)) after steady due = absurd due
   deed_uncut d (Writes (records.Close epoch)) after steady due = absurd due
-  deed_uncut d (Writes (records.Install epoch clock lines)) after steady due = absurd due
+  deed_uncut d (Writes (records.Install start)) after steady due = absurd due
   deed_uncut d (Writes (records.Commit commit)) after steady due = refl
-  deed_uncut d (Writes (records.Decide epoch clock lines)) after steady due = absurd due
+  deed_uncut d (Writes (records.Decide start)) after steady due = absurd due
   deed_uncut d (Sends number to message) after steady due = refl
   deed_uncut d (Tells reply) after steady due = refl
   deed_uncut d (Falls cause pending) after steady due = absurd steady

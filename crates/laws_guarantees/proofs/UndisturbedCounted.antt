@@ -16,7 +16,8 @@ use Rattle.qc_msg.specs.declared.message.Message.{Message}
 use Rattle.qc_msg.specs.declared.message.Message.TheVariants as messages
 use Rattle.qc_msg.specs.declared.message.Want.{Want}
 use Rattle.qc_msg.specs.declared.message.Want.TheVariants.{Append, Prepare, Read}
-use Rattle.qc_msg.specs.Vocabulary.{Entry, by, deeds, mail, Clashing, Granting, clash_in, granted_in}
+use Rattle.qc_msg.specs.Vocabulary.{Entry, by, deeds, mail, Clashing, clash_in, granted_in}
+use Rattle.qc_msg.specs.declared.payload.Grant.{Grant}
 use Rattle.qc_script.specs.Vocabulary.{Runs}
 use Rattle.qc_script.specs.declared.script.Script.{Script}
 use Rattle.laws_turns.specs.Vocabulary.{AsksDeclared}
@@ -64,10 +65,10 @@ fits_moved ms answer tx u e f l k w v same fit =
 
 abbrev pub GoodHold : Declaration → ℕ → List Entry → Answer → Type 0
 GoodHold decl a h answer = MatchOption (granted_in answer)
-    (MatchOption (clash_in answer) ⊥ (λ (c : Clashing). IsElsewhere decl a h c.holder)) (λ (g : Granting). Unit {0})
+    (MatchOption (clash_in answer) ⊥ (λ (c : Clashing). IsElsewhere decl a h c.holder)) (λ (g : Grant). Unit {0})
 
 abbrev pub GoodAnswer : Declaration → ℕ → List Entry → Want → Answer → Type 0
-GoodAnswer decl a h (Read object inv) answer = GoodHold decl a h answer
+GoodAnswer decl a h (Read read) answer = GoodHold decl a h answer
 GoodAnswer decl a h (Append object view own) answer = GoodHold decl a h answer
 GoodAnswer decl a h Prepare answer = FitsPromise answer
 
@@ -115,11 +116,11 @@ module _ (decl : Declaration) (script : Script) (accepted : IsAccepted decl) (as
       → GoodHold decl a h answer
   hold_good answer = by (granted_in answer) (clash_in answer)
     where
-      by : (g : Option Granting) (c : Option Clashing) → MatchOption g (MatchOption c ⊥ (λ (c : Clashing).
+      by : (g : Option Grant) (c : Option Clashing) → MatchOption g (MatchOption c ⊥ (λ (c : Clashing).
           (is_open c.holder (sent_before q.site q.number (mail h)) ≡ true) × (same_tx c.holder sent.0.tx ≡ false)))
-          (λ (g : Granting). Unit {0})
+          (λ (g : Grant). Unit {0})
           → MatchOption g (MatchOption c ⊥ (λ (c : Clashing). IsElsewhere decl a h c.holder))
-          (λ (g : Granting). Unit {0})
+          (λ (g : Grant). Unit {0})
       by (Some g) c fit = tt
       by None None never = never
       by None (Some c) fit =
@@ -135,7 +136,7 @@ module _ (decl : Declaration) (script : Script) (accepted : IsAccepted decl) (as
 
   want_good : (want : Want) (answer : Answer) → Fits (sent_before q.site q.number (mail h)) sent.0.tx want answer
       → GoodAnswer decl a h want answer
-  want_good (Read object inv) answer fit = hold_good answer fit
+  want_good (Read read) answer fit = hold_good answer fit
   want_good (Append object view own) answer fit = hold_good answer fit
   want_good Prepare answer fit = fit
 

@@ -59,8 +59,8 @@ module _ (decl : Declaration) (d : Account) (c : Client) (q : ClientRequest) (k 
   -- its client waits for votes
   pub voting_tie : Ties decl d c → Votes decl d c
   voting_tie (rests r) = absurd (subst (λ (qs : List ClientRequest). In q qs) r.requests k.among)
-  voting_tie (reads r) = absurd (let read : q.want ≡ Read r.object r.inv =
-      every-In (λ (x : ClientRequest). x.want ≡ Read r.object r.inv) q d.requests r.reads k.among in
+  voting_tie (reads r) = absurd (let read : q.want ≡ Read r =
+      every-In (λ (x : ClientRequest). x.want ≡ Read r) q d.requests r.reads k.among in
       let p : q.want ≡ Prepare = k.want in let never : ⊥ = cc in never)
   voting_tie (appends r) = absurd (
       let half : is_append q.want ≡ true = every-In (IsOpenIn is_append) q d.requests r.appends k.among

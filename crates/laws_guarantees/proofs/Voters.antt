@@ -40,16 +40,16 @@ module _ (decl : Declaration) where
 
   do_next : (half : Want → Bool) → IsHalf half → (d : Account) (t : Current) (object inv site : ℕ) (want : Want)
       → half want ≡ true → do_asks decl d t object inv site want ≡ true → is_left_first decl d t half site ≡ true
-  do_next half of_reads d t object inv site (Read o i) its is =
+  do_next half of_reads d t object inv site (Read read) its is =
       left_first d t is_read (read_need_of decl t.epoch object inv) site
       (first_of_two (is_next_voter decl d t is_read (read_need_of decl t.epoch object inv) site)
       (length (requests_for is_append d) == 0)
-      (second_of_two ((o == object) && (i == inv))
+      (second_of_two ((read.object == object) && (read.inv == inv))
       (is_next_voter decl d t is_read (read_need_of decl t.epoch object inv) site
       && (length (requests_for is_append d) == 0)) is))
   do_next half of_reads d t object inv site (Append o view own) its is = absurd (let never : ⊥ = cc in never)
   do_next half of_reads d t object inv site Prepare its is = absurd (let never : ⊥ = cc in never)
-  do_next half of_appends d t object inv site (Read o i) its is = absurd (let never : ⊥ = cc in never)
+  do_next half of_appends d t object inv site (Read read) its is = absurd (let never : ⊥ = cc in never)
   do_next half of_appends d t object inv site (Append o view own) its is =
       left_first d t is_append (append_need decl t object inv) site
       (first_of_two (is_next_voter decl d t is_append (append_need decl t object inv) site)
@@ -70,10 +70,10 @@ module _ (decl : Declaration) where
     where
       none : (half : Want → Bool) → IsHalf half → (want : Want) → half want ≡ true
           → commit_asks decl d t site want ≡ true → is_left_first decl d t half site ≡ true
-      none half of_reads (Read o i) its now = absurd (let never : ⊥ = cc in never)
+      none half of_reads (Read read) its now = absurd (let never : ⊥ = cc in never)
       none half of_reads (Append o view own) its now = absurd (let never : ⊥ = cc in never)
       none half of_reads Prepare its now = absurd (let never : ⊥ = cc in never)
-      none half of_appends (Read o i) its now = absurd (let never : ⊥ = cc in never)
+      none half of_appends (Read read) its now = absurd (let never : ⊥ = cc in never)
       none half of_appends (Append o view own) its now = absurd (let never : ⊥ = cc in never)
       none half of_appends Prepare its now = absurd (let never : ⊥ = cc in never)
   command_next half is_half d t site want (Some commands.Abort) its is = absurd (let never : ⊥ = cc in never)

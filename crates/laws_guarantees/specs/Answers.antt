@@ -13,18 +13,19 @@ use Rattle.qc_stamp.specs.Vocabulary.{same_tx}
 use Rattle.qc_stamp.specs.declared.stamp.TxId.{TxId}
 use Rattle.laws_guarantees.specs.Arrives.{sent_to}
 use Rattle.laws_guarantees.specs.Open.{is_open}
-use Rattle.qc_msg.specs.Vocabulary.{Answered, Clashing, Granting, answer_in, clash_in, granted_in}
+use Rattle.qc_msg.specs.Vocabulary.{Answered, Clashing, answer_in, clash_in, granted_in}
+use Rattle.qc_msg.specs.declared.payload.Grant.{Grant}
 
 -- a Read or an Append is granted, or another transaction is in the way that these messages left open
 abbrev pub FitsHold : List Envelope → TxId → Answer → Type 0
 FitsHold ms tx answer =
     MatchOption (granted_in answer)
     (MatchOption (clash_in answer) ⊥ (λ (c : Clashing). (is_open c.holder ms ≡ true) × (same_tx c.holder tx ≡ false)))
-    (λ (x : Granting). Unit {0})
+    (λ (x : Grant). Unit {0})
 
 -- a Prepare is answered by a promise, or nothing can be promised
 abbrev pub FitsPromise : Answer → Type 0
-FitsPromise (answers.Granted life clock log) = ⊥
+FitsPromise (answers.Granted grant) = ⊥
 FitsPromise (answers.Clash holder inv event) = ⊥
 FitsPromise (answers.Closed epoch) = ⊥
 FitsPromise (answers.Behind epoch) = ⊥
@@ -32,12 +33,12 @@ FitsPromise (answers.Restarted life) = ⊥
 FitsPromise answers.Stale = Unit {0}
 FitsPromise answers.Fault = ⊥
 FitsPromise (answers.Yes clock) = Unit {0}
-FitsPromise (answers.Shut clock log prepared) = ⊥
+FitsPromise (answers.Shut snapshot) = ⊥
 FitsPromise answers.Installed = ⊥
 FitsPromise (answers.Answered verdict) = ⊥
 
 abbrev pub Fits : List Envelope → TxId → Want → Answer → Type 0
-Fits ms tx (Read object inv) answer = FitsHold ms tx answer
+Fits ms tx (Read read) answer = FitsHold ms tx answer
 Fits ms tx (Append object view own) answer = FitsHold ms tx answer
 Fits ms tx Prepare answer = FitsPromise answer
 

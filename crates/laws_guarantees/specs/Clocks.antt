@@ -8,25 +8,26 @@ use Rattle.qc_msg.specs.declared.message.Message.TheVariants.{Answer}
 use Rattle.qc_msg.specs.declared.message.Want.{Want}
 use Rattle.qc_msg.specs.declared.message.Want.TheVariants.{Read, Append, Prepare}
 use Rattle.qc_msg.specs.declared.step.Input.TheVariants.{Got}
-use Rattle.qc_msg.specs.Vocabulary.{Deed, Takes, Granting, granted_in, promised_in}
+use Rattle.qc_msg.specs.Vocabulary.{Deed, Takes, granted_in, promised_in}
+use Rattle.qc_msg.specs.declared.payload.Grant.{Grant}
 use Rattle.qc_promise.specs.Vocabulary.{ClientRequest, account_at, is_open, new_account}
 
 -- a grant of a Read or an Append, or a promise, tells this clock
 
 abbrev pub GrantTells : ℕ → ℕ → Want → Type 0
-GrantTells clock told (Read object inv) = told ≡ clock
+GrantTells clock told (Read read) = told ≡ clock
 GrantTells clock told (Append object view own) = told ≡ clock
 GrantTells clock told Prepare = ⊥
 
 abbrev pub PromiseTells : ℕ → ℕ → Want → Type 0
-PromiseTells clock told (Read object inv) = ⊥
+PromiseTells clock told (Read read) = ⊥
 PromiseTells clock told (Append object view own) = ⊥
 PromiseTells clock told Prepare = told ≡ clock
 
 abbrev pub Tells : ℕ → Want → AnswerKind → Type 0
 Tells clock want answer =
     MatchOption (granted_in answer) (MatchOption (promised_in answer) ⊥ (λ (told : ℕ). PromiseTells clock told want))
-    (λ (g : Granting). GrantTells clock g.clock want)
+    (λ (g : Grant). GrantTells clock g.clock want)
 
 -- among the deeds of this client it took an answer with this clock, for a request that was open then
 pub record IsCounted (decl : Declaration) (client : ℕ) (ds : List Deed) (clock : ℕ) : Type 0 where

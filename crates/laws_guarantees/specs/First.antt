@@ -11,7 +11,7 @@ use Rattle.qc_stamp.specs.Vocabulary.{first_life}
 
 -- no request is refused for its epoch or its life, and each promise is written
 abbrev pub IsFirstAnswer : Answer → Type 0
-IsFirstAnswer (answers.Granted life clock log) = life ≡ first_life
+IsFirstAnswer (answers.Granted grant) = grant.life ≡ first_life
 IsFirstAnswer (answers.Clash holder inv event) = Unit {0}
 IsFirstAnswer (answers.Closed epoch) = ⊥
 IsFirstAnswer (answers.Behind epoch) = ⊥
@@ -19,7 +19,7 @@ IsFirstAnswer (answers.Restarted life) = ⊥
 IsFirstAnswer answers.Stale = Unit {0}
 IsFirstAnswer answers.Fault = ⊥
 IsFirstAnswer (answers.Yes clock) = Unit {0}
-IsFirstAnswer (answers.Shut clock log prepared) = ⊥
+IsFirstAnswer (answers.Shut snapshot) = ⊥
 IsFirstAnswer answers.Installed = ⊥
 IsFirstAnswer (answers.Answered verdict) = ⊥
 
@@ -31,7 +31,7 @@ IsFirst (messages.Decision tx verdict) = Unit {0}
 IsFirst (messages.Inquiry tx) = Unit {0}
 IsFirst (messages.Ask tx) = ⊥
 IsFirst (messages.Close epoch) = ⊥
-IsFirst (messages.Install epoch clock log) = ⊥
+IsFirst (messages.Install start) = ⊥
 
 abbrev pub AreFirst : List Envelope → Type 0
 AreFirst ms = Every (λ (e : Envelope). IsFirst e.message) ms

@@ -30,6 +30,6 @@ pub record IsGrantedSince (ds : List Deed) (tx : TxId) (want : Want) : Type 0 wh
 
 -- what a transaction holds has what the request wants: the lock of a Read, the own lines of an Append
 abbrev pub HasWanted : Held → Want → Type 0
-HasWanted held (Read object inv) = In (record { object = object; inv = inv }) held.locks
+HasWanted held (Read read) = In (record { object = read.object; inv = read.inv }) held.locks
 HasWanted held (Append object view own) = (o : OwnLine) → In o own → In o held.own
 HasWanted held Prepare = Unit {0}

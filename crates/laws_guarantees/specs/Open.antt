@@ -14,7 +14,7 @@ use Rattle.qc_msg.specs.Vocabulary.{Decided, Requested, decision_in, request_in}
 
 -- what is granted to a Read or an Append is held; a Prepare asks for nothing more
 abbrev pub asks_to_hold : Want → Bool
-asks_to_hold (Read object inv) = true
+asks_to_hold (Read read) = true
 asks_to_hold (Append object view own) = true
 asks_to_hold Prepare = false
 

@@ -17,6 +17,7 @@ ghost use Rattle.qc_msg.specs.declared.message.Want.TheVariants.{Read};
 ghost use Rattle.qc_msg.specs.Counts.{written};
 ghost use Rattle.qc_msg.specs.Deeds.{deeds, mail};
 ghost use Rattle.qc_msg.specs.Steps.{Entry};
+ghost use Rattle.qc_msg.specs.Payloads.{grant_with, read_of};
 ghost use Rattle.theory_onecopy.specs.Logged.{IsClosedLog};
 ghost use Rattle.qc_promise.specs.SiteHeld.{held_shown};
 ghost use Rattle.qc_script.specs.Runs.{Runs};
@@ -42,7 +43,7 @@ pub fn granted_logs_are_closed()
     ensures { (decl : Declaration) (script : Script) (h : List Entry) (open_inputs : List Bool)
         (request answer : Envelope) (tx : TxId) (number epoch named object inv life clock : ℕ) (log : List Line)
         → IsAccepted decl → IsScriptFor decl script → Runs (IsLawful decl) decl script h open_inputs
-        → slice_get (mail h) number ≡ Some request → request.message ≡ Request tx epoch named (Read object inv)
-        → In answer (mail h) → answer.message ≡ Answer number (Granted life clock log)
+        → slice_get (mail h) number ≡ Some request → request.message ≡ Request tx epoch named (Read (read_of object inv))
+        → In answer (mail h) → answer.message ≡ Answer number (Granted (grant_with life clock log))
         → IsClosedLog decl (written h) log }
 {}

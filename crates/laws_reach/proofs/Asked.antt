@@ -52,7 +52,7 @@ module _ (decl : Declaration) (script : Script) (named : AreNamed decl script) (
   answered i (messages.Inquiry tx) f are = are
   answered i (messages.Ask tx) f are = are
   answered i (messages.Close epoch) f are = are
-  answered i (messages.Install epoch clock log) f are = are
+  answered i (messages.Install start) f are = are
 
   sent : (i : Inbox) (e : Envelope) → AskedNamed i
       → AskedNamed (boxes.goes script.links a (boxes.comes script.links a i e) e)

@@ -60,7 +60,7 @@ module _ (decl : Declaration) (B : TxId → Type 0) where
   no_inquiry to (messages.Inquiry tx) none = absurd none
   no_inquiry to (messages.Ask tx) none = tt
   no_inquiry to (messages.Close epoch) none = tt
-  no_inquiry to (messages.Install epoch clock log) none = tt
+  no_inquiry to (messages.Install start) none = tt
 
   none_about : (ps : List Posting) → NoInquiries ps → AreAbout decl B ps
   none_about ps none = every-weaker (λ (p : Posting). IsNoInquiry p.message)
@@ -88,7 +88,7 @@ module _ (decl : Declaration) (B : TxId → Type 0) where
   admin_no_inquiry to (messages.Inquiry tx) is = absurd is
   admin_no_inquiry to (messages.Ask tx) is = tt
   admin_no_inquiry to (messages.Close epoch) is = tt
-  admin_no_inquiry to (messages.Install epoch clock log) is = tt
+  admin_no_inquiry to (messages.Install start) is = tt
 
   no_promise : (w : Option Record) → WritesDecision w → Every (PromisesFor decl B) (option_to_list w)
   no_promise None is = tt
@@ -96,9 +96,9 @@ module _ (decl : Declaration) (B : TxId → Type 0) where
   no_promise (Some (records.Prepare p)) is = absurd is
   no_promise (Some (records.Done tx clock)) is = absurd is
   no_promise (Some (records.Close epoch)) is = absurd is
-  no_promise (Some (records.Install epoch clock lines)) is = absurd is
+  no_promise (Some (records.Install start)) is = absurd is
   no_promise (Some (records.Commit commit)) is = absurd is
-  no_promise (Some (records.Decide epoch clock lines)) is = (tt, tt)
+  no_promise (Some (records.Decide start)) is = (tt, tt)
 
   admin_asks : (m : Admin) (g : Input) → TurnAsks decl B (admin_takes decl m g).turn
   admin_asks m g =

@@ -114,18 +114,18 @@ module _ (decl : Declaration) (c : CommitRecord) where
   IsCommitRecord (Prepare prepared) = ⊥
   IsCommitRecord (Done tx clock) = ⊥
   IsCommitRecord (Close epoch) = ⊥
-  IsCommitRecord (Install epoch clock lines) = ⊥
+  IsCommitRecord (Install start) = ⊥
   IsCommitRecord (Commit commit) = Unit {0}
-  IsCommitRecord (Decide epoch clock lines) = ⊥
+  IsCommitRecord (Decide start) = ⊥
 
   abbrev pub commit_or : Record → CommitRecord
   commit_or Life = c
   commit_or (Prepare prepared) = c
   commit_or (Done tx clock) = c
   commit_or (Close epoch) = c
-  commit_or (Install epoch clock lines) = c
+  commit_or (Install start) = c
   commit_or (Commit commit) = commit
-  commit_or (Decide epoch clock lines) = c
+  commit_or (Decide start) = c
 
   -- the record of the account has its transaction's operations
   pub recorded : (off : Bool) (d : Account) (x : Dealing) (stamp : Stamp) (o : Option Current) → d.current ≡ o
@@ -206,9 +206,9 @@ module _ (decl : Declaration) (c : CommitRecord) where
   wrote p q d x j (Prepare prepared) after place its s = absurd its
   wrote p q d x j (Done tx clock) after place its s = absurd its
   wrote p q d x j (Close epoch) after place its s = absurd its
-  wrote p q d x j (Install epoch clock lines) after place its s = absurd its
+  wrote p q d x j (Install start) after place its s = absurd its
   wrote p q d x j (Commit commit) after place its s = writes_commit p q d x j commit after place its s
-  wrote p q d x j (Decide epoch clock lines) after place its s = absurd its
+  wrote p q d x j (Decide start) after place its s = absurd its
 
   -- a message is sent
   pub sent : (p q : Place) (d : Account) (x : Dealing) (j : Journal) (number to : ℕ) (m : Message) (after : List Deed)

@@ -67,7 +67,7 @@ request_asks name (messages.Decision other verdict) never = absurd never
 request_asks name (messages.Inquiry other) never = absurd never
 request_asks name (messages.Ask other) never = absurd never
 request_asks name (messages.Close epoch) never = absurd never
-request_asks name (messages.Install epoch clock log) never = absurd never
+request_asks name (messages.Install start) never = absurd never
 
 requests_ask : (name : Option TxId) (ps : List Posting) → Every (λ (p : Posting). IsRequestFor name p.message) ps
     → NoInquiries ps
@@ -206,8 +206,8 @@ module _ (decl : Declaration) (c : Client) where
       still (heard decl c from number (messages.Inquiry other)).turn refl refl (tt, tt)
   hears from number (messages.Ask other) = still (heard decl c from number (messages.Ask other)).turn refl refl (tt, tt)
   hears from number (messages.Close epoch) = still (heard decl c from number (messages.Close epoch)).turn refl refl tt
-  hears from number (messages.Install epoch clock log) =
-      still (heard decl c from number (messages.Install epoch clock log)).turn refl refl tt
+  hears from number (messages.Install start) =
+      still (heard decl c from number (messages.Install start)).turn refl refl tt
 
   pub input_changes : (g : Input) → Changes (page_of c) (page_of (client_takes decl c g).client)
       (client_takes decl c g).turn
@@ -218,7 +218,7 @@ module _ (decl : Declaration) (c : Client) where
 -- the numbers of its messages change nothing of it
 
 page_one : (c : Client) (number to : ℕ) (message : Message) → page_of (sent_one c number to message) ≡ page_of c
-page_one c number to (messages.Request other epoch life (Read object inv)) = refl
+page_one c number to (messages.Request other epoch life (Read read)) = refl
 page_one c number to (messages.Request other epoch life (Append object view own)) = refl
 page_one c number to (messages.Request other epoch life Prepare) = by c.desk.voting where
   by : (o : Option Voting) → page_of (record c { desk = desks.prepared_in c.desk o number to }) ≡ page_of c
@@ -229,7 +229,7 @@ page_one c number to (messages.Decision other verdict) = refl
 page_one c number to (messages.Inquiry other) = refl
 page_one c number to (messages.Ask other) = refl
 page_one c number to (messages.Close epoch) = refl
-page_one c number to (messages.Install epoch clock log) = refl
+page_one c number to (messages.Install start) = refl
 
 pub page_posts : (decl : Declaration) (m : ClientMove) (ds : List Deed) → Every IsPost ds
     → page_of (fold (client_does decl) m ds).client ≡ page_of m.client

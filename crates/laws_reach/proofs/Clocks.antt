@@ -103,8 +103,8 @@ module _ (decl : Declaration) (c : Client) where
   hears from number (messages.Inquiry other) = still (heard decl c from number (messages.Inquiry other)).turn refl
   hears from number (messages.Ask other) = still (heard decl c from number (messages.Ask other)).turn refl
   hears from number (messages.Close epoch) = still (heard decl c from number (messages.Close epoch)).turn refl
-  hears from number (messages.Install epoch clock log) =
-      still (heard decl c from number (messages.Install epoch clock log)).turn refl
+  hears from number (messages.Install start) =
+      still (heard decl c from number (messages.Install start)).turn refl
 
   pub takes_stamps : (g : Input) → Stamps c (client_takes decl c g)
   takes_stamps (inputs.Called command) = calls command
@@ -115,7 +115,7 @@ module _ (decl : Declaration) (c : Client) where
 
 clock_one : (c : Client) (number to : ℕ) (message : Message)
     → (sent_one c number to message).desk.clock.value ≡ c.desk.clock.value
-clock_one c number to (messages.Request other epoch life (Read object inv)) = refl
+clock_one c number to (messages.Request other epoch life (Read read)) = refl
 clock_one c number to (messages.Request other epoch life (Append object view own)) = refl
 clock_one c number to (messages.Request other epoch life Prepare) = by c.desk.voting where
   by : (o : Option Voting) → (desks.prepared_in c.desk o number to).clock.value ≡ c.desk.clock.value
@@ -126,7 +126,7 @@ clock_one c number to (messages.Decision other verdict) = refl
 clock_one c number to (messages.Inquiry other) = refl
 clock_one c number to (messages.Ask other) = refl
 clock_one c number to (messages.Close epoch) = refl
-clock_one c number to (messages.Install epoch clock log) = refl
+clock_one c number to (messages.Install start) = refl
 
 pub clock_posts : (decl : Declaration) (m : ClientMove) (ds : List Deed) → Every IsPost ds
     → (fold (client_does decl) m ds).client.desk.clock.value ≡ m.client.desk.clock.value

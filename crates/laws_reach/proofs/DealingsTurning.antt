@@ -143,9 +143,9 @@ IsCommitOption (Some Life) = ⊥
 IsCommitOption (Some (Prepare prepared)) = Unit {0}
 IsCommitOption (Some (Done tx clock)) = Unit {0}
 IsCommitOption (Some (Close epoch)) = Unit {0}
-IsCommitOption (Some (Install epoch clock lines)) = Unit {0}
+IsCommitOption (Some (Install start)) = Unit {0}
 IsCommitOption (Some (Commit commit)) = Unit {0}
-IsCommitOption (Some (Decide epoch clock lines)) = Unit {0}
+IsCommitOption (Some (Decide start)) = Unit {0}
 
 abbrev NoneTo : Place → Fall → Option Record → Type 0
 NoneTo p cause pending = (c : CommitRecord) (after : List Deed) → pending ≡ Some (Commit c)
@@ -197,54 +197,54 @@ risen_stops Life = (refl, (refl, life_to Rising causes.Stop))
 risen_stops (Prepare prepared) = tt
 risen_stops (Done tx clock) = tt
 risen_stops (Close epoch) = tt
-risen_stops (Install epoch clock lines) = tt
+risen_stops (Install start) = tt
 risen_stops (Commit commit) = tt
-risen_stops (Decide epoch clock lines) = tt
+risen_stops (Decide start) = tt
 
 risen_fails : (r : Record) → FellTo Rising causes.Disk (Some r) (falls_at false Rising causes.Disk (Some r))
 risen_fails Life = (refl, (refl, life_to Rising causes.Disk))
 risen_fails (Prepare prepared) = tt
 risen_fails (Done tx clock) = tt
 risen_fails (Close epoch) = tt
-risen_fails (Install epoch clock lines) = tt
+risen_fails (Install start) = tt
 risen_fails (Commit commit) = tt
-risen_fails (Decide epoch clock lines) = tt
+risen_fails (Decide start) = tt
 
 failing_stops : (r : Record) → FellTo Failing causes.Stop (Some r) (falls_at false Failing causes.Stop (Some r))
 failing_stops Life = tt
 failing_stops (Prepare prepared) = (refl, (refl, λ c after is. (refl, is)))
 failing_stops (Done tx clock) = (refl, (refl, λ c after is. (refl, is)))
 failing_stops (Close epoch) = (refl, (refl, λ c after is. (refl, is)))
-failing_stops (Install epoch clock lines) = (refl, (refl, λ c after is. (refl, is)))
+failing_stops (Install start) = (refl, (refl, λ c after is. (refl, is)))
 failing_stops (Commit commit) = (refl, (refl, λ c after is. (refl, is)))
-failing_stops (Decide epoch clock lines) = (refl, (refl, λ c after is. (refl, is)))
+failing_stops (Decide start) = (refl, (refl, λ c after is. (refl, is)))
 
 failing_fails : (r : Record) → FellTo Failing causes.Disk (Some r) (falls_at false Failing causes.Disk (Some r))
 failing_fails Life = tt
 failing_fails (Prepare prepared) = (refl, (refl, λ c after is. (refl, is)))
 failing_fails (Done tx clock) = (refl, (refl, λ c after is. (refl, is)))
 failing_fails (Close epoch) = (refl, (refl, λ c after is. (refl, is)))
-failing_fails (Install epoch clock lines) = (refl, (refl, λ c after is. (refl, is)))
+failing_fails (Install start) = (refl, (refl, λ c after is. (refl, is)))
 failing_fails (Commit commit) = (refl, (refl, λ c after is. (refl, is)))
-failing_fails (Decide epoch clock lines) = (refl, (refl, λ c after is. (refl, is)))
+failing_fails (Decide start) = (refl, (refl, λ c after is. (refl, is)))
 
 faulted_stops : (r : Record) → FellTo Faulted causes.Stop (Some r) (falls_at false Faulted causes.Stop (Some r))
 faulted_stops Life = tt
 faulted_stops (Prepare prepared) = (refl, (refl, λ c after is. (refl, is)))
 faulted_stops (Done tx clock) = (refl, (refl, λ c after is. (refl, is)))
 faulted_stops (Close epoch) = (refl, (refl, λ c after is. (refl, is)))
-faulted_stops (Install epoch clock lines) = (refl, (refl, λ c after is. (refl, is)))
+faulted_stops (Install start) = (refl, (refl, λ c after is. (refl, is)))
 faulted_stops (Commit commit) = (refl, (refl, λ c after is. (refl, is)))
-faulted_stops (Decide epoch clock lines) = (refl, (refl, λ c after is. (refl, is)))
+faulted_stops (Decide start) = (refl, (refl, λ c after is. (refl, is)))
 
 faulted_fails : (r : Record) → FellTo Faulted causes.Disk (Some r) (falls_at false Faulted causes.Disk (Some r))
 faulted_fails Life = tt
 faulted_fails (Prepare prepared) = (refl, (refl, λ c after is. (refl, is)))
 faulted_fails (Done tx clock) = (refl, (refl, λ c after is. (refl, is)))
 faulted_fails (Close epoch) = (refl, (refl, λ c after is. (refl, is)))
-faulted_fails (Install epoch clock lines) = (refl, (refl, λ c after is. (refl, is)))
+faulted_fails (Install start) = (refl, (refl, λ c after is. (refl, is)))
 faulted_fails (Commit commit) = (refl, (refl, λ c after is. (refl, is)))
-faulted_fails (Decide epoch clock lines) = (refl, (refl, λ c after is. (refl, is)))
+faulted_fails (Decide start) = (refl, (refl, λ c after is. (refl, is)))
 
 pub falls : (p : Place) (cause : Fall) (pending : Option Record)
     → FellTo p cause pending (falls_at false p cause pending)

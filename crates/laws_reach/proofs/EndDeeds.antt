@@ -66,9 +66,9 @@ module _ (decl : Declaration) (c : CommitRecord) where
   IsCommitRecord (Prepare prepared) = ⊥
   IsCommitRecord (Done tx clock) = ⊥
   IsCommitRecord (Close epoch) = ⊥
-  IsCommitRecord (Install epoch clock lines) = ⊥
+  IsCommitRecord (Install start) = ⊥
   IsCommitRecord (Commit commit) = Unit {0}
-  IsCommitRecord (Decide epoch clock lines) = ⊥
+  IsCommitRecord (Decide start) = ⊥
 
   life_ends : (p q : Place) (d : Account) (x : Dealing) (j : Journal) (after : List Deed)
       → (is_off q ≡ false) × ((is_failing q ≡ false) × (is_off p ≡ true))
@@ -133,10 +133,10 @@ module _ (decl : Declaration) (c : CommitRecord) where
   writes_end p q d x j (Prepare prepared) after place its next ongoing s = absurd its
   writes_end p q d x j (Done tx clock) after place its next ongoing s = absurd its
   writes_end p q d x j (Close epoch) after place its next ongoing s = absurd its
-  writes_end p q d x j (Install epoch clock lines) after place its next ongoing s = absurd its
+  writes_end p q d x j (Install start) after place its next ongoing s = absurd its
   writes_end p q d x j (Commit commit) after place its next ongoing s =
       commit_ends p q d x j commit after place its next ongoing s
-  writes_end p q d x j (Decide epoch clock lines) after place its next ongoing s = absurd its
+  writes_end p q d x j (Decide start) after place its next ongoing s = absurd its
 
   -- a fall, and a rise
 

@@ -67,22 +67,22 @@ with_same d change same = by d.current
 
 granted_same : (d : Account) (site life clock : ℕ) (log : List Line) (want : Want)
     → gist (granted d site life clock log want) ≡ gist d
-granted_same d site life clock log (Read object inv) =
-    with_same (record d { clock = (granted d site life clock log (Read object inv)).clock })
-    (λ (t : Current). with_read (lived t site life) object log) (λ t. refl)
+granted_same d site life clock log (Read read) =
+    with_same (record d { clock = (granted d site life clock log (Read read)).clock })
+    (λ (t : Current). with_read (lived t site life) read.object log) (λ t. refl)
 granted_same d site life clock log (Append object view own) =
     with_same (record d { clock = (granted d site life clock log (Append object view own)).clock })
     (λ (t : Current). lived t site life) (λ t. refl)
 granted_same d site life clock log Prepare = refl
 
 promised_same : (d : Account) (clock : ℕ) (want : Want) → gist (promised d clock want) ≡ gist d
-promised_same d clock (Read object inv) = refl
+promised_same d clock (Read read) = refl
 promised_same d clock (Append object view own) = refl
 promised_same d clock Prepare = refl
 
 told_same : (d : Account) (q : ClientRequest) (o : Option Answer) → gist (told_by d q o) ≡ gist d
 told_same d q None = refl
-told_same d q (Some (answers.Granted life clock log)) = granted_same d q.site life clock log q.want
+told_same d q (Some (answers.Granted grant)) = granted_same d q.site grant.life grant.clock grant.log q.want
 told_same d q (Some (answers.Clash holder inv event)) = refl
 told_same d q (Some (answers.Closed epoch)) = refl
 told_same d q (Some (answers.Behind epoch)) = refl
@@ -90,7 +90,7 @@ told_same d q (Some (answers.Restarted life)) = refl
 told_same d q (Some answers.Stale) = refl
 told_same d q (Some answers.Fault) = refl
 told_same d q (Some (answers.Yes clock)) = promised_same d clock q.want
-told_same d q (Some (answers.Shut clock log prepared)) = refl
+told_same d q (Some (answers.Shut snapshot)) = refl
 told_same d q (Some answers.Installed) = refl
 told_same d q (Some (answers.Answered verdict)) = refl
 
@@ -108,7 +108,7 @@ heard_same d (messages.Decision tx verdict) = refl
 heard_same d (messages.Inquiry tx) = refl
 heard_same d (messages.Ask tx) = refl
 heard_same d (messages.Close epoch) = refl
-heard_same d (messages.Install epoch clock log) = refl
+heard_same d (messages.Install start) = refl
 
 requested_same : (decl : Declaration) (d : Account) (number site : ℕ) (tx : TxId) (epoch life : ℕ) (want : Want)
     → gist (requested decl d number site tx epoch life want) ≡ gist d
@@ -129,7 +129,7 @@ sent_same decl d number to (messages.Decision tx verdict) = refl
 sent_same decl d number to (messages.Inquiry tx) = refl
 sent_same decl d number to (messages.Ask tx) = refl
 sent_same decl d number to (messages.Close epoch) = refl
-sent_same decl d number to (messages.Install epoch clock log) = refl
+sent_same decl d number to (messages.Install start) = refl
 
 pub refused_same : (d : Account) → gist (refused d) ≡ gist d
 refused_same d = with_same d (doomed_if (not (length (requests_for is_append d) == 0))) (λ t. refl)

@@ -54,9 +54,9 @@ client_written d Life = refl
 client_written d (Prepare prepared) = refl
 client_written d (Done tx clock) = refl
 client_written d (Close epoch) = refl
-client_written d (Install epoch clock lines) = refl
+client_written d (Install start) = refl
 client_written d (Commit commit) = refl
-client_written d (Decide epoch clock lines) = refl
+client_written d (Decide start) = refl
 
 pub same_client : (decl : Declaration) (d : Account) (x : Deed) → (account_at decl d x).client ≡ d.client
 same_client decl d (Takes (inputs.Called command)) = refl

@@ -47,9 +47,9 @@ record_more Life xs ys told = tt
 record_more (Prepare prepared) xs ys told = tt
 record_more (Done tx clock) xs ys told = tt
 record_more (Close epoch) xs ys told = tt
-record_more (Install epoch clock lines) xs ys told = tt
+record_more (Install start) xs ys told = tt
 record_more (Commit commit) xs ys told = next_more xs ys told
-record_more (Decide epoch clock lines) xs ys told = tt
+record_more (Decide start) xs ys told = tt
 
 both_told : (xs ys : List Deed) → AreCommitsTold xs → AreCommitsTold ys → AreCommitsTold (xs ++ ys)
 both_told [] ys first second = second
@@ -91,9 +91,9 @@ turn_told n turn tells = by turn.write refl
     by (Some (Prepare prepared)) is = (tt, rest)
     by (Some (Done tx clock)) is = (tt, rest)
     by (Some (Close epoch)) is = (tt, rest)
-    by (Some (Install epoch clock lines)) is = (tt, rest)
+    by (Some (Install start)) is = (tt, rest)
     by (Some (Commit commit)) is = (told_next n turn.sends turn.told (tells commit is), rest)
-    by (Some (Decide epoch clock lines)) is = (tt, rest)
+    by (Some (Decide start)) is = (tt, rest)
 
 falls_told : (o : Option Reply) (cause : Fall) (w : Option Record) → AreCommitsTold (tells_of o ++ Falls cause w ∷ [])
 falls_told o cause w = both_told (tells_of o) (Falls cause w ∷ []) (tells_told o) (tt, tt)

@@ -72,16 +72,16 @@ module _ (decl : Declaration) where
   tells_later ms more to (messages.Inquiry tx) here = (here.0, requested_later ms more tx here.1)
   tells_later ms more to (messages.Ask tx) here = tt
   tells_later ms more to (messages.Close epoch) here = tt
-  tells_later ms more to (messages.Install epoch clock log) here = tt
+  tells_later ms more to (messages.Install start) here = tt
 
   put_later : (ms more : List Envelope) (r : Record) → Put ms r → Put (ms ++ more) r
   put_later ms more records.Life here = tt
   put_later ms more (records.Prepare p) here = requested_later ms more p.tx here
   put_later ms more (records.Done tx clock) here = tt
   put_later ms more (records.Close epoch) here = tt
-  put_later ms more (records.Install epoch clock lines) here = tt
+  put_later ms more (records.Install start) here = tt
   put_later ms more (records.Commit commit) here = tt
-  put_later ms more (records.Decide epoch clock lines) here = tt
+  put_later ms more (records.Decide start) here = tt
 
   -- messages more: their questions are of transactions requested before, and their requests stand for themselves
 
@@ -98,7 +98,7 @@ module _ (decl : Declaration) where
       by (messages.Inquiry tx) is here = (here.0, requested_later ms more tx here.1)
       by (messages.Ask tx) is here = tt
       by (messages.Close epoch) is here = tt
-      by (messages.Install epoch clock log) is here = tt
+      by (messages.Install start) is here = tt
 
   about_each : (ms : List Envelope) (from n : ℕ) (ps : List Posting) → AreAbout decl (IsRequested ms) ps
       → Every (λ (e : Envelope). IsAbout decl (IsRequested ms) e.to e.message) (envelopes from n ps)

@@ -25,9 +25,9 @@ module _ (tx : TxId) where
   IsShown s (records.Prepare prepared) = Unit {0}
   IsShown s (records.Done other clock) = Unit {0}
   IsShown s (records.Close epoch) = Unit {0}
-  IsShown s (records.Install epoch clock lines) = Unit {0}
+  IsShown s (records.Install start) = Unit {0}
   IsShown s (records.Commit c) = same_tx c.tx tx ≡ true → s ≡ Committed c.stamp
-  IsShown s (records.Decide epoch clock lines) = Unit {0}
+  IsShown s (records.Decide start) = Unit {0}
 
   stays : (s : Status) (stamp : Stamp) (d : Deed) → IsRight tx s d → s ≡ Committed stamp
       → status_at tx s d ≡ Committed stamp
@@ -38,18 +38,18 @@ module _ (tx : TxId) where
   shown_on s d right (records.Prepare prepared) is = tt
   shown_on s d right (records.Done other clock) is = tt
   shown_on s d right (records.Close epoch) is = tt
-  shown_on s d right (records.Install epoch clock lines) is = tt
+  shown_on s d right (records.Install start) is = tt
   shown_on s d right (records.Commit c) is = λ same. stays s c.stamp d right (is same)
-  shown_on s d right (records.Decide epoch clock lines) is = tt
+  shown_on s d right (records.Decide start) is = tt
 
   written_shown : (s : Status) (w : Record) → IsShown (status_written tx s w) w
   written_shown s records.Life = tt
   written_shown s (records.Prepare prepared) = tt
   written_shown s (records.Done other clock) = tt
   written_shown s (records.Close epoch) = tt
-  written_shown s (records.Install epoch clock lines) = tt
+  written_shown s (records.Install start) = tt
   written_shown s (records.Commit c) = λ same. ap (λ (t : Bool). cond t (Committed c.stamp) s) same
-  written_shown s (records.Decide epoch clock lines) = tt
+  written_shown s (records.Decide start) = tt
 
   -- so it rises rightly, and one that is of a begun transaction does
 
@@ -58,18 +58,18 @@ module _ (tx : TxId) where
   shown_right s (records.Prepare prepared) is = tt
   shown_right s (records.Done other clock) is = tt
   shown_right s (records.Close epoch) is = tt
-  shown_right s (records.Install epoch clock lines) is = tt
+  shown_right s (records.Install start) is = tt
   shown_right s (records.Commit c) is = λ same. inr (is same)
-  shown_right s (records.Decide epoch clock lines) is = tt
+  shown_right s (records.Decide start) is = tt
 
   begun_right : (s : Status) (w : Record) → IsRightRecord tx s w → IsRightKept tx s w
   begun_right s records.Life is = tt
   begun_right s (records.Prepare prepared) is = tt
   begun_right s (records.Done other clock) is = tt
   begun_right s (records.Close epoch) is = tt
-  begun_right s (records.Install epoch clock lines) is = tt
+  begun_right s (records.Install start) is = tt
   begun_right s (records.Commit c) is = λ same. inl (is same)
-  begun_right s (records.Decide epoch clock lines) is = tt
+  begun_right s (records.Decide start) is = tt
 
   -- after a deed that is right the records that were written still show it
 

@@ -60,9 +60,9 @@ clock_up k (r ∷ rs) = by r (clock_up (keeps k r) rs) where
   by (records.Prepare p) up = up
   by (records.Done other clock) up = up
   by (records.Close epoch) up = up
-  by (records.Install epoch clock lines) up = up
+  by (records.Install start) up = up
   by (records.Commit c) up = omega arith
-  by (records.Decide epoch clock lines) up = up
+  by (records.Decide start) up = up
 
 pub all_passed : (k : Kept) (rs : List Record) → Every (IsUpTo (fold keeps k rs).clock) (commits_of rs)
 all_passed k [] = tt
@@ -74,9 +74,9 @@ all_passed k (r ∷ rs) = by r (clock_up (keeps k r) rs) (all_passed (keeps k r)
   by (records.Prepare p) up rest = rest
   by (records.Done other clock) up rest = rest
   by (records.Close epoch) up rest = rest
-  by (records.Install epoch clock lines) up rest = rest
+  by (records.Install start) up rest = rest
   by (records.Commit c) up rest = (omega arith, rest)
-  by (records.Decide epoch clock lines) up rest = rest
+  by (records.Decide start) up rest = rest
 
 -- so each is below each later one
 

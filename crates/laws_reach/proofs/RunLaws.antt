@@ -225,7 +225,7 @@ module _ (fits : ℕ → List Record → Type 0) (decl : Declaration) (script : 
   agrees (messages.Inquiry tx) true_one = tt
   agrees (messages.Ask tx) true_one = tt
   agrees (messages.Close epoch) true_one = tt
-  agrees (messages.Install epoch clock log) true_one = tt
+  agrees (messages.Install start) true_one = tt
 
   pub decisions_agree_with_committed_through_falls : (e : Envelope) → In e (mail h)
       → DecisionAgrees (committed decl h) e.message

@@ -24,6 +24,7 @@ use Rattle.qc_msg.specs.declared.record.Record.{Record}
 use Rattle.qc_msg.specs.declared.record.Record.TheVariants as journals
 use Rattle.qc_msg.specs.declared.step.Input.TheVariants as inputs
 use Rattle.qc_msg.specs.Vocabulary.{Entry, Sends, Takes, deeds}
+use Rattle.qc_msg.specs.Vocabulary.{grant_with}
 use Rattle.laws_refinement.specs.Vocabulary.{IsGrantTo, IsGrantable, Refines, lines_in}
 use Rattle.laws_refinement.proofs.Refining.{nets_refine}
 use Rattle.theory_onecopy.specs.Vocabulary.{AreApart, IsLogged}
@@ -98,7 +99,7 @@ module _ (fits : ℕ → List Record → Type 0) (decl : Declaration) (script : 
   in_net a e among = subst (In e) (sym net.mail_is) (took_sent a [] h e among)
 
   line_up : (a : ℕ) (e : Envelope) → In (Takes (inputs.Got e)) (deeds a [] h) → (to life clock : ℕ) (log : List Line)
-      → e.message ≡ Answer to (Granted life clock log) → (l : Line) → In l log → IsUpTo (committed decl h) l.tx clock
+      → e.message ≡ Answer to (Granted (grant_with life clock log)) → (l : Line) → In l log → IsUpTo (committed decl h) l.tx clock
   line_up a e among to life clock log is l in_log =
       let k : IsLogged decl (records decl h) l =
       reached.message_lines fits decl script h open_inputs accepted sound run kept (records decl h) stand e l
@@ -109,7 +110,7 @@ module _ (fits : ℕ → List Record → Type 0) (decl : Declaration) (script : 
       record { commit = k.commit; listed = listed k.commit k.listed; named = sym k.named; low = omega arith }
 
   was_asked : (a : ℕ) (e : Envelope) → In (Takes (inputs.Got e)) (deeds a [] h) → (to life clock : ℕ) (log : List Line)
-      → e.message ≡ Answer to (Granted life clock log)
+      → e.message ≡ Answer to (Granted (grant_with life clock log))
       → (site : ℕ) (tx : TxId) (epoch at : ℕ) (want : Want)
       → In (Sends to site (Request tx epoch at want)) (deeds a [] h) → is_prepare want ≡ false
   was_asked a e among to life clock log is site tx epoch at want sent =

@@ -57,7 +57,7 @@ module _ (decl : Declaration) (B : TxId → Type 0) where
   IsAbout to (messages.Inquiry tx) = (to ≡ client_actor decl tx.client) × B tx
   IsAbout to (messages.Ask tx) = Unit {0}
   IsAbout to (messages.Close epoch) = Unit {0}
-  IsAbout to (messages.Install epoch clock log) = Unit {0}
+  IsAbout to (messages.Install start) = Unit {0}
 
   abbrev pub AreAbout : List Posting → Type 0
   AreAbout ps = Every (λ (p : Posting). IsAbout p.to p.message) ps
@@ -69,9 +69,9 @@ module _ (decl : Declaration) (B : TxId → Type 0) where
   PromisesFor (records.Prepare p) = B p.tx
   PromisesFor (records.Done tx clock) = Unit {0}
   PromisesFor (records.Close epoch) = Unit {0}
-  PromisesFor (records.Install epoch clock lines) = Unit {0}
+  PromisesFor (records.Install start) = Unit {0}
   PromisesFor (records.Commit commit) = Unit {0}
-  PromisesFor (records.Decide epoch clock lines) = Unit {0}
+  PromisesFor (records.Decide start) = Unit {0}
 
   -- whatever becomes of a turn's record
   pub record TurnAsks (turn : Turn) : Type 0 where
@@ -98,8 +98,8 @@ module _ (decl : Declaration) (B : TxId → Type 0) where
     silent = record { failed = tt; writes = tt }
 
     granted : (tx : TxId) (want : Want) → B tx → Promising (grants decl s from number tx want)
-    granted tx (Read object inv) here =
-        read_cases Promising decl s from number tx object inv (λ free. record { failed = tt; writes = tt })
+    granted tx (Read read) here =
+        read_cases Promising decl s from number tx read.object read.inv (λ free. record { failed = tt; writes = tt })
         (λ c clash. record { failed = tt; writes = tt })
     granted tx (Append object view own) here =
         append_cases Promising decl s from number tx object view own (λ free. record { failed = tt; writes = tt })
@@ -122,8 +122,8 @@ module _ (decl : Declaration) (B : TxId → Type 0) where
     at to (messages.Ask tx) here = silent
     at to (messages.Close k) here = close_cases Promising s from number k still
         (λ near later. record { failed = (tt, tt); writes = (tt, tt) })
-    at to (messages.Install k clock lines) here =
-        install_cases Promising s from number k clock lines still
+    at to (messages.Install start) here =
+        install_cases Promising s from number start.epoch start.clock start.lines still
         (λ later fits. record { failed = (tt, tt); writes = (tt, tt) })
 
   promising : (s : SiteState) (g : Input) → GivenTells decl B g → Promising (site_takes decl s g)
@@ -138,7 +138,7 @@ module _ (decl : Declaration) (B : TxId → Type 0) where
   about to (messages.Inquiry tx) here = here
   about to (messages.Ask tx) never = tt
   about to (messages.Close epoch) never = tt
-  about to (messages.Install epoch clock log) never = tt
+  about to (messages.Install start) never = tt
 
   -- one input
   pub takes_ask : (s : SiteState) (g : Input) → HeldFor decl B s.held → PreparedFor decl B s.prepared
@@ -171,10 +171,10 @@ module _ (decl : Declaration) (B : TxId → Type 0) where
   kept_for k (records.Done tx clock ∷ rs) all puts =
       kept_for (keeps k (records.Done tx clock)) rs (prepared-left decl B k.promises tx all) puts.1
   kept_for k (records.Close epoch ∷ rs) all puts = kept_for (keeps k (records.Close epoch)) rs all puts.1
-  kept_for k (records.Install epoch clock lines ∷ rs) all puts =
-      kept_for (keeps k (records.Install epoch clock lines)) rs tt puts.1
+  kept_for k (records.Install start ∷ rs) all puts =
+      kept_for (keeps k (records.Install start)) rs tt puts.1
   kept_for k (records.Commit commit ∷ rs) all puts = kept_for k rs all puts.1
-  kept_for k (records.Decide epoch clock lines ∷ rs) all puts = kept_for k rs all puts.1
+  kept_for k (records.Decide start ∷ rs) all puts = kept_for k rs all puts.1
 
   asked_txs : (ps : List Prepared) → PreparedFor decl B ps → Every B (map (λ (p : Prepared). p.tx) ps)
   asked_txs [] all = tt

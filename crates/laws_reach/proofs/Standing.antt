@@ -117,7 +117,7 @@ taken_sight tx s (inputs.Got e) = by e.message
     by (messages.Inquiry other) = (refl, refl)
     by (messages.Ask other) = (refl, refl)
     by (messages.Close epoch) = (refl, refl)
-    by (messages.Install epoch clock log) = (refl, refl)
+    by (messages.Install start) = (refl, refl)
 taken_sight tx s (inputs.Lost number) = (refl, refl)
 
 sent_sight : (s : Sight) (number : ℕ) (message : Message) → SameSight s (sight_sent s number message)
@@ -127,7 +127,7 @@ sent_sight s number (messages.Decision other verdict) = (refl, refl)
 sent_sight s number (messages.Inquiry other) = (refl, refl)
 sent_sight s number (messages.Ask other) = (refl, refl)
 sent_sight s number (messages.Close epoch) = (refl, refl)
-sent_sight s number (messages.Install epoch clock log) = (refl, refl)
+sent_sight s number (messages.Install start) = (refl, refl)
 
 -- and the record that was written
 
@@ -146,7 +146,7 @@ taken_written d (inputs.Got e) c is = by e.message is
     by (messages.Inquiry other) same = same
     by (messages.Ask other) same = same
     by (messages.Close epoch) same = same
-    by (messages.Install epoch clock log) same = same
+    by (messages.Install start) same = same
 taken_written d (inputs.Lost number) c is = sym (counts number d None).written ∙ is
 
 sent_written : (decl : Declaration) (d : Account) (number to : ℕ) (message : Message)
@@ -167,7 +167,7 @@ sent_written decl d number to (messages.Decision other verdict) c is = is
 sent_written decl d number to (messages.Inquiry other) c is = is
 sent_written decl d number to (messages.Ask other) c is = is
 sent_written decl d number to (messages.Close epoch) c is = is
-sent_written decl d number to (messages.Install epoch clock log) c is = is
+sent_written decl d number to (messages.Install start) c is = is
 
 pub up_not : {X : Type 0} → true ≡ false → X
 up_not is = absurd (let never : ⊥ = cc in never)

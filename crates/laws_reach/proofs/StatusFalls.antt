@@ -64,9 +64,9 @@ grows k (r ∷ rs) = by r (grows (keeps k r) rs) where
   by (records.Prepare p) less = less
   by (records.Done other clock) less = less
   by (records.Close epoch) less = less
-  by (records.Install epoch clock lines) less = less
+  by (records.Install start) less = less
   by (records.Commit c) less = less
-  by (records.Decide epoch clock lines) less = less
+  by (records.Decide start) less = less
 
 pub lives_grow : (xs ys : List Record) → (kept_by xs).life ≤ (kept_by (xs ++ ys)).life
 lives_grow xs ys =
@@ -129,9 +129,9 @@ module _ (tx : TxId) where
     by (records.Prepare p) rest = same (records.Prepare p) refl rest
     by (records.Done other clock) rest = same (records.Done other clock) refl rest
     by (records.Close epoch) rest = same (records.Close epoch) refl rest
-    by (records.Install epoch clock lines) rest = same (records.Install epoch clock lines) refl rest
+    by (records.Install start) rest = same (records.Install start) refl rest
     by (records.Commit c) rest = commits c (same_tx c.tx tx) refl rest
-    by (records.Decide epoch clock lines) rest = same (records.Decide epoch clock lines) refl rest
+    by (records.Decide start) rest = same (records.Decide start) refl rest
 
   given_committed : (s : Status) (stamp : Stamp) → given_up s ≡ Committed stamp → s ≡ Committed stamp
   given_committed Unborn stamp is = absurd (let never : ⊥ = cc in never)

@@ -33,9 +33,9 @@ module _ (tx : TxId) where
   written (records.Prepare prepared) right = refl
   written (records.Done other clock) right = refl
   written (records.Close epoch) right = refl
-  written (records.Install epoch clock lines) right = refl
+  written (records.Install start) right = refl
   written (records.Commit c) right = either (same_tx c.tx tx) (Committed c.stamp) (λ same. never (right same))
-  written (records.Decide epoch clock lines) right = refl
+  written (records.Decide start) right = refl
 
   sent : (m : Message) → status_sent tx Unborn m ≡ Unborn
   sent (messages.Request other epoch life want) = refl
@@ -46,7 +46,7 @@ module _ (tx : TxId) where
   sent (messages.Inquiry other) = refl
   sent (messages.Ask other) = refl
   sent (messages.Close epoch) = refl
-  sent (messages.Install epoch clock log) = refl
+  sent (messages.Install start) = refl
 
   abbrev BeginsNot : Reply → Type 0
   BeginsNot r = (x : TxId) → r ≡ replies.Began x → same_tx x tx ≡ true → ⊥

@@ -131,7 +131,7 @@ module _ (decl : Declaration) (script : Script) (fits : ℕ → List Record → 
         (subst (IsRequested (mail h)) is tells.1))
     known_in a client tx to (messages.Ask other) at tells = tt
     known_in a client tx to (messages.Close epoch) at tells = tt
-    known_in a client tx to (messages.Install epoch clock log) at tells = tt
+    known_in a client tx to (messages.Install start) at tells = tt
 
     known_given : (a : ℕ) → is_client decl a ≡ true → (tx : TxId) (g : Input) → WasSentTo a (mail h) g
         → IsKnown tx (status (deeds a [] h) tx) g

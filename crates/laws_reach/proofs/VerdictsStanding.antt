@@ -34,14 +34,14 @@ module _ (tx : TxId) where
     by (records.Prepare p) (inl old) = inl old
     by (records.Done other clock) (inl old) = inl old
     by (records.Close epoch) (inl old) = inl old
-    by (records.Install epoch clock lines) (inl old) = inl old
+    by (records.Install start) (inl old) = inl old
     by (records.Commit one) (inl old) =
         of (In-more c one (filter (λ (d : Commit). not (same_tx d.tx one.tx)) x.commits) old) where
           of : In c (filter (λ (d : Commit). not (same_tx d.tx one.tx)) x.commits) ⊎ (c ≡ one)
               → In c x.commits ⊎ In (records.Commit c) (records.Commit one ∷ rs)
           of (inl before) = inl (In-unfiltered (λ (d : Commit). not (same_tx d.tx one.tx)) c x.commits before)
           of (inr last) = inr (inl (ap (λ (d : Commit). records.Commit d) last))
-    by (records.Decide epoch clock lines) (inl old) = inl old
+    by (records.Decide start) (inl old) = inl old
 
   record HasOne (cs : List Commit) : Type 0 where
     commit : Commit
@@ -64,7 +64,7 @@ module _ (tx : TxId) where
     by (records.Prepare p) rest = rest x c its old
     by (records.Done other clock) rest = rest x c its old
     by (records.Close epoch) rest = rest x c its old
-    by (records.Install epoch clock lines) rest = rest x c its old
+    by (records.Install start) rest = rest x c its old
     by (records.Commit one) rest = on (same_tx c.tx one.tx) refl where
       on : (t : Bool) → same_tx c.tx one.tx ≡ t → HasOne (fold keeps (keeps x (records.Commit one)) rs).commits
       on true same =
@@ -72,7 +72,7 @@ module _ (tx : TxId) where
           (In-last one (filter (λ (d : Commit). not (same_tx d.tx one.tx)) x.commits))
       on false other = rest (keeps x (records.Commit one)) c its (In-first c (filter (λ (d : Commit). not (same_tx d.tx one.tx)) x.commits) (one ∷ [])
           (In-filter (λ (d : Commit). not (same_tx d.tx one.tx)) c x.commits old (ap not other)))
-    by (records.Decide epoch clock lines) rest = rest x c its old
+    by (records.Decide start) rest = rest x c its old
 
   -- and it is up, its life written
   abbrev pub whole : List Record → List Record

@@ -36,14 +36,14 @@ is_among c (records.Life ∷ rs) among = inr (is_among c rs among)
 is_among c (records.Prepare p ∷ rs) among = inr (is_among c rs among)
 is_among c (records.Done tx clock ∷ rs) among = inr (is_among c rs among)
 is_among c (records.Close epoch ∷ rs) among = inr (is_among c rs among)
-is_among c (records.Install epoch clock lines ∷ rs) among = inr (is_among c rs among)
+is_among c (records.Install start ∷ rs) among = inr (is_among c rs among)
 is_among c (records.Commit d ∷ rs) among =
     elim among [
       | inl same ↦ inl (ap (λ (x : CommitRecord). records.Commit x) same)
       | inr later ↦ inr
           (is_among c rs later)
     ]
-is_among c (records.Decide epoch clock lines ∷ rs) among = inr (is_among c rs among)
+is_among c (records.Decide start ∷ rs) among = inr (is_among c rs among)
 
 same_commit : (c d : CommitRecord) → records.Commit c ≡ records.Commit d → c ≡ d
 same_commit c d is = let same : c ≡ d = cc in same
@@ -58,12 +58,12 @@ among_is c (records.Done tx clock ∷ rs) (inl never) = let no : ⊥ = cc in abs
 among_is c (records.Done tx clock ∷ rs) (inr later) = among_is c rs later
 among_is c (records.Close epoch ∷ rs) (inl never) = let no : ⊥ = cc in absurd no
 among_is c (records.Close epoch ∷ rs) (inr later) = among_is c rs later
-among_is c (records.Install epoch clock lines ∷ rs) (inl never) = let no : ⊥ = cc in absurd no
-among_is c (records.Install epoch clock lines ∷ rs) (inr later) = among_is c rs later
+among_is c (records.Install start ∷ rs) (inl never) = let no : ⊥ = cc in absurd no
+among_is c (records.Install start ∷ rs) (inr later) = among_is c rs later
 among_is c (records.Commit d ∷ rs) (inl same) = inl (same_commit c d same)
 among_is c (records.Commit d ∷ rs) (inr later) = inr (among_is c rs later)
-among_is c (records.Decide epoch clock lines ∷ rs) (inl never) = let no : ⊥ = cc in absurd no
-among_is c (records.Decide epoch clock lines ∷ rs) (inr later) = among_is c rs later
+among_is c (records.Decide start ∷ rs) (inl never) = let no : ⊥ = cc in absurd no
+among_is c (records.Decide start ∷ rs) (inr later) = among_is c rs later
 
 pub alone : (o : Option CommitRecord) → option_to_list o ≡ cons_option o []
 alone None = refl
@@ -86,9 +86,9 @@ none_at_site decl now k ds (Some records.Life) is = refl
 none_at_site decl now k ds (Some (records.Prepare p)) is = refl
 none_at_site decl now k ds (Some (records.Done tx clock)) is = refl
 none_at_site decl now k ds (Some (records.Close epoch)) is = refl
-none_at_site decl now k ds (Some (records.Install epoch clock lines)) is = refl
+none_at_site decl now k ds (Some (records.Install start)) is = refl
 none_at_site decl now k ds (Some (records.Commit c)) is = absurd is
-none_at_site decl now k ds (Some (records.Decide epoch clock lines)) is = refl
+none_at_site decl now k ds (Some (records.Decide start)) is = refl
 
 none_at_admin : (decl : Declaration) (now : State) (w : Option Record) → IsPendingRule decl now w → commits_in w ≡ []
 none_at_admin decl now None is = refl
@@ -96,9 +96,9 @@ none_at_admin decl now (Some records.Life) is = refl
 none_at_admin decl now (Some (records.Prepare p)) is = refl
 none_at_admin decl now (Some (records.Done tx clock)) is = refl
 none_at_admin decl now (Some (records.Close epoch)) is = refl
-none_at_admin decl now (Some (records.Install epoch clock lines)) is = refl
+none_at_admin decl now (Some (records.Install start)) is = refl
 none_at_admin decl now (Some (records.Commit c)) is = absurd is
-none_at_admin decl now (Some (records.Decide epoch clock lines)) is = refl
+none_at_admin decl now (Some (records.Decide start)) is = refl
 
 none_given : (pending back : Option Record) → commits_in pending ≡ [] → (back ≡ None) ⊎ (back ≡ pending)
     → commits_in back ≡ []

@@ -224,7 +224,7 @@ module _ (decl : Declaration) (acts : List Act) (net : Net) (run : IsRun decl ac
           ((closes decl net.admin k (without_call calls number) (note round site (standing_of o))
           (with_shut_of shuts site o)))
       of site None b is = missing site standings.Missing (λ e. (let never : ⊥ = cc in never))
-      of site (Some (answers.Granted life clock log)) b is =
+      of site (Some (answers.Granted grant)) b is =
           missing site standings.Missing (λ e. (let never : ⊥ = cc in never))
       of site (Some (answers.Clash holder inv event)) b is =
           missing site standings.Missing (λ e. (let never : ⊥ = cc in never))
@@ -234,7 +234,7 @@ module _ (decl : Declaration) (acts : List Act) (net : Net) (run : IsRun decl ac
       of site (Some answers.Stale) b is = missing site standings.Missing (λ e. (let never : ⊥ = cc in never))
       of site (Some answers.Fault) b is = missing site standings.Missing (λ e. (let never : ⊥ = cc in never))
       of site (Some (answers.Yes clock)) b is = missing site standings.Missing (λ e. (let never : ⊥ = cc in never))
-      of site (Some (answers.Shut clock log prepared)) b is = shut site clock log prepared is b
+      of site (Some (answers.Shut snapshot)) b is = shut site snapshot.clock snapshot.log snapshot.prepared is b
       of site (Some answers.Installed) b is = missing site standings.Missing (λ e. (let never : ⊥ = cc in never))
       of site (Some (answers.Answered verdict)) b is =
           missing site standings.Missing (λ e. (let never : ⊥ = cc in never))

@@ -50,7 +50,7 @@ module _ (decl : Declaration) (acts : List Act) (net : Net) (run : IsRun decl ac
           → IsMessage net.mail number (client_actor decl q.tx.client) (messages.Ask q.tx)
           → IsTaken (state acts) q.tx (Some (outcome_in o))
       told q None b mine = tt
-      told q (Some (answers.Granted life clock log)) b mine = tt
+      told q (Some (answers.Granted grant)) b mine = tt
       told q (Some (answers.Clash holder inv event)) b mine = tt
       told q (Some (answers.Closed epoch)) b mine = tt
       told q (Some (answers.Behind epoch)) b mine = tt
@@ -58,7 +58,7 @@ module _ (decl : Declaration) (acts : List Act) (net : Net) (run : IsRun decl ac
       told q (Some answers.Stale) b mine = tt
       told q (Some answers.Fault) b mine = tt
       told q (Some (answers.Yes clock)) b mine = tt
-      told q (Some (answers.Shut clock log prepared)) b mine = tt
+      told q (Some (answers.Shut snapshot)) b mine = tt
       told q (Some answers.Installed) b mine = tt
       told q (Some (answers.Answered outcome)) b mine =
           let e : messages.Ask q.tx ≡ messages.Ask b.tx =
@@ -188,4 +188,4 @@ module _ (decl : Declaration) (acts : List Act) (net : Net) (run : IsRun decl ac
       by (messages.Inquiry tx) same = nothing decl acts net run m up
       by (messages.Ask tx) same = nothing decl acts net run m up
       by (messages.Close epoch) same = nothing decl acts net run m up
-      by (messages.Install epoch clock log) same = nothing decl acts net run m up
+      by (messages.Install start) same = nothing decl acts net run m up

@@ -11,7 +11,7 @@ use Rattle.qc_msg.specs.declared.record.Record.{Record}
 use Rattle.qc_msg.specs.declared.record.Record.TheVariants as records
 use Rattle.theory_machine.specs.Vocabulary.{Act, Decide, IsRun, put, state}
 use Rattle.theory_machine.proofs.Names.{put_here}
-use Rattle.qc_epoch.specs.Vocabulary.{Decided}
+use Rattle.qc_msg.specs.declared.payload.EpochStart.{EpochStart}
 use Rattle.qc_recover.specs.Admins.{keeps, kept_by}
 use Rattle.laws_refinement.specs.Vocabulary.{IsDeciding, IsGivenBack, IsPendingRule, Net, Refines, RulesMirror}
 use Rattle.laws_refinement.specs.Vocabulary.{after_admin_rise, after_fall, after_vain_rise, commits_in}
@@ -71,7 +71,7 @@ module _ (decl : Declaration) (net : Net) (h : Refines decl net) where
     ]
 
     -- the machine once it is known whether the pending record stands
-    record Stood (k : Option Decided) : Type 0 where
+    record Stood (k : Option EpochStart) : Type 0 where
       acts : List Act
       run : IsRun decl acts
       at : AtAdmin decl (state h.acts) (state acts)
@@ -140,15 +140,15 @@ module _ (decl : Declaration) (net : Net) (h : Refines decl net) where
         one (records.Prepare p) b = absurd b
         one (records.Done tx clock) b = absurd b
         one (records.Close epoch) b = absurd b
-        one (records.Install epoch clock lines) b = absurd b
+        one (records.Install start) b = absurd b
         one (records.Commit commit) b = absurd b
-        one (records.Decide epoch clock lines) b = decides_act epoch clock lines b
+        one (records.Decide start) b = decides_act start.epoch start.clock start.lines b
 
         by : (o : Option Record) → IsPendingRule decl (state h.acts) o
             → Stood (kept_by (net.records (administrator decl) ++ option_to_list o))
         by None b = subst (λ (rs : List Record). Stood (kept_by rs))
             (sym (append-nil (net.records (administrator decl)))) as_it_was
-        by (Some r) b = subst (λ (k : Option Decided). Stood k) (sym (rule_more (net.records (administrator decl)) r))
+        by (Some r) b = subst (λ (k : Option EpochStart). Stood k) (sym (rule_more (net.records (administrator decl)) r))
             (one r b)
 
     -- no commit record is his
@@ -158,9 +158,9 @@ module _ (decl : Declaration) (net : Net) (h : Refines decl net) where
     unwritten (Some (records.Prepare p)) b = absurd b
     unwritten (Some (records.Done tx clock)) b = absurd b
     unwritten (Some (records.Close epoch)) b = absurd b
-    unwritten (Some (records.Install epoch clock lines)) b = absurd b
+    unwritten (Some (records.Install start)) b = absurd b
     unwritten (Some (records.Commit commit)) b = absurd b
-    unwritten (Some (records.Decide epoch clock lines)) b = refl
+    unwritten (Some (records.Decide start)) b = refl
 
     -- he rises, and falls before the record of that stands
     pub admin_rises_in_vain : Refines decl (after_vain_rise net (administrator decl) back)
@@ -221,5 +221,5 @@ module _ (decl : Declaration) (net : Net) (h : Refines decl net) where
       where
         then : RulesMirror decl (state stood.acts)
             (kept_by ((net.records (administrator decl) ++ option_to_list back) ++ records.Life ∷ []))
-        then = subst (λ (k : Option Decided). RulesMirror decl (state stood.acts) k)
+        then = subst (λ (k : Option EpochStart). RulesMirror decl (state stood.acts) k)
             (sym (rule_more (net.records (administrator decl) ++ option_to_list back) records.Life)) stood.rules

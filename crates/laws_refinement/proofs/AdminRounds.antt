@@ -17,7 +17,8 @@ use Rattle.qc_msg.specs.declared.message.Envelope.{Envelope}
 use Rattle.qc_msg.specs.declared.message.Message.TheVariants as messages
 use Rattle.qc_msg.specs.Vocabulary.{with_call}
 use Rattle.theory_machine.specs.Vocabulary.{State}
-use Rattle.qc_epoch.specs.Vocabulary.{Admin, AdminMove, Asking, Decided, Doing, Installing, Question, Resting, ShutSite}
+use Rattle.qc_epoch.specs.Vocabulary.{Admin, AdminMove, Asking, Doing, Installing, Question, Resting, ShutSite}
+use Rattle.qc_msg.specs.declared.payload.EpochStart.{EpochStart}
 use Rattle.qc_epoch.specs.Vocabulary.{ask_of, close_of, doing, moved, numbered_first}
 use Rattle.qc_epoch.specs.Admin as admins
 use Rattle.laws_refinement.specs.Vocabulary.{HasTold, IsMessage, QuestionMirrors, all_sent}

@@ -13,7 +13,8 @@ use Rattle.qc_msg.specs.declared.reply.Reply.TheVariants as replies
 use Rattle.qc_msg.specs.declared.turn.Posting.{Posting}
 use Rattle.qc_msg.specs.Vocabulary.{envelopes, quiet, with_call}
 use Rattle.theory_machine.specs.Vocabulary.{Act, Decide, IsRun, State, state}
-use Rattle.qc_epoch.specs.Vocabulary.{Admin, AdminMove, Decided, Doing, Installing, Resting, again, all_sites, decides}
+use Rattle.qc_epoch.specs.Vocabulary.{Admin, AdminMove, Doing, Installing, Resting, again, all_sites, decides}
+use Rattle.qc_msg.specs.declared.payload.EpochStart.{EpochStart}
 use Rattle.qc_epoch.specs.Vocabulary.{doing, install_of, install_sends, moved, replies_with}
 use Rattle.laws_refinement.specs.Vocabulary.{AdminMirrors, Backed, Continues, DecidedMirrors, DoingMirrors, IsDecided}
 use Rattle.laws_refinement.specs.Vocabulary.{IsPendingRule, IsPlanned, IsTooLong, Mirrors, Net, RulesMirror}
@@ -22,6 +23,7 @@ use Rattle.std.specs.Prelude.{option_to_list}
 use Rattle.std.proofs.lemmas.List.{append-nil}
 use Rattle.qc_msg.specs.declared.record.Record.{Record}
 use Rattle.qc_msg.specs.declared.record.Record.TheVariants as records
+use Rattle.qc_msg.specs.Vocabulary.{start_with}
 use Rattle.theory_machine.proofs.Names.{put_here}
 use Rattle.qc_recover.specs.Admins.{keeps, kept_by}
 use Rattle.laws_refinement.proofs.Machine.{put_other}
@@ -31,7 +33,7 @@ use Rattle.laws_refinement.proofs.MessagesStay.{keeps_same, admin_later, same_st
 
 -- his records, one more
 
-rule_from : (k : Option Decided) (rs : List Record) (r : Record)
+rule_from : (k : Option EpochStart) (rs : List Record) (r : Record)
     → fold keeps k (rs ++ r ∷ []) ≡ keeps (fold keeps k rs) r
 rule_from k [] r = refl
 rule_from k (x ∷ xs) r = rule_from (keeps k x) xs r
@@ -45,7 +47,7 @@ pub record DecidesNext (epoch : ℕ) (move : AdminMove) : Type 0 where
   pub next : ℕ
   pub clock : ℕ
   pub lines : List Line
-  pub wrote : move.turn.write ≡ Some (records.Decide next clock lines)
+  pub wrote : move.turn.write ≡ Some (records.Decide (start_with next clock lines))
   pub follows : next ≡ suc epoch
   pub then_is : move.admin.epoch ≡ next
 
@@ -148,7 +150,7 @@ module _ (decl : Declaration) (acts : List Act) (net : Net) (run : IsRun decl ac
 
   -- Installs
 
-  pub installs_sent : (v : State) (ms : List Envelope) (x : Admin) (d : Decided) (closed awaited : List ℕ)
+  pub installs_sent : (v : State) (ms : List Envelope) (x : Admin) (d : EpochStart) (closed awaited : List ℕ)
       (calls : List Call) (done : List ℕ) (n : ℕ) (sites : List ℕ)
       → IsPlanned decl x.epoch → DecidedMirrors decl v x.epoch x.decided
       → AdminMirrors decl v ms (all_sent (doing x (Installing closed awaited calls done)) n (map (install_of d) sites))
@@ -157,17 +159,17 @@ module _ (decl : Declaration) (acts : List Act) (net : Net) (run : IsRun decl ac
   installs_sent v ms x d closed awaited calls done n (site ∷ sites) planned decided =
       installs_sent v ms x d closed awaited (with_call calls n site) done (n + 1) sites planned decided
 
-  pub installs_backed : (v : State) (d : Decided) → IsDecided decl v d.epoch d.clock d.lines → (p : Posting)
+  pub installs_backed : (v : State) (d : EpochStart) → IsDecided decl v d.epoch d.clock d.lines → (p : Posting)
       → In p (install_sends decl d) → Backed decl v net.mail (administrator decl) p.to p.message
   installs_backed v d h p among =
       let r : Mapped (install_of d) p (all_sites decl) = map_in (install_of d) p (all_sites decl) among in
       subst (λ (x : Posting). Backed decl v net.mail (administrator decl) x.to x.message) (sym r.is) h
 
   -- the decided epoch once more
-  pub again_case : (o : Option Decided) → net.admin.decided ≡ o → Goes ((again decl net.admin o))
+  pub again_case : (o : Option EpochStart) → net.admin.decided ≡ o → Goes ((again decl net.admin o))
   again_case None is = ended (replies.Order net.admin.epoch) (λ is. absurd (let never : ⊥ = cc in never))
   again_case (Some d) is =
-      let h : DecidedMirrors decl (state acts) net.admin.epoch (Some d) = subst (λ (o : Option Decided). DecidedMirrors decl (state acts) net.admin.epoch o) is (m.admin up).decided in
+      let h : DecidedMirrors decl (state acts) net.admin.epoch (Some d) = subst (λ (o : Option EpochStart). DecidedMirrors decl (state acts) net.admin.epoch o) is (m.admin up).decided in
       rests (again decl net.admin (Some d)) refl refl (installs_backed (state acts) d h.1)
       (installs_sent (state acts) (net.mail ++ more_of (again decl net.admin (Some d))) net.admin d [] (all_sites decl)
       [] [] (length net.mail) (all_sites decl) (m.admin up).planned (m.admin up).decided)

@@ -13,7 +13,8 @@ use Rattle.qc_msg.specs.declared.reply.Reply.TheVariants as replies
 use Rattle.qc_msg.specs.declared.turn.Posting.{Posting}
 use Rattle.qc_msg.specs.Vocabulary.{envelopes, epoch_length}
 use Rattle.theory_machine.specs.Vocabulary.{Act, Decide, Decision, IsRun, NotBegun, State, after_act, state}
-use Rattle.qc_epoch.specs.Vocabulary.{Admin, AdminMove, Asking, Decided, Question, ShutSite, all_sites, ask_of, asks}
+use Rattle.qc_epoch.specs.Vocabulary.{Admin, AdminMove, Asking, Question, ShutSite, all_sites, ask_of, asks}
+use Rattle.qc_msg.specs.declared.payload.EpochStart.{EpochStart}
 use Rattle.qc_epoch.specs.Vocabulary.{decides, decision, doing, first_doubt, greatest, install_sends, installing}
 use Rattle.qc_epoch.specs.Vocabulary.{merged, most_asks, moved, questions_of, replies_with, settles, settles_by}
 use Rattle.laws_refinement.specs.Vocabulary.{AdminMirrors, AreEnough, AreSnapshots, Backed, Continues, IsCovered}
@@ -21,6 +22,7 @@ use Rattle.laws_refinement.specs.Vocabulary.{IsDecided, IsNumbered, IsPendingRul
 use Rattle.laws_refinement.specs.Vocabulary.{Mirrors, Net, QuestionMirrors, RulesMirror, after_admin}
 use Rattle.qc_msg.specs.declared.record.Record.{Record}
 use Rattle.qc_msg.specs.declared.record.Record.TheVariants as records
+use Rattle.qc_msg.specs.Vocabulary.{start_with}
 use Rattle.qc_recover.specs.Admins.{keeps}
 use Rattle.laws_refinement.proofs.Nets.{admin_net}
 use Rattle.laws_refinement.proofs.Asks.{numbers_cover, questions_cover, questions_new, take_begins}
@@ -98,8 +100,7 @@ module _ (decl : Declaration) (acts : List Act) (net : Net) (run : IsRun decl ac
       by : (b : Bool) → nat_le (epoch_length (merged shuts questions)) most_record_bytes ≡ b → Goes ((cond b
           (moved (record { epoch = k; decided = Some (decision k shuts questions); doing = installing decl closed }) (record {
             write =
-                Some (Rattle.qc_msg.specs.declared.record.Record.TheVariants.Decide k (greatest shuts questions)
-                (merged shuts questions));
+                Some (records.Decide (start_with k (greatest shuts questions) (merged shuts questions)));
             sends = install_sends decl (decision k shuts questions);
             told = None;
             failed_sends = [];
@@ -147,14 +148,14 @@ module _ (decl : Declaration) (acts : List Act) (net : Net) (run : IsRun decl ac
                 })
                 (shown decl acts net run m up v move (installs_sent decl acts net run m up v (net.mail ++ envelopes (administrator decl) (length net.mail) (install_sends decl (decision k shuts questions))) (record { epoch = k; decided = Some (decision k shuts questions); doing = installing decl closed }) (decision k shuts questions)
                 closed (all_sites decl) [] [] (length net.mail) (all_sites decl) planned (refl, is_decided))
-                (subst (λ (o : Option Decided). RulesMirror decl v o)
+                (subst (λ (o : Option EpochStart). RulesMirror decl v o)
                 (sym (rule_more (net.records (administrator decl))
-                (records.Decide k (greatest shuts questions) (merged shuts questions))))
+                (records.Decide (start_with k (greatest shuts questions) (merged shuts questions)))))
                 (record { planned = planned; decided = (refl, is_decided) })))
                 (installs_backed decl acts net run m up v (decision k shuts questions) is_decided);
           };
         },
-        (λ r wrote. (let e : records.Decide k (greatest shuts questions) (merged shuts questions) ≡ r = cc in (
+        (λ r wrote. (let e : records.Decide (start_with k (greatest shuts questions) (merged shuts questions)) ≡ r = cc in (
           subst (λ (x : Record). IsPendingRule decl (state acts) (Some x)) e (record {
             decision =
                 decision_of decl (state acts) k net.mail net.admin.epoch shuts questions next enough told covered each
@@ -187,7 +188,7 @@ module _ (decl : Declaration) (acts : List Act) (net : Net) (run : IsRun decl ac
             decided = Some (decision k shuts questions);
             doing = installing decl closed;
           }) (record {
-            write = Some (records.Decide k (greatest shuts questions) (merged shuts questions));
+            write = Some (records.Decide (start_with k (greatest shuts questions) (merged shuts questions)));
             sends = install_sends decl (decision k shuts questions);
             told = None;
             failed_sends = [];

@@ -39,6 +39,7 @@ use Rattle.laws_refinement.specs.Vocabulary.{Mirrors, Net, OwnMirrors, Refines, 
 use Rattle.laws_refinement.specs.Vocabulary.{after_client, append_of, chosen_of, own_item, status_by}
 use Rattle.laws_refinement.proofs.Named.{core_closed, lives_more, named_on, other_site}
 use Rattle.qc_msg.specs.declared.message.Message.TheVariants as messages
+use Rattle.qc_msg.specs.Vocabulary.{read_of}
 use Rattle.laws_refinement.proofs.Answers.{view_at}
 use Rattle.laws_refinement.proofs.ClientActs.{mid_count}
 use Rattle.laws_refinement.proofs.ClientRounds.{appending, nothing, reading}
@@ -166,24 +167,24 @@ module _ (decl : Declaration) where
         by (Some answers.Stale) bk = plainly (Some answers.Stale) (λ e. (let never : ⊥ = cc in never))
         by (Some answers.Fault) bk = plainly (Some answers.Fault) (λ e. (let never : ⊥ = cc in never))
         by (Some (answers.Yes clock)) bk = plainly (Some (answers.Yes clock)) (λ e. (let never : ⊥ = cc in never))
-        by (Some (answers.Shut clock log prepared)) bk = plainly (Some (answers.Shut clock log prepared)) (λ e. (let never : ⊥ = cc in never))
+        by (Some (answers.Shut snapshot)) bk = plainly (Some (answers.Shut snapshot)) (λ e. (let never : ⊥ = cc in never))
         by (Some answers.Installed) bk = plainly (Some answers.Installed) (λ e. (let never : ⊥ = cc in never))
         by (Some (answers.Answered outcome)) bk = plainly (Some (answers.Answered outcome)) (λ e. (let never : ⊥ = cc in never))
-        by (Some (answers.Granted life clock log)) bk =
+        by (Some (answers.Granted grant_here)) bk =
             let found : IsCalled calls number site = called_in calls number site called in
             let r : IsAskedBy decl net.mail t (Reading object inv calls round) found.call = asked found.call found.among in
-            let request : IsMessage net.mail number site (messages.Request t.begun.tx t.begun.epoch (life_of t.begun.lives site) (Read object inv)) =
+            let request : IsMessage net.mail number site (messages.Request t.begun.tx t.begun.epoch (life_of t.begun.lives site) (Read (read_of object inv))) =
             subst (λ (x : Want). IsMessage net.mail number site (messages.Request t.begun.tx t.begun.epoch (life_of t.begun.lives site) x)) r.2 (subst (λ (s : ℕ). IsMessage net.mail number s (messages.Request t.begun.tx t.begun.epoch (life_of t.begun.lives s) r.0)) found.at (subst (λ (n : ℕ). IsMessage net.mail n found.call.site (messages.Request t.begun.tx t.begun.epoch (life_of t.begun.lives found.call.site) r.0)) found.numbered r.1)) in
-            let stood : Stood decl (state acts) site life clock log t.begun.tx (Read object inv) (life_of t.begun.lives site) = behind decl (state acts) net.mail from number site life clock log t.begun.tx t.begun.epoch (life_of t.begun.lives site) (Read object inv) request bk in
-            let g : IsGrant decl (state acts) site life clock log t.begun.tx (Read object inv) = stood.grant in
-            let lives : LivesMirror (g.grant ∷ (state acts).counted) t.begun.tx (with_life t.begun.lives site life) = lives_more decl (state acts) t site life clock log (Read object inv) g k.0.begun.lives stood.lived in
+            let stood : Stood decl (state acts) site grant_here.life grant_here.clock grant_here.log t.begun.tx (Read (read_of object inv)) (life_of t.begun.lives site) = behind decl (state acts) net.mail from number site grant_here.life grant_here.clock grant_here.log t.begun.tx t.begun.epoch (life_of t.begun.lives site) (Read (read_of object inv)) request bk in
+            let g : IsGrant decl (state acts) site grant_here.life grant_here.clock grant_here.log t.begun.tx (Read (read_of object inv)) = stood.grant in
+            let lives : LivesMirror (g.grant ∷ (state acts).counted) t.begun.tx (with_life t.begun.lives site grant_here.life) = lives_more decl (state acts) t site grant_here.life grant_here.clock grant_here.log (Read (read_of object inv)) g k.0.begun.lives stood.lived in
             let v : (v : View) × (slice_get t.views object ≡ Some v) = view_at decl t object counted.0.0 holds.0 counted.0.1 in
-            let given : IsGiven t (with_granted (lived t site life) object log) site life = granted_given t site life object log in
+            let given : IsGiven t (with_granted (lived t site grant_here.life) object grant_here.log) site grant_here.life = granted_given t site grant_here.life object grant_here.log in
             refined decl (state acts) net a _ m client up
-            (reading decl (state acts) net a (Count g.grant ∷ acts) (record (net.clients a) { front = learns (net.clients a).front (Some (answers.Granted life clock log)) }) (with_granted (lived t site life) object log) object inv (without_call calls number) (note round site standings.Granted) refl
+            (reading decl (state acts) net a (Count g.grant ∷ acts) (record (net.clients a) { front = learns (net.clients a).front (Some (answers.Granted grant_here)) }) (with_granted (lived t site grant_here.life) object grant_here.log) object inv (without_call calls number) (note round site standings.Granted) refl
             (mid_count decl (state acts) acts (net.clients a).front.client mid g.grant g.given (ap (state acts).status g.its ∙ k.0.active) (g.epoch_is ∙ ap (state acts).epoch (sym g.its)) (ap (λ (u : TxId). u.client) g.its ∙ mine decl (state acts) a (net.clients a) t k.0)) refl
-            (read_counted decl (state acts) a (net.clients a) t site life clock object inv log g lives v.0 v.1 k.0)
-            (granted_recorded decl (lived t site life) object log holds.0)
+            (read_counted decl (state acts) a (net.clients a) t site grant_here.life grant_here.clock object inv grant_here.log g lives v.0 v.1 k.0)
+            (granted_recorded decl (lived t site grant_here.life) object grant_here.log holds.0)
             (ap (state acts).chosen given.tx ∙ chosen) counted.0
             (subst (λ (e : ℕ). IsRound decl (net.clients a).front.client e (read_need_of decl e object inv) (note round site standings.Granted)) (sym given.epoch) (note_round decl (net.clients a).front.client t.begun.epoch (read_need_of decl t.begun.epoch object inv) round site standings.Granted round_is))
             (subst (λ (u : TxId). AreCounted (g.grant ∷ (state acts).counted) u (Lock (record { object = object; inv = inv })) (note round site standings.Granted).asked) (sym given.tx)
@@ -191,7 +192,7 @@ module _ (decl : Declaration) where
             (counted_later decl (state acts).counted (g.grant ∷ (state acts).counted) t.begun.tx (Lock (record { object = object; inv = inv })) round.asked (λ x h. inr h) counted.1)
             (λ e. record { grant = g.grant; counts = inl refl; its = g.its; from = g.by; has = subst (λ (xs : List Item). In (Lock (record { object = object; inv = inv })) xs) (sym g.items_are) (inl refl) })))
             (λ call more. (let q : IsAskedBy decl net.mail t (Reading object inv calls round) call = asked call (still_called calls number call more) in
-            (q.0, named_on net.mail t (with_granted (lived t site life) object log) call.number call.site site life q.0 given (other_site decl (net.clients a).front.client t.begun.epoch (read_need_of decl t.begun.epoch object inv) round calls number site round_is holds.1.calls_are called call more) q.1, q.2))) (verdict (note round site standings.Granted)) refl)
+            (q.0, named_on net.mail t (with_granted (lived t site grant_here.life) object grant_here.log) call.number call.site site grant_here.life q.0 given (other_site decl (net.clients a).front.client t.begun.epoch (read_need_of decl t.begun.epoch object inv) round calls number site round_is holds.1.calls_are called call more) q.1, q.2))) (verdict (note round site standings.Granted)) refl)
 
     append_case : (from number : ℕ) (t : Transaction) (object inv event : ℕ) (calls : List Call) (round : RoundState) (answer : Option Answer) → (net.clients a).front.transaction ≡ Some t → (net.clients a).front.doing ≡ Appending object inv event calls round
         → AnswerBacked decl (state acts) net.mail from number answer → (site : ℕ) → site_called calls number ≡ Some site
@@ -240,21 +241,21 @@ module _ (decl : Declaration) where
         by (Some answers.Stale) bk = plainly (Some answers.Stale) (λ e. (let never : ⊥ = cc in never))
         by (Some answers.Fault) bk = plainly (Some answers.Fault) (λ e. (let never : ⊥ = cc in never))
         by (Some (answers.Yes clock)) bk = plainly (Some (answers.Yes clock)) (λ e. (let never : ⊥ = cc in never))
-        by (Some (answers.Shut clock log prepared)) bk = plainly (Some (answers.Shut clock log prepared)) (λ e. (let never : ⊥ = cc in never))
+        by (Some (answers.Shut snapshot)) bk = plainly (Some (answers.Shut snapshot)) (λ e. (let never : ⊥ = cc in never))
         by (Some answers.Installed) bk = plainly (Some answers.Installed) (λ e. (let never : ⊥ = cc in never))
         by (Some (answers.Answered outcome)) bk = plainly (Some (answers.Answered outcome)) (λ e. (let never : ⊥ = cc in never))
-        by (Some (answers.Granted life clock log)) bk =
+        by (Some (answers.Granted grant_here)) bk =
             let found : IsCalled calls number site = called_in calls number site called in
             let r : IsAskedBy decl net.mail t (Appending object inv event calls round) found.call = asked found.call found.among in
-            let request : IsMessage net.mail number site (messages.Request t.begun.tx t.begun.epoch (life_of t.begun.lives site) (append_want decl t object event)) =
+            let request : IsMessage net.mail number site (messages.Request t.begun.tx t.begun.epoch (life_of t.begun.lives site) (append_want decl t object event site)) =
             subst (λ (x : Want). IsMessage net.mail number site (messages.Request t.begun.tx t.begun.epoch (life_of t.begun.lives site) x)) r.2 (subst (λ (s : ℕ). IsMessage net.mail number s (messages.Request t.begun.tx t.begun.epoch (life_of t.begun.lives s) r.0)) found.at (subst (λ (n : ℕ). IsMessage net.mail n found.call.site (messages.Request t.begun.tx t.begun.epoch (life_of t.begun.lives found.call.site) r.0)) found.numbered r.1)) in
-            let stood : Stood decl (state acts) site life clock log t.begun.tx (append_want decl t object event) (life_of t.begun.lives site) = behind decl (state acts) net.mail from number site life clock log t.begun.tx t.begun.epoch (life_of t.begun.lives site) (append_want decl t object event) request bk in
-            let g : IsGrant decl (state acts) site life clock log t.begun.tx (append_want decl t object event) = stood.grant in
-            let lives : LivesMirror (g.grant ∷ (state acts).counted) t.begun.tx (with_life t.begun.lives site life) = lives_more decl (state acts) t site life clock log (append_want decl t object event) g k.0.begun.lives stood.lived in
+            let stood : Stood decl (state acts) site grant_here.life grant_here.clock grant_here.log t.begun.tx (append_want decl t object event site) (life_of t.begun.lives site) = behind decl (state acts) net.mail from number site grant_here.life grant_here.clock grant_here.log t.begun.tx t.begun.epoch (life_of t.begun.lives site) (append_want decl t object event site) request bk in
+            let g : IsGrant decl (state acts) site grant_here.life grant_here.clock grant_here.log t.begun.tx (append_want decl t object event site) = stood.grant in
+            let lives : LivesMirror (g.grant ∷ (state acts).counted) t.begun.tx (with_life t.begun.lives site grant_here.life) = lives_more decl (state acts) t site grant_here.life grant_here.clock grant_here.log (append_want decl t object event site) g k.0.begun.lives stood.lived in
             refined decl (state acts) net a _ m client up
-            (appending decl (state acts) net a (Count g.grant ∷ acts) (record (net.clients a) { front = learns (net.clients a).front (Some (answers.Granted life clock log)) }) (lived t site life) object inv event (without_call calls number) (note round site standings.Granted) refl
+            (appending decl (state acts) net a (Count g.grant ∷ acts) (record (net.clients a) { front = learns (net.clients a).front (Some (answers.Granted grant_here)) }) (lived t site grant_here.life) object inv event (without_call calls number) (note round site standings.Granted) refl
             (mid_count decl (state acts) acts (net.clients a).front.client mid g.grant g.given (ap (state acts).status g.its ∙ k.0.active) (g.epoch_is ∙ ap (state acts).epoch (sym g.its)) (ap (λ (u : TxId). u.client) g.its ∙ mine decl (state acts) a (net.clients a) t k.0)) refl
-            (append_counted decl (state acts) a (net.clients a) t site life clock object (view_log t object) (own_appended decl t object event) log g lives k.0)
+            (append_counted decl (state acts) a (net.clients a) t site grant_here.life grant_here.clock object (view_log t object) (own_appended decl t object event) grant_here.log g lives k.0)
             chosen.0 chosen.1
             (note_round decl (net.clients a).front.client t.begun.epoch (append_need_of decl t.begun.epoch object event) round site standings.Granted round_is)
             (noted_counted (g.grant ∷ (state acts).counted) t.begun.tx (Own (next_own t object event)) site standings.Granted round.asked
@@ -268,7 +269,7 @@ module _ (decl : Declaration) where
                   (in_map own_item (next_own t object event) (own_appended decl t object event) (In-second (next_own t object event) (filter (weighs decl t.begun.epoch object) t.own) (next_own t object event ∷ []) (inl refl)));
             }))
             (λ call more. (let q : IsAskedBy decl net.mail t (Appending object inv event calls round) call = asked call (still_called calls number call more) in
-            (q.0, named_on net.mail t (lived t site life) call.number call.site site life q.0 (lived_given t site life) (other_site decl (net.clients a).front.client t.begun.epoch (append_need_of decl t.begun.epoch object event) round calls number site round_is holds.calls_are called call more) q.1, q.2))) (verdict (note round site standings.Granted)) refl)
+            (q.0, named_on net.mail t (lived t site grant_here.life) call.number call.site site grant_here.life q.0 (lived_given t site grant_here.life) (other_site decl (net.clients a).front.client t.begun.epoch (append_need_of decl t.begun.epoch object event) round calls number site round_is holds.calls_are called call more) q.1, q.2))) (verdict (note round site standings.Granted)) refl)
 
     -- whatever comes of a request, while no commit waits for votes
     pub takes_case : (from number : ℕ) (answer : Option Answer) → AnswerBacked decl (state acts) net.mail from number answer → (doing : Doing) → (net.clients a).front.doing ≡ doing → (t : Option Transaction) → (net.clients a).front.transaction ≡ t

@@ -43,7 +43,7 @@ module _ (decl : Declaration) where
   one_life : (c : Client) (n to : ℕ) (message : Message)
       → ((sent_one c n to message).front.life ≡ c.front.life)
       × ((sent_one c n to message).desk.commits ≡ c.desk.commits)
-  one_life c n to (messages.Request tx epoch life (Read object inv)) = (refl, refl)
+  one_life c n to (messages.Request tx epoch life (Read read)) = (refl, refl)
   one_life c n to (messages.Request tx epoch life (Append object view own)) = (refl, refl)
   one_life c n to (messages.Request tx epoch life Prepare) = (refl, by c.desk.voting)
     where
@@ -55,7 +55,7 @@ module _ (decl : Declaration) where
   one_life c n to (messages.Inquiry tx) = (refl, refl)
   one_life c n to (messages.Ask tx) = (refl, refl)
   one_life c n to (messages.Close epoch) = (refl, refl)
-  one_life c n to (messages.Install epoch clock log) = (refl, refl)
+  one_life c n to (messages.Install start) = (refl, refl)
 
   all_life : (c : Client) (n : ℕ) (ps : List Posting)
       → ((sent_all c n ps).front.life ≡ c.front.life) × ((sent_all c n ps).desk.commits ≡ c.desk.commits)

@@ -41,7 +41,7 @@ module _ (decl : Declaration) where
   IsAsking c to (messages.Inquiry tx) = Unit {0}
   IsAsking c to (messages.Ask tx) = Unit {0}
   IsAsking c to (messages.Close epoch) = Unit {0}
-  IsAsking c to (messages.Install epoch clock log) = Unit {0}
+  IsAsking c to (messages.Install start) = Unit {0}
 
   -- each message of a turn
 
@@ -73,9 +73,9 @@ module _ (decl : Declaration) where
       (want : Want) → ClientMirrors decl w ms a c → AsksFor decl c tx epoch life to want
       → slice_get ms n ≡ Some (record { number = n; from = a; to = to; message = messages.Request tx epoch life want })
       → ClientMirrors decl w ms a (sent_one c n to (messages.Request tx epoch life want))
-  want_sent w ms a c n to tx epoch life (Read object inv) m k found =
-      round_sent decl w ms a c n to k.t (Read object inv) m k.is k.for
-      (found_message ms a n to tx k.t.begun.tx epoch k.t.begun.epoch life (life_of k.t.begun.lives to) (Read object inv)
+  want_sent w ms a c n to tx epoch life (Read read) m k found =
+      round_sent decl w ms a c n to k.t (Read read) m k.is k.for
+      (found_message ms a n to tx k.t.begun.tx epoch k.t.begun.epoch life (life_of k.t.begun.lives to) (Read read)
       found k.its k.epoch_is k.life_is)
   want_sent w ms a c n to tx epoch life (Append object view own) m k found =
       round_sent decl w ms a c n to k.t (Append object view own) m k.is k.for
@@ -96,21 +96,21 @@ module _ (decl : Declaration) where
   one_sent w ms a c n to (messages.Inquiry tx) m asks found = m
   one_sent w ms a c n to (messages.Ask tx) m asks found = m
   one_sent w ms a c n to (messages.Close epoch) m asks found = m
-  one_sent w ms a c n to (messages.Install epoch clock log) m asks found = m
+  one_sent w ms a c n to (messages.Install start) m asks found = m
 
   -- what was asked for still is after another message
 
   round_still : (c : Client) (n to : ℕ) (tx : TxId) (epoch life dest : ℕ) (want : Want)
       → AsksFor decl c tx epoch life dest want
       → AsksFor decl (record c { front = requested c.front n to }) tx epoch life dest want
-  round_still c n to tx epoch life dest (Read object inv) k =
+  round_still c n to tx epoch life dest (Read read) k =
       record {
         t = k.t;
         is = k.is;
         its = k.its;
         epoch_is = k.epoch_is;
         life_is = k.life_is;
-        for = for_more decl k.t c.front.doing n to (Read object inv) k.for;
+        for = for_more decl k.t c.front.doing n to dest (Read read) k.for;
       }
   round_still c n to tx epoch life dest (Append object view own) k =
       record {
@@ -119,7 +119,7 @@ module _ (decl : Declaration) where
         its = k.its;
         epoch_is = k.epoch_is;
         life_is = k.life_is;
-        for = for_more decl k.t c.front.doing n to (Append object view own) k.for;
+        for = for_more decl k.t c.front.doing n to dest (Append object view own) k.for;
       }
   round_still c n to tx epoch life dest Prepare k =
       record { t = k.t; is = k.is; its = k.its; epoch_is = k.epoch_is; life_is = k.life_is; for = k.for }
@@ -132,7 +132,7 @@ module _ (decl : Declaration) where
   desk_still : (c : Client) (n to : ℕ) (tx : TxId) (epoch life dest : ℕ) (want : Want)
       → AsksFor decl c tx epoch life dest want
       → AsksFor decl (record c { desk = prepared c.desk n to }) tx epoch life dest want
-  desk_still c n to tx epoch life dest (Read object inv) k =
+  desk_still c n to tx epoch life dest (Read read) k =
       record { t = k.t; is = k.is; its = k.its; epoch_is = k.epoch_is; life_is = k.life_is; for = k.for }
   desk_still c n to tx epoch life dest (Append object view own) k =
       record { t = k.t; is = k.is; its = k.its; epoch_is = k.epoch_is; life_is = k.life_is; for = k.for }
@@ -148,7 +148,7 @@ module _ (decl : Declaration) where
 
   asks_still : (c : Client) (n to : ℕ) (first : Message) (tx : TxId) (epoch life dest : ℕ) (want : Want)
       → AsksFor decl c tx epoch life dest want → AsksFor decl (sent_one c n to first) tx epoch life dest want
-  asks_still c n to (messages.Request u e l (Read object inv)) tx epoch life dest want k =
+  asks_still c n to (messages.Request u e l (Read read)) tx epoch life dest want k =
       round_still c n to tx epoch life dest want k
   asks_still c n to (messages.Request u e l (Append object view own)) tx epoch life dest want k =
       round_still c n to tx epoch life dest want k
@@ -159,7 +159,7 @@ module _ (decl : Declaration) where
   asks_still c n to (messages.Inquiry u) tx epoch life dest want k = k
   asks_still c n to (messages.Ask u) tx epoch life dest want k = k
   asks_still c n to (messages.Close e) tx epoch life dest want k = k
-  asks_still c n to (messages.Install e clock log) tx epoch life dest want k = k
+  asks_still c n to (messages.Install start) tx epoch life dest want k = k
 
   still : (c : Client) (n to : ℕ) (first : Message) (dest : ℕ) (message : Message) → IsAsking c dest message
       → IsAsking (sent_one c n to first) dest message
@@ -169,7 +169,7 @@ module _ (decl : Declaration) where
   still c n to first dest (messages.Inquiry tx) k = tt
   still c n to first dest (messages.Ask tx) k = tt
   still c n to first dest (messages.Close epoch) k = tt
-  still c n to first dest (messages.Install epoch clock log) k = tt
+  still c n to first dest (messages.Install start) k = tt
 
   all_sent : (w : State) (ms : List Envelope) (a : ℕ) (c : Client) (n : ℕ) (ps : List Posting)
       → ClientMirrors decl w ms a c → ((p : Posting) → In p ps → IsAsking c p.to p.message)

@@ -34,7 +34,7 @@ passes_one k records.Life p = p
 passes_one k (records.Prepare x) p = p
 passes_one k (records.Done tx clock) p = p
 passes_one k (records.Close epoch) p = p
-passes_one k (records.Install epoch clock lines) p = p
+passes_one k (records.Install start) p = p
 passes_one k (records.Commit c) p = λ r among. elim
     (in_split r (filter (λ (x : CommitRecord). not (same_tx x.tx c.tx)) k.commits) (c ∷ []) among) [
       | inl old ↦ (let l : r.stamp.clock ≤ k.clock =
@@ -45,7 +45,7 @@ passes_one k (records.Commit c) p = λ r among. elim
         | inr never ↦ absurd never
       ]
     ]
-passes_one k (records.Decide epoch clock lines) p = p
+passes_one k (records.Decide start) p = p
 
 pub passes_all : (k : Kept) (rs : List Record) → ArePassed k → ArePassed (fold keeps k rs)
 passes_all k [] p = p

@@ -160,9 +160,9 @@ module _ (decl : Declaration) (planned : IsPlanned decl 1) where
           by (Some (records.Prepare p)) is f = absurd f.pends
           by (Some (records.Done tx clock)) is f = absurd f.pends
           by (Some (records.Close epoch)) is f = absurd f.pends
-          by (Some (records.Install epoch clock lines)) is f = absurd f.pends
+          by (Some (records.Install start)) is f = absurd f.pends
           by (Some (records.Commit r)) is f = elim given [ inl none ↦ not_stood r f none | inr same ↦ stands_so r f (same ∙ is) ]
-          by (Some (records.Decide epoch clock lines)) is f = absurd f.pends
+          by (Some (records.Decide start)) is f = absurd f.pends
 
       -- what is written is the machine's
       settles : (acts : List Act) → IsRun decl acts → (next : Net) → next.written ≡ net.written ++ commits_in back → (state acts).records ≡ commits_in back ++ (state h.acts).records → ((t : TxId) (r : CommitRecord) → t.client ≢ a - decl.sites → (state acts).status t ≡ (state h.acts).status t) → Settles decl (state acts) next

@@ -54,9 +54,9 @@ module _ (decl : Declaration) where
 
   -- the requests of a round that goes on
 
-  requests_backed : (w : State) (ms : List Envelope) (a : ℕ) (t : Transaction) (want : Want) (sites : List ℕ)
+  requests_backed : (w : State) (ms : List Envelope) (a : ℕ) (t : Transaction) (want : ℕ → Want) (sites : List ℕ)
       → a ≡ client_actor decl t.begun.tx.client → w.status t.begun.tx ≡ Active → t.begun.epoch ≡ w.epoch t.begun.tx
-      → ((site : ℕ) → IsWanted w t.begun.tx site (life_of t.begun.lives site) want)
+      → ((site : ℕ) → IsWanted w t.begun.tx site (life_of t.begun.lives site) (want site))
       → (p : Posting) → In p (map (request_of t.begun want) sites) → Backed decl w ms a p.to p.message
   requests_backed w ms a t want [] at active epoch is p among = absurd among
   requests_backed w ms a t want (site ∷ sites) at active epoch is p (inl same) =
@@ -65,9 +65,10 @@ module _ (decl : Declaration) where
   requests_backed w ms a t want (site ∷ sites) at active epoch is p (inr rest) =
       requests_backed w ms a t want sites at active epoch is p rest
 
-  requests_asking : (c : Client) (t next : Transaction) (want : Want) (sites : List ℕ) → c.front.transaction ≡ Some next
+  requests_asking : (c : Client) (t next : Transaction) (want : ℕ → Want) (sites : List ℕ)
+      → c.front.transaction ≡ Some next
       → t.begun.tx ≡ next.begun.tx → t.begun.epoch ≡ next.begun.epoch → t.begun.lives ≡ next.begun.lives
-      → IsWantOf decl c next want → (p : Posting) → In p (map (request_of t.begun want) sites)
+      → ((site : ℕ) → IsWantOf decl c next site (want site)) → (p : Posting) → In p (map (request_of t.begun want) sites)
       → IsAsking decl c p.to p.message
   requests_asking c t next want [] is its epochs lives for p among = absurd among
   requests_asking c t next want (site ∷ sites) is its epochs lives for p (inl same) =
@@ -78,7 +79,7 @@ module _ (decl : Declaration) where
         its = its;
         epoch_is = epochs;
         life_is = ap (λ (ls : List LifeAt). life_of ls site) lives;
-        for = for;
+        for = for site;
       })
   requests_asking c t next want (site ∷ sites) is its epochs lives for p (inr rest) =
       requests_asking c t next want sites is its epochs lives for p rest
@@ -133,7 +134,7 @@ module _ (decl : Declaration) where
         (actor decl (state acts) a c t core) core.active core.begun.epoch
         (λ site. (sent, core.begun.sorted object, appended_on decl t object event)))
         (requests_asking (by_front c (append_by decl c.front t object inv event calls round verdicts.Waiting)).client t
-        (with_asked t (wanted round)) (append_want decl t object event) (wanted round) refl refl refl refl refl)
+        (with_asked t (wanted round)) (append_want decl t object event) (wanted round) refl refl refl refl (λ site. refl))
     appending acts c t object inv event calls round its m records core chosen sent is counted asked verdicts.Met e =
         let met : HasQuorum decl t.begun.epoch (state acts).counted t.begun.tx (Own (next_own t object event))
         (append_need_of decl t.begun.epoch object event) =
@@ -256,7 +257,7 @@ module _ (decl : Declaration) where
         (requests_backed (state acts) net.mail a t (read_want object inv) (wanted round)
         (actor decl (state acts) a c t core) core.active core.begun.epoch (λ site. tt))
         (requests_asking (by_front c (read_by decl c.front t object inv calls round verdicts.Waiting)).client t
-        (with_asked t (wanted round)) (read_want object inv) (wanted round) refl refl refl refl refl)
+        (with_asked t (wanted round)) (read_want object inv) (wanted round) refl refl refl refl (λ site. refl))
     reading acts c t object inv calls round its m records core holds chosen named is counted asked verdicts.Met e =
         answers acts c t object inv its m records core holds chosen named
         (met_quorum decl c.front.client t.begun.epoch (read_need_of decl t.begun.epoch object inv) round

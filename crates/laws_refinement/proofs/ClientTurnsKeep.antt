@@ -161,7 +161,7 @@ module _ (decl : Declaration) where
   hear_keeps c from number (messages.Inquiry tx) = record { life = refl; kept = nothing refl }
   hear_keeps c from number (messages.Ask tx) = record { life = refl; kept = nothing refl }
   hear_keeps c from number (messages.Close epoch) = record { life = refl; kept = nothing refl }
-  hear_keeps c from number (messages.Install epoch clock log) = record { life = refl; kept = nothing refl }
+  hear_keeps c from number (messages.Install start) = record { life = refl; kept = nothing refl }
 
   pub take_keeps : (c : Client) (given : Input) → Keeping c (client_takes decl c given)
   take_keeps c (Called command) = call_keeps c command

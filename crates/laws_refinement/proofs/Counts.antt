@@ -10,6 +10,7 @@ use Rattle.qc_entry.proofs.Union.{ascending-union, in_either, in_first, in_secon
 use Rattle.qc_decl.specs.declared.declaration.Declaration.{Declaration}
 use Rattle.qc_msg.specs.declared.message.Want.TheVariants.{Read, Append}
 use Rattle.qc_msg.specs.Vocabulary.{with_life}
+use Rattle.qc_msg.specs.Vocabulary.{read_of}
 use Rattle.theory_machine.specs.Vocabulary.{Count, Granted, IsShown, Item, Lock, Shows, State, after_act, site_after}
 use Rattle.qc_front.specs.Vocabulary.{lived, view_log, with_granted}
 use Rattle.qc_view.specs.declared.view.View.{View}
@@ -23,12 +24,12 @@ use Rattle.laws_refinement.proofs.Granting.{counted_core, more_shown}
 -- a grant to a Read
 pub read_counted : (decl : Declaration) (w : State) (a : ℕ) (c : Client) (t : Transaction)
     (site life clock object inv : ℕ) (log : List Line)
-    (k : IsGrant decl w site life clock log t.begun.tx (Read object inv))
+    (k : IsGrant decl w site life clock log t.begun.tx (Read (read_of object inv)))
     (lives : LivesMirror (k.grant ∷ w.counted) t.begun.tx (with_life t.begun.lives site life)) (v : View)
     → slice_get t.views object ≡ Some v → Core decl w a c t
     → Core decl (after_act w (Count k.grant)) a (learned c clock) (with_granted (lived t site life) object log)
 read_counted decl w a c t site life clock object inv log k lives v is core =
-    counted_core decl w a c t (with_granted (lived t site life) object log) site life clock log (Read object inv) k
+    counted_core decl w a c t (with_granted (lived t site life) object log) site life clock log (Read (read_of object inv)) k
     lives core (granted_given t site life object log) sorted shown whole
   where
     here : view_log (with_granted (lived t site life) object log) object ≡ union (view_log t object) log

@@ -29,6 +29,7 @@ use Rattle.qc_site.proofs.RequestCases.{append_cases, read_cases}
 use Rattle.laws_refinement.specs.Vocabulary.{Continues, IsHeld, IsMessage, IsWanted, Mirrors, Net, SiteMirrors}
 use Rattle.laws_refinement.specs.Vocabulary.{after_site, own_item, own_items}
 use Rattle.qc_msg.specs.declared.message.Message.TheVariants as messages
+use Rattle.qc_msg.specs.Vocabulary.{read_of}
 use Rattle.laws_refinement.proofs.Held.{append_holder, append_is_free, given_back, given_held, given_keeps}
 use Rattle.laws_refinement.proofs.Held.{lock_given_here, own_given_here, read_holder, read_is_free}
 use Rattle.laws_refinement.proofs.Known.{known_ascends, learned_ascends, learned_from, learned_in}
@@ -46,7 +47,7 @@ in_object : (l : Line) (xs : List Line) (object : ℕ) → In l xs → l.object 
 in_object l xs object h same = In-filter (λ (x : Line). x.object == object) l xs h (eq-eqb l.object object same)
 
 abbrev object_wanted : Want → ℕ
-object_wanted (Read object inv) = object
+object_wanted (Read read) = read.object
 object_wanted (Append object view own) = object
 object_wanted Prepare = 0
 
@@ -57,10 +58,10 @@ module _ (decl : Declaration) (accepted : IsAccepted decl) (acts : List Act) (ne
   pub read_case : (clock from number : ℕ) (tx : TxId) (epoch named object inv : ℕ)
       → (net.sites a).epoch ≡ (state acts).epoch tx → (net.sites a).closed_for ≡ None
       → ((named ≡ 0) ⊎ (named ≡ (net.sites a).life)) → (net.sites a).clock ≤ clock
-      → IsMessage net.mail number a (messages.Request tx epoch named (Read object inv))
+      → IsMessage net.mail number a (messages.Request tx epoch named (Read (read_of object inv)))
       → (state acts).status tx ≢ NotBegun
       → Continues decl acts (after_site net a (grants decl (record (net.sites a) { clock = clock }) from number tx
-      (Read object inv)))
+      (Read (read_of object inv))))
   read_case clock from number tx epoch named object inv current unshut lived more request begun =
       read_cases (λ (move : SiteMove). Continues decl acts (after_site net a move)) decl
       (record (net.sites a) { clock = clock }) from number tx object inv granted clashes
@@ -94,14 +95,14 @@ module _ (decl : Declaration) (accepted : IsAccepted decl) (acts : List Act) (ne
       new x (inl same) = subst (λ (y : Item). IsHeld (held_of (with_held (net.sites a).held tx (lock ∷ []) []) tx) y)
           (sym same) (lock_given_here (net.sites a).held tx lock)
 
-      object_is : (o i : ℕ) → Read object inv ≡ Read o i → object ≡ o
+      object_is : (o i : ℕ) → Read (read_of object inv) ≡ Read (read_of o i) → object ≡ o
       object_is o i same = ap object_wanted same
 
       granted : read_clash (relation_at decl object) (net.sites a).held tx object inv ≡ None
           → Continues decl acts (after_site net a (reads
           (record (net.sites a) { clock = clock }) from number tx object inv))
       granted free =
-          grants_it decl acts net a run m site up clock from number tx epoch named (Read object inv) tt
+          grants_it decl acts net a run m site up clock from number tx epoch named (Read (read_of object inv)) tt
           (of_object (known (net.sites a)) object)
           (reads (record (net.sites a) { clock = clock }) from number tx object inv).site
           (record {

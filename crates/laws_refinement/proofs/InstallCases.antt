@@ -13,6 +13,7 @@ use Rattle.theory_machine.specs.Vocabulary.{epoch_from, items_of, promise_of, st
 use Rattle.theory_machine.proofs.Names.{put_here}
 use Rattle.qc_site.specs.Vocabulary.{SiteState, answers as answers_with, installed, installs, latest, moved, recording}
 use Rattle.qc_msg.specs.Vocabulary.{epoch_length}
+use Rattle.qc_msg.specs.Vocabulary.{start_with}
 use Rattle.laws_refinement.specs.Vocabulary.{Continues, IsDecided, IsKeptBy, IsPromiseOf, KeptMirrors, Mirrors, Net}
 use Rattle.laws_refinement.specs.Vocabulary.{SiteMirrors, after_site}
 use Rattle.qc_recover.specs.Vocabulary.{Kept, keeps, kept_by}
@@ -32,7 +33,7 @@ module _ (decl : Declaration) (acts : List Act) (net : Net) (a : ℕ) (run : IsR
       → (net.sites a).epoch < k
       → Continues decl acts (after_site net a (moved
       (installed (record (net.sites a) { clock = latest (net.sites a).clock log }) k clock log)
-      (recording from number (records.Install k clock log) answers.Installed)))
+      (recording from number (records.Install (start_with k clock log)) answers.Installed)))
   begins from number k clock log d greater = record {
     more = Install a d.decision ∷ [];
     refines = record {
@@ -45,7 +46,7 @@ module _ (decl : Declaration) (acts : List Act) (net : Net) (a : ℕ) (run : IsR
         run,
       );
       agrees = site_goes decl (state acts) v net a
-          (moved s (recording from number (records.Install k clock log) answers.Installed)) m site up (record {
+          (moved s (recording from number (records.Install (start_with k clock log)) answers.Installed)) m site up (record {
             later = record {
               born = λ t h. h;
               epoch = λ t h. refl;
@@ -71,18 +72,18 @@ module _ (decl : Declaration) (acts : List Act) (net : Net) (a : ℕ) (run : IsR
             };
             records = refl;
             placed_at = m.placed;
-            kept = subst (λ (ds : List Deed). KeptMirrors decl (kept_by (net.records a ++ records.Install k clock log ∷ []))
+            kept = subst (λ (ds : List Deed). KeptMirrors decl (kept_by (net.records a ++ records.Install (start_with k clock log) ∷ []))
                 (state acts).status ((state acts).life a) ds)
                 (sym (put_here (state acts).deeds a ((state acts).deeds a ++ deed ∷ [])))
                 (subst (λ (x : Kept). KeptMirrors decl x (state acts).status ((state acts).life a)
-                ((state acts).deeds a ++ deed ∷ [])) (sym (kept_more (net.records a) (records.Install k clock log)))
-                (subst (λ (x : Deed). KeptMirrors decl (keeps (kept_by (net.records a)) (records.Install k clock log))
+                ((state acts).deeds a ++ deed ∷ [])) (sym (kept_more (net.records a) (records.Install (start_with k clock log))))
+                (subst (λ (x : Deed). KeptMirrors decl (keeps (kept_by (net.records a)) (records.Install (start_with k clock log)))
                 (state acts).status ((state acts).life a) ((state acts).deeds a ++ x ∷ [])) (sym (deed_is d))
                 (kept_installs decl (kept_by (net.records a)) (state acts).status ((state acts).life a)
                 ((state acts).deeds a) k clock log (m.kept a site) d.planned d.sorted)));
             alike = subst (λ (x : Kept). IsKeptBy (installed
                 (record (net.sites a) { clock = latest (net.sites a).clock log }) k clock log) x)
-                (sym (kept_more (net.records a) (records.Install k clock log)))
+                (sym (kept_more (net.records a) (records.Install (start_with k clock log))))
                 (record { began = refl; recorded = refl; promises = λ t p never. absurd (let none : ⊥ = cc in none) });
             here = subst (λ (ds : List Deed). SiteMirrors decl s ds ((state acts).life a))
                 (sym (put_here (state acts).deeds a ((state acts).deeds a ++ deed ∷ []))) here;
@@ -166,7 +167,7 @@ module _ (decl : Declaration) (acts : List Act) (net : Net) (a : ℕ) (run : IsR
           (moved (record (net.sites a) { clock = latest (net.sites a).clock log })
           (answers_with from number answers.Installed))
           (cond c (moved (installed (record (net.sites a) { clock = latest (net.sites a).clock log }) k clock log)
-          (recording from number (records.Install k clock log) answers.Installed))
+          (recording from number (records.Install (start_with k clock log)) answers.Installed))
           (moved (record (net.sites a) { clock = latest (net.sites a).clock log })
           (answers_with from number (answers.Behind (net.sites a).epoch))))))
       by true c p = says decl acts net a run m site up (latest (net.sites a).clock log) from number answers.Installed

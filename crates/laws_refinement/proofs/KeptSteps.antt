@@ -12,6 +12,7 @@ use Rattle.qc_entry.specs.declared.line.Line.{Line}
 use Rattle.qc_entry.specs.declared.record.Prepared.{Prepared}
 use Rattle.qc_entry.specs.Vocabulary.{IsAscending, union, without}
 use Rattle.qc_msg.specs.declared.record.Record.TheVariants as records
+use Rattle.qc_msg.specs.Vocabulary.{start_with}
 use Rattle.theory_onecopy.proofs.Lists.{in_split}
 use Rattle.theory_machine.specs.Vocabulary.{Closes, Deed, DoneRecord, Installs, LearnsCommit, Promise, Rises, Site}
 use Rattle.theory_machine.specs.Vocabulary.{Status, after_commit, empty_site, promise_of, site_after}
@@ -160,7 +161,7 @@ kept_closes decl k status life ds epoch m closing = record {
 -- it begins another epoch
 pub kept_installs : (decl : Declaration) (k : Kept) (status : TxId → Status) (life : ℕ) (ds : List Deed)
     (epoch clock : ℕ) (log : List Line) → KeptMirrors decl k status life ds → IsPlanned decl epoch → IsAscending log
-    → KeptMirrors decl (keeps k (records.Install epoch clock log)) status life (ds ++ Installs epoch clock log ∷ [])
+    → KeptMirrors decl (keeps k (records.Install (start_with epoch clock log))) status life (ds ++ Installs epoch clock log ∷ [])
 kept_installs decl k status life ds epoch clock log m planned ascends = record {
   life_is = m.life_is;
   epoch = epoch_after ds (Installs epoch clock log ∷ []) 1;

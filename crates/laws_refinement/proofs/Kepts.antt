@@ -17,7 +17,7 @@ use Rattle.laws_refinement.specs.Vocabulary.{FallenMirrors, IsPendingAt, IsPendi
 use Rattle.laws_refinement.specs.Vocabulary.{RulesMirror}
 use Rattle.laws_refinement.proofs.MessagesStay.{Keeps, Later, decided_later, decision_later}
 use Rattle.laws_refinement.proofs.LaterDecisions.{decisions_may_wait}
-use Rattle.qc_epoch.specs.Vocabulary.{Decided}
+use Rattle.qc_msg.specs.declared.payload.EpochStart.{EpochStart}
 
 -- no site is a client
 pub no_client : (decl : Declaration) (a : ℕ) → is_site decl a ≡ true → is_client decl a ≡ true → ⊥
@@ -70,10 +70,10 @@ pends_later decl w v k ds (Some (records.Done tx clock)) l h =
       same = h.same;
     }
 pends_later decl w v k ds (Some (records.Close epoch)) l h = h
-pends_later decl w v k ds (Some (records.Install epoch clock lines)) l h =
-    (decided_later decl w v l epoch clock lines h.0, h.1)
+pends_later decl w v k ds (Some (records.Install start)) l h =
+    (decided_later decl w v l start.epoch start.clock start.lines h.0, h.1)
 pends_later decl w v k ds (Some (records.Commit commit)) l h = h
-pends_later decl w v k ds (Some (records.Decide epoch clock lines)) l h = h
+pends_later decl w v k ds (Some (records.Decide start)) l h = h
 
 may_keeps : (w v : State) (n : ℕ) (r : CommitRecord) → r.tx.client ≡ n → Keeps w v n → MayCommit w r → MayCommit v r
 may_keeps w v n r its k m = record {
@@ -92,9 +92,9 @@ pending_keeps w v n (Some records.Life) k h = tt
 pending_keeps w v n (Some (records.Prepare p)) k h = h
 pending_keeps w v n (Some (records.Done tx clock)) k h = h
 pending_keeps w v n (Some (records.Close epoch)) k h = h
-pending_keeps w v n (Some (records.Install epoch clock lines)) k h = h
+pending_keeps w v n (Some (records.Install start)) k h = h
 pending_keeps w v n (Some (records.Commit r)) k h = (may_keeps w v n r h.1 k h.0, h.1)
-pending_keeps w v n (Some (records.Decide epoch clock lines)) k h = h
+pending_keeps w v n (Some (records.Decide start)) k h = h
 
 pub fallen_keeps : (w v : State) (n : ℕ) (k : clients.Kept) (o : Option Record) → Keeps w v n → FallenMirrors w n k o
     → FallenMirrors v n k o
@@ -122,7 +122,7 @@ pub no_ruling : (decl : Declaration) → is_client decl (administrator decl) ≡
 no_ruling decl client = let high : decl.sites + decl.clients < decl.sites + decl.clients =
     client_below decl (administrator decl) client in omega arith
 
-pub rules_later : (decl : Declaration) (w v : State) (k : Option Decided) → Later w v → RulesMirror decl w k
+pub rules_later : (decl : Declaration) (w v : State) (k : Option EpochStart) → Later w v → RulesMirror decl w k
     → RulesMirror decl v k
 rules_later decl w v k l m = record {
   planned = m.planned;
@@ -136,9 +136,9 @@ ruling_later decl w v (Some records.Life) l h = tt
 ruling_later decl w v (Some (records.Prepare p)) l h = h
 ruling_later decl w v (Some (records.Done tx clock)) l h = h
 ruling_later decl w v (Some (records.Close epoch)) l h = h
-ruling_later decl w v (Some (records.Install epoch clock lines)) l h = h
+ruling_later decl w v (Some (records.Install start)) l h = h
 ruling_later decl w v (Some (records.Commit commit)) l h = h
-ruling_later decl w v (Some (records.Decide epoch clock lines)) l h = record {
+ruling_later decl w v (Some (records.Decide start)) l h = record {
   decision = h.decision;
   may = decisions_may_wait decl w v h.decision l.snapshots l.verdicts h.may;
   epoch_is = h.epoch_is;

@@ -20,7 +20,8 @@ use Rattle.qc_msg.specs.declared.message.Outcome.TheVariants as outcomes
 use Rattle.qc_msg.specs.declared.message.Want.{Want}
 use Rattle.qc_msg.specs.declared.message.Want.TheVariants.{Read, Append, Prepare}
 use Rattle.qc_decl.specs.Vocabulary.{client_actor}
-use Rattle.qc_epoch.specs.Vocabulary.{Admin, Asking, Decided, Doing, Installing, Question, Resting, ShutSite}
+use Rattle.qc_epoch.specs.Vocabulary.{Admin, Asking, Doing, Installing, Question, Resting, ShutSite}
+use Rattle.qc_msg.specs.declared.payload.EpochStart.{EpochStart}
 use Rattle.qc_epoch.specs.Admin as admins
 use Rattle.laws_refinement.proofs.Machine.{slice_get-append}
 
@@ -141,7 +142,7 @@ module _ (decl : Declaration) (w v : State) (l : Later w v) where
   }
 
   wanted_later : (tx : TxId) (site life : ℕ) (want : Want) → IsWanted w tx site life want → IsWanted v tx site life want
-  wanted_later tx site life (Read object inv) h = tt
+  wanted_later tx site life (Read read) h = tt
   wanted_later tx site life (Append object view own) h = (l.appends _ h.0, h.1, h.2)
   wanted_later tx site life Prepare h = (
     l.asked tx h.0,
@@ -187,7 +188,7 @@ module _ (decl : Declaration) (w v : State) (l : Later w v) where
 
   answer_later : (ms more : List Envelope) (from n : ℕ) (answer : Answer) → IsAnswerBacked decl w ms from n answer
       → IsAnswerBacked decl v (ms ++ more) from n answer
-  answer_later ms more from n (answers.Granted life clock log) b = record {
+  answer_later ms more from n (answers.Granted grant_here) b = record {
     tx = b.tx;
     want = b.want;
     begun = l.born b.tx b.begun;
@@ -195,7 +196,7 @@ module _ (decl : Declaration) (w v : State) (l : Later w v) where
     named = b.named;
     request = message_later ms more n from (messages.Request b.tx b.epoch b.named b.want) b.request;
     lived = b.lived;
-    grant = grant_later from life clock log b.tx b.want b.begun b.grant;
+    grant = grant_later from grant_here.life grant_here.clock grant_here.log b.tx b.want b.begun b.grant;
   }
   answer_later ms more from n (answers.Clash holder inv event) b = tt
   answer_later ms more from n (answers.Closed epoch) b = b
@@ -205,11 +206,11 @@ module _ (decl : Declaration) (w v : State) (l : Later w v) where
   answer_later ms more from n answers.Fault b = tt
   answer_later ms more from n (answers.Yes clock) b =
       record { tx = b.tx; request = request_later ms more n from b.tx Prepare b.request; vote = l.votes _ b.vote }
-  answer_later ms more from n (answers.Shut clock log prepared) b =
+  answer_later ms more from n (answers.Shut snapshot) b =
       record {
         epoch = b.epoch;
         asked = message_later ms more n from (messages.Close b.epoch) b.asked;
-        told = snapshot_later from b.epoch clock log prepared b.told;
+        told = snapshot_later from b.epoch snapshot.clock snapshot.log snapshot.prepared b.told;
       }
   answer_later ms more from n answers.Installed b = tt
   answer_later ms more from n (answers.Answered verdict) b =
@@ -228,7 +229,7 @@ module _ (decl : Declaration) (w v : State) (l : Later w v) where
   backed_later ms more from to (messages.Inquiry tx) b = (b.0, l.born tx b.1)
   backed_later ms more from to (messages.Ask tx) b = (b.0, l.born tx b.1)
   backed_later ms more from to (messages.Close epoch) b = b
-  backed_later ms more from to (messages.Install epoch clock log) b = decided_later epoch clock log b
+  backed_later ms more from to (messages.Install start) b = decided_later start.epoch start.clock start.lines b
 
   -- the administrator's part
 
@@ -268,7 +269,7 @@ module _ (decl : Declaration) (w v : State) (l : Later w v) where
       (h.0, h.1, h.2, snapshots_later k shuts h.3, h.4, λ q among. question_later ms more q (h.5 q among))
   doing_later ms more epoch (Installing closed awaited calls installed) h = tt
 
-  pub decision_later : (epoch : ℕ) (d : Option Decided) → DecidedMirrors decl w epoch d → DecidedMirrors decl v epoch d
+  pub decision_later : (epoch : ℕ) (d : Option EpochStart) → DecidedMirrors decl w epoch d → DecidedMirrors decl v epoch d
   decision_later epoch None h = tt
   decision_later epoch (Some d) h = (h.0, decided_later d.epoch d.clock d.lines h.1)
 

@@ -114,7 +114,7 @@ module _ (decl : Declaration) (accepted : IsAccepted decl) (net : Net) (reached 
   answer_lines : (from number : ℕ) (answer : Answer) (l : Line)
       → Backed decl (state mirrored.acts) net.mail from from (messages.Answer number answer)
       → In l (lines_in (messages.Answer number answer)) → IsLogged decl net.written l
-  answer_lines from number (answers.Granted life clock log) l b among =
+  answer_lines from number (answers.Granted grant_here) l b among =
       logged l (claims.logs_hold_operations decl accepted mirrored.acts mirrored.run
       (site_after b.grant.grant.before).volatile (OfGrant b.grant.grant b.grant.given refl) l
       (b.grant.lines l among))
@@ -125,11 +125,11 @@ module _ (decl : Declaration) (accepted : IsAccepted decl) (net : Net) (reached 
   answer_lines from number answers.Stale l b among = absurd among
   answer_lines from number answers.Fault l b among = absurd among
   answer_lines from number (answers.Yes clock) l b among = absurd among
-  answer_lines from number (answers.Shut clock log prepared) l b among =
-      elim (in_split l log (lines_promised prepared) among) [
-        | inl told ↦ snapshot_lines from b.epoch clock log prepared l b.told told
-        | inr brought ↦ (let p : (p : Prepared) × In p prepared × In l p.lines = of_promise l prepared brought in
-            snapshot_lines from b.epoch clock log prepared l b.told (b.told.lined p.0 p.1 l p.2))
+  answer_lines from number (answers.Shut snapshot) l b among =
+      elim (in_split l snapshot.log (lines_promised snapshot.prepared) among) [
+        | inl told ↦ snapshot_lines from b.epoch snapshot.clock snapshot.log snapshot.prepared l b.told told
+        | inr brought ↦ (let p : (p : Prepared) × In p snapshot.prepared × In l p.lines = of_promise l snapshot.prepared brought in
+            snapshot_lines from b.epoch snapshot.clock snapshot.log snapshot.prepared l b.told (b.told.lined p.0 p.1 l p.2))
       ]
   answer_lines from number answers.Installed l b among = absurd among
   answer_lines from number (answers.Answered verdict) l b among = absurd among
@@ -137,7 +137,7 @@ module _ (decl : Declaration) (accepted : IsAccepted decl) (net : Net) (reached 
   request_lines : (from to : ℕ) (tx : TxId) (epoch life : ℕ) (want : Want) (l : Line)
       → Backed decl (state mirrored.acts) net.mail from to (messages.Request tx epoch life want)
       → In l (lines_in (messages.Request tx epoch life want)) → IsLogged decl net.written l
-  request_lines from to tx epoch life (Read object inv) l b among = absurd among
+  request_lines from to tx epoch life (Read read) l b among = absurd among
   request_lines from to tx epoch life (Append object view own) l b among =
       logged l (claims.logs_hold_operations decl accepted mirrored.acts mirrored.run view
       (OfAppend (record { tx = tx; items = own_items own; view = view }) b.3.0 refl) l among)
@@ -151,7 +151,7 @@ module _ (decl : Declaration) (accepted : IsAccepted decl) (net : Net) (reached 
   lines_of from to (messages.Inquiry tx) l b among = absurd among
   lines_of from to (messages.Ask tx) l b among = absurd among
   lines_of from to (messages.Close epoch) l b among = absurd among
-  lines_of from to (messages.Install epoch clock log) l b among = decision_lines epoch clock log l b among
+  lines_of from to (messages.Install start) l b among = decision_lines start.epoch start.clock start.lines l b among
 
   pub message_lines : (e : Envelope) (l : Line) → In e net.mail → In l (lines_in e.message)
       → IsLogged decl net.written l

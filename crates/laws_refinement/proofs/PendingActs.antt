@@ -7,6 +7,7 @@ use Rattle.qc_decl.specs.declared.declaration.Declaration.{Declaration}
 use Rattle.qc_decl.specs.Vocabulary.{is_site}
 use Rattle.qc_msg.specs.declared.record.Record.{Record}
 use Rattle.qc_msg.specs.declared.record.Record.TheVariants as records
+use Rattle.qc_msg.specs.Vocabulary.{start_with}
 use Rattle.theory_machine.specs.Vocabulary.{Act, Close, Closes, Deed, Granted, Install, Installs, IsRun, Learn}
 use Rattle.theory_machine.specs.Vocabulary.{LearnsCommit, MayPrepare, PrepareLost, Prepares, Rise, Rises, State}
 use Rattle.theory_machine.specs.Vocabulary.{epoch_from, put, state}
@@ -212,7 +213,7 @@ module _ (decl : Declaration) where
     installs_act : (k : Kept) (epoch clock : ℕ) (lines : List Line)
         → KeptMirrors decl k (state acts).status ((state acts).life a) ((state acts).deeds a)
         → IsDecided decl (state acts) epoch clock lines × (k.epoch < epoch)
-        → SiteMid decl (state acts) a (keeps k (records.Install epoch clock lines))
+        → SiteMid decl (state acts) a (keeps k (records.Install (start_with epoch clock lines)))
     installs_act k epoch clock lines m h = record {
       acts = Install a h.0.decision ∷ acts;
       run = (
@@ -257,11 +258,11 @@ module _ (decl : Declaration) where
         lives = λ b other. refl;
       };
       kept =
-          subst (λ (ds : List Deed). KeptMirrors decl (keeps k (records.Install epoch clock lines)) (state acts).status
+          subst (λ (ds : List Deed). KeptMirrors decl (keeps k (records.Install (start_with epoch clock lines))) (state acts).status
           ((state acts).life a) ds)
           (sym (put_here (state acts).deeds a
           ((state acts).deeds a ++ Installs h.0.decision.epoch h.0.decision.clock h.0.decision.log ∷ [])))
-          (subst (λ (x : Deed). KeptMirrors decl (keeps k (records.Install epoch clock lines)) (state acts).status
+          (subst (λ (x : Deed). KeptMirrors decl (keeps k (records.Install (start_with epoch clock lines))) (state acts).status
           ((state acts).life a) ((state acts).deeds a ++ x ∷ [])) (sym (deed_is h.0))
           (kept_installs decl k (state acts).status ((state acts).life a) ((state acts).deeds a) epoch clock lines m
           h.0.planned h.0.sorted));
@@ -275,9 +276,9 @@ module _ (decl : Declaration) where
     pending_act k (records.Prepare p) m h = prepares_act k p m h
     pending_act k (records.Done tx clock) m h = finishes_act k tx clock m h
     pending_act k (records.Close epoch) m h = closes_act k epoch m h
-    pending_act k (records.Install epoch clock lines) m h = installs_act k epoch clock lines m h
+    pending_act k (records.Install start) m h = installs_act k start.epoch start.clock start.lines m h
     pending_act k (records.Commit commit) m h = absurd h
-    pending_act k (records.Decide epoch clock lines) m h = absurd h
+    pending_act k (records.Decide start) m h = absurd h
 
   -- no commit record is a site's
   pub unwritten : (w : State) (k : Kept) (ds : List Deed) (o : Option Record) → IsPendingAt decl w k ds o
@@ -287,6 +288,6 @@ module _ (decl : Declaration) where
   unwritten w k ds (Some (records.Prepare p)) h = refl
   unwritten w k ds (Some (records.Done tx clock)) h = refl
   unwritten w k ds (Some (records.Close epoch)) h = refl
-  unwritten w k ds (Some (records.Install epoch clock lines)) h = refl
+  unwritten w k ds (Some (records.Install start)) h = refl
   unwritten w k ds (Some (records.Commit commit)) h = absurd h
-  unwritten w k ds (Some (records.Decide epoch clock lines)) h = absurd h
+  unwritten w k ds (Some (records.Decide start)) h = absurd h

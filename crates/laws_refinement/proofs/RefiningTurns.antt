@@ -91,7 +91,7 @@ module _ (decl : Declaration) (accepted : IsAccepted decl) where
             ask_case decl acts net a run m client up e.from e.number tx (e, m.numbered e came.0, came.1, same)
             (sym came.1 ∙ (back (messages.Ask tx) same).0) (back (messages.Ask tx) same).1
         by (messages.Close epoch) same = nothing_done
-        by (messages.Install epoch clock log) same = nothing_done
+        by (messages.Install start) same = nothing_done
 
   -- at the beginning
   pub at_first : IsPlanned decl 1 → Mirrors decl (state []) (first_net decl)
@@ -225,4 +225,4 @@ module _ (decl : Declaration) (accepted : IsAccepted decl) where
         by (messages.Inquiry tx) same = λ r wrote. absurd (let never : ⊥ = cc in never)
         by (messages.Ask tx) same = λ r wrote. absurd (let never : ⊥ = cc in never)
         by (messages.Close epoch) same = λ r wrote. absurd (let never : ⊥ = cc in never)
-        by (messages.Install epoch clock log) same = λ r wrote. absurd (let never : ⊥ = cc in never)
+        by (messages.Install start) same = λ r wrote. absurd (let never : ⊥ = cc in never)

@@ -25,10 +25,10 @@ use Rattle.laws_refinement.specs.Vocabulary.{status_by}
 
 module _ (decl : Declaration) where
   -- a request of a client's turn is one of what runs there
-  abbrev pub IsWantOf : Client → Transaction → Want → Type 0
-  IsWantOf c t (Read object inv) = IsFor decl t c.front.doing (Read object inv)
-  IsWantOf c t (Append object view own) = IsFor decl t c.front.doing (Append object view own)
-  IsWantOf c t Prepare = (v : Voting) × (c.desk.voting ≡ Some v)
+  abbrev pub IsWantOf : Client → Transaction → ℕ → Want → Type 0
+  IsWantOf c t site (Read read) = IsFor decl t c.front.doing site (Read read)
+  IsWantOf c t site (Append object view own) = IsFor decl t c.front.doing site (Append object view own)
+  IsWantOf c t site Prepare = (v : Voting) × (c.desk.voting ≡ Some v)
 
   pub record AsksFor (c : Client) (tx : TxId) (epoch life to : ℕ) (want : Want) : Type 0 where
     pub t : Transaction
@@ -36,7 +36,7 @@ module _ (decl : Declaration) where
     pub its : tx ≡ t.begun.tx
     pub epoch_is : epoch ≡ t.begun.epoch
     pub life_is : life ≡ life_of t.begun.lives to
-    pub for : IsWantOf c t want
+    pub for : IsWantOf c t to want
 
   abbrev pub IsAsking : Client → ℕ → Message → Type 0
   IsAsking c to (messages.Request tx epoch life want) = AsksFor c tx epoch life to want
@@ -45,7 +45,7 @@ module _ (decl : Declaration) where
   IsAsking c to (messages.Inquiry tx) = Unit {0}
   IsAsking c to (messages.Ask tx) = Unit {0}
   IsAsking c to (messages.Close epoch) = Unit {0}
-  IsAsking c to (messages.Install epoch clock log) = Unit {0}
+  IsAsking c to (messages.Install start) = Unit {0}
 
   -- a request of the running round gets its number
 
@@ -61,13 +61,13 @@ module _ (decl : Declaration) where
   counted_more w t (Reading object inv calls round) n to h = h
   counted_more w t (Appending object inv event calls round) n to h = h
 
-  pub for_more : (t : Transaction) (d : Doing) (n to : ℕ) (want : Want) → IsFor decl t d want
-      → IsFor decl t (requested_in d n to) want
-  for_more t Idle n to want h = h
-  for_more t (Reading object inv calls round) n to want h = h
-  for_more t (Appending object inv event calls round) n to want h = h
+  pub for_more : (t : Transaction) (d : Doing) (n to site : ℕ) (want : Want) → IsFor decl t d site want
+      → IsFor decl t (requested_in d n to) site want
+  for_more t Idle n to site want h = h
+  for_more t (Reading object inv calls round) n to site want h = h
+  for_more t (Appending object inv event calls round) n to site want h = h
 
-  calls_more : (ms : List Envelope) (t : Transaction) (d : Doing) (n to : ℕ) (want : Want) → IsFor decl t d want
+  calls_more : (ms : List Envelope) (t : Transaction) (d : Doing) (n to : ℕ) (want : Want) → IsFor decl t d to want
       → IsMessage ms n to (messages.Request t.begun.tx t.begun.epoch (life_of t.begun.lives to) want)
       → ((call : Call) → In call (calls_in d) → IsAskedBy decl ms t d call) → (call : Call)
       → In call (calls_in (requested_in d n to)) → IsAskedBy decl ms t (requested_in d n to) call
@@ -107,7 +107,7 @@ module _ (decl : Declaration) where
       }
 
   pub round_sent : (w : State) (ms : List Envelope) (a : ℕ) (c : Client) (n to : ℕ) (t : Transaction) (want : Want)
-      → ClientMirrors decl w ms a c → c.front.transaction ≡ Some t → IsFor decl t c.front.doing want
+      → ClientMirrors decl w ms a c → c.front.transaction ≡ Some t → IsFor decl t c.front.doing to want
       → IsMessage ms n to (messages.Request t.begun.tx t.begun.epoch (life_of t.begun.lives to) want)
       → ClientMirrors decl w ms a (record c { front = requested c.front n to })
   round_sent w ms a c n to t want m is for r =

@@ -10,9 +10,11 @@ use Rattle.qc_msg.specs.declared.message.Message.TheVariants as messages
 use Rattle.qc_msg.specs.declared.record.Record.{Record}
 use Rattle.qc_msg.specs.declared.record.Record.TheVariants as records
 use Rattle.qc_msg.specs.declared.turn.Posting.{Posting}
+use Rattle.qc_msg.specs.Vocabulary.{start_with}
 use Rattle.theory_machine.specs.Vocabulary.{put}
 use Rattle.theory_machine.proofs.Names.{put_here}
-use Rattle.qc_epoch.specs.Vocabulary.{Admin, AdminMove, Decided, admin_takes, sent_one}
+use Rattle.qc_epoch.specs.Vocabulary.{Admin, AdminMove, admin_takes, sent_one}
+use Rattle.qc_msg.specs.declared.payload.EpochStart.{EpochStart}
 use Rattle.qc_recover.specs.Vocabulary.{epoch_by}
 use Rattle.qc_recover.specs.Admins.{keeps, kept_by}
 use Rattle.laws_refinement.specs.Vocabulary.{AreInTurn, IsGivenBack, IsNextRule, Net, Reaches, Refines, all_sent}
@@ -26,16 +28,16 @@ use Rattle.laws_refinement.proofs.Refining.{nets_refine}
 
 -- one record more
 
-epoch_one : (k : Option Decided) (r : Record) → epoch_by (keeps k r) ≡ rule_after (epoch_by k) r
+epoch_one : (k : Option EpochStart) (r : Record) → epoch_by (keeps k r) ≡ rule_after (epoch_by k) r
 epoch_one k records.Life = refl
 epoch_one k (records.Prepare p) = refl
 epoch_one k (records.Done tx clock) = refl
 epoch_one k (records.Close epoch) = refl
-epoch_one k (records.Install epoch clock lines) = refl
+epoch_one k (records.Install start) = refl
 epoch_one k (records.Commit commit) = refl
-epoch_one k (records.Decide epoch clock lines) = refl
+epoch_one k (records.Decide start) = refl
 
-turn_from : (k : Option Decided) (rs : List Record) (r : Record) → AreInTurn (epoch_by k) rs
+turn_from : (k : Option EpochStart) (rs : List Record) (r : Record) → AreInTurn (epoch_by k) rs
     → IsNextRule (epoch_by (fold keeps k rs)) r → AreInTurn (epoch_by k) (rs ++ r ∷ [])
 turn_from k [] r old new = (new, tt)
 turn_from k (x ∷ xs) r old new = (
@@ -66,7 +68,7 @@ sent_epoch m n to (messages.Decision tx verdict) = refl
 sent_epoch m n to (messages.Inquiry tx) = refl
 sent_epoch m n to (messages.Ask tx) = refl
 sent_epoch m n to (messages.Close epoch) = refl
-sent_epoch m n to (messages.Install epoch clock log) = refl
+sent_epoch m n to (messages.Install start) = refl
 
 all_epoch : (m : Admin) (n : ℕ) (ps : List Posting) → (all_sent m n ps).epoch ≡ m.epoch
 all_epoch m n [] = refl
@@ -173,7 +175,7 @@ module _ (decl : Declaration) (accepted : IsAccepted decl) where
       | inl rests ↦ subst (λ (o : Option Record). AreInTurn 1 (net.records (administrator decl) ++ option_to_list o))
           (sym rests.0) (turn_maybe (net.records (administrator decl)) None i.turn tt)
       | inr d ↦ subst (λ (o : Option Record). AreInTurn 1 (net.records (administrator decl) ++ option_to_list o))
-          (sym d.wrote) (turn_more (net.records (administrator decl)) (records.Decide d.next d.clock d.lines) i.turn
+          (sym d.wrote) (turn_more (net.records (administrator decl)) (records.Decide (start_with d.next d.clock d.lines)) i.turn
           (d.follows ∙ ap (λ (n : ℕ). suc n) (i.here up)))
     ]);
     here = λ u. all_epoch move.admin (length net.mail) move.turn.sends ∙ then_is
@@ -196,7 +198,7 @@ module _ (decl : Declaration) (accepted : IsAccepted decl) where
         | inr d ↦ subst (λ (o : Option Record). move.admin.epoch ≡ epoch_by
             (kept_by (net.records (administrator decl) ++ option_to_list o))) (sym d.wrote)
             (d.then_is ∙ ap epoch_by (sym (rule_more (net.records (administrator decl))
-            (records.Decide d.next d.clock d.lines))))
+            (records.Decide (start_with d.next d.clock d.lines)))))
       ]
 
   -- the record that a turn would write comes next
@@ -206,8 +208,8 @@ module _ (decl : Declaration) (accepted : IsAccepted decl) where
   would_be net move r i up (inl rests) wrote =
       absurd (let both : None ≡ Some r = sym rests.0 ∙ wrote in let never : ⊥ = cc in never)
   would_be net move r i up (inr d) wrote =
-      let both : Some (records.Decide d.next d.clock d.lines) ≡ Some r = sym d.wrote ∙ wrote in
-      let is : records.Decide d.next d.clock d.lines ≡ r = cc in
+      let both : Some (records.Decide (start_with d.next d.clock d.lines)) ≡ Some r = sym d.wrote ∙ wrote in
+      let is : records.Decide (start_with d.next d.clock d.lines) ≡ r = cc in
       subst (λ (x : Record). IsNextRule (epoch_by (kept_by (net.records (administrator decl)))) x) is
       (d.follows ∙ ap (λ (n : ℕ). suc n) (i.here up))
 

@@ -84,7 +84,7 @@ module _ (decl : Declaration) (accepted : IsAccepted decl) (acts : List Act) (ne
       (passes (passed (net.sites a) (messages.Request tx epoch life want)) epoch life is))
     where
       grows : (w : Want) → (net.sites a).clock ≤ clock_after (net.sites a).clock (messages.Request tx epoch life w)
-      grows (Read object inv) = omega arith
+      grows (Read read) = omega arith
       grows (Append object view own) = latest_grows (net.sites a).clock view
       grows Prepare = omega arith
 
@@ -96,8 +96,8 @@ module _ (decl : Declaration) (accepted : IsAccepted decl) (acts : List Act) (ne
           → IsMessage net.mail number a (messages.Request tx epoch life w)
           → Passes (passed (net.sites a) (messages.Request tx epoch life w)) epoch life
           → Continues decl acts (after_site net a (grants decl (passed (net.sites a) (messages.Request tx epoch life w)) from number tx w))
-      looked_at (Read object inv) b r p =
-          read_case decl accepted acts net a run m site up (net.sites a).clock from number tx epoch life object inv
+      looked_at (Read read) b r p =
+          read_case decl accepted acts net a run m site up (net.sites a).clock from number tx epoch life read.object read.inv
           (p.epoch_is ∙ b.2) p.unshut p.lived (omega arith) r b.1
       looked_at (Append object view own) b r p =
           append_case decl accepted acts net a run m site up (latest (net.sites a).clock view) from number tx epoch life
@@ -138,9 +138,9 @@ module _ (decl : Declaration) (accepted : IsAccepted decl) (acts : List Act) (ne
       by (messages.Close epoch) same =
           close_case decl accepted acts net a run m site up e.from e.number epoch (back (messages.Close epoch) same)
           (e, m.numbered e among, to, same)
-      by (messages.Install epoch clock log) same =
-          install_case decl acts net a run m site up e.from e.number epoch clock log
-          (back (messages.Install epoch clock log) same)
+      by (messages.Install start) same =
+          install_case decl acts net a run m site up e.from e.number start.epoch start.clock start.lines
+          (back (messages.Install start) same)
 
   -- whatever a site takes
   pub serve_case : (given : Input) → MayCome net a given

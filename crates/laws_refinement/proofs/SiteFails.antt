@@ -31,6 +31,7 @@ use Rattle.qc_site.specs.Promise as sites
 use Rattle.qc_site.proofs.RequestCases.{append_cases, close_cases, prepare_cases, read_cases, request_cases}
 use Rattle.qc_site.proofs.Cases.{install_cases}
 use Rattle.qc_msg.specs.declared.message.Answer.TheVariants as answers
+use Rattle.qc_msg.specs.Vocabulary.{start_with}
 use Rattle.qc_recover.specs.Vocabulary.{done_stamp, kept_by}
 use Rattle.laws_refinement.specs.Vocabulary.{Backed, IsDecided, IsFinishing, IsHeld, IsPendingAt, IsPlanned}
 use Rattle.laws_refinement.specs.Vocabulary.{IsPreparing, IsPromiseOf, IsPromised, IsVerdictBacked, MayCome, Mirrors}
@@ -149,9 +150,9 @@ module _ (decl : Declaration) (acts : List Act) (net : Net) (a : ℕ) (run : IsR
   want_fails : (from to number epoch life : ℕ) (tx : TxId) (w : Want)
       → Backed decl (state acts) net.mail from to (messages.Request tx epoch life w)
       → Fails (grants decl (passed (net.sites a) (messages.Request tx epoch life w)) from number tx w)
-  want_fails from to number epoch life tx (Read object inv) b =
-      read_cases Fails decl (passed (net.sites a) (messages.Request tx epoch life (Read object inv))) from number tx
-      object inv
+  want_fails from to number epoch life tx (Read read) b =
+      read_cases Fails decl (passed (net.sites a) (messages.Request tx epoch life (Read read))) from number tx
+      read.object read.inv
       (λ free r wrote. absurd (let never : ⊥ = cc in never)) (λ c clash r wrote. absurd (let never : ⊥ = cc in never))
   want_fails from to number epoch life tx (Append object view own) b =
       append_cases Fails decl (passed (net.sites a) (messages.Request tx epoch life (Append object view own))) from
@@ -188,7 +189,7 @@ module _ (decl : Declaration) (acts : List Act) (net : Net) (a : ℕ) (run : IsR
   install_fails from number k clock log d =
       install_cases Fails (record (net.sites a) { clock = latest (net.sites a).clock log }) from number k clock log
       (λ answer r wrote. absurd (let never : ⊥ = cc in never))
-      (λ later fits r wrote. (let e : records.Install k clock log ≡ r = cc in (
+      (λ later fits r wrote. (let e : records.Install (start_with k clock log) ≡ r = cc in (
         subst (λ (x : Record). IsPendingAt decl (state acts) (kept_by (net.records a)) ((state acts).deeds a) (Some x))
             e (d, subst (λ (n : ℕ). n < k) epoch_kept (leb-false k (net.sites a).epoch later)),
         faulted from number,
@@ -212,8 +213,8 @@ module _ (decl : Declaration) (acts : List Act) (net : Net) (a : ℕ) (run : IsR
       by (messages.Ask tx) same = λ r wrote. absurd (let never : ⊥ = cc in never)
       by (messages.Close epoch) same = close_fails e.from e.number epoch
           (subst (λ (x : Message). Backed decl (state acts) net.mail e.from e.to x) same (m.mail e among))
-      by (messages.Install epoch clock log) same =
-          install_fails e.from e.number epoch clock log
+      by (messages.Install start) same =
+          install_fails e.from e.number start.epoch start.clock start.lines
           (subst (λ (x : Message). Backed decl (state acts) net.mail e.from e.to x) same (m.mail e among))
 
   pub take_fails : (given : Input) → MayCome net a given → Fails (site_takes decl (net.sites a) given)

@@ -30,6 +30,7 @@ use Rattle.laws_refinement.specs.Vocabulary.{Mirrors, Net, SiteMirrors, after_si
 use Rattle.std.specs.Prelude.{option_to_list}
 use Rattle.std.proofs.lemmas.List.{append-nil}
 use Rattle.qc_msg.specs.declared.record.Record.{Record}
+use Rattle.qc_msg.specs.Vocabulary.{grant_with, read_of}
 use Rattle.qc_recover.specs.Vocabulary.{kept_by}
 use Rattle.laws_refinement.proofs.KeptDeeds.{kept_same, leaves_epoch}
 use Rattle.laws_refinement.proofs.MessagesStay.{keeps_same, same_state}
@@ -143,18 +144,18 @@ module _ (decl : Declaration) (acts : List Act) (net : Net) (a : ℕ) (run : IsR
       ((state acts).life a)
       → ((t : TxId) → is_held now.held t ≡ true → (state acts).status t ≢ NotBegun)
       → IsAscending log → ((l : Line) → In l log → In l (site_after ((state acts).deeds a)).volatile)
-      → ((object inv : ℕ) → want ≡ Read object inv → (l : Line) → In l log → l.object ≡ object)
-      → ((object inv : ℕ) → want ≡ Read object inv → (l : Line) → In l (site_after ((state acts).deeds a)).volatile
+      → ((object inv : ℕ) → want ≡ Read (read_of object inv) → (l : Line) → In l log → l.object ≡ object)
+      → ((object inv : ℕ) → want ≡ Read (read_of object inv) → (l : Line) → In l (site_after ((state acts).deeds a)).volatile
       → l.object ≡ object → In l log)
       → Continues decl acts
-      (after_site net a (moved now (answers_with from number (answers.Granted (net.sites a).life clock log))))
+      (after_site net a (moved now (answers_with from number (answers.Granted (grant_with (net.sites a).life clock log)))))
   grants_it clock from number tx epoch named want asks log now alike going born request lived here holders sorted lines
       shown whole = record {
         more = Grant g ∷ [];
         refines = record {
           run = going;
           agrees =
-              site_goes decl w v net a (moved now (answers_with from number (answers.Granted (net.sites a).life clock log)))
+              site_goes decl w v net a (moved now (answers_with from number (answers.Granted (grant_with (net.sites a).life clock log))))
               m site up (record {
                 later =
                     record {
@@ -205,7 +206,7 @@ module _ (decl : Declaration) (acts : List Act) (net : Net) (a : ℕ) (run : IsR
                 there = λ b other. put_other w.deeds a _ b other;
                 alive = λ b other. refl;
                 holders = holders;
-                turn = one_answer decl v net.mail a from number (answers.Granted (net.sites a).life clock log) (record {
+                turn = one_answer decl v net.mail a from number (answers.Granted (grant_with (net.sites a).life clock log)) (record {
                   tx = tx;
                   want = want;
                   begun = born;

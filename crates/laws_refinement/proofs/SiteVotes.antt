@@ -29,6 +29,7 @@ use Rattle.qc_site.specs.Vocabulary.{passed, prepared_of, promise_of, recording,
 use Rattle.qc_site.specs.Vocabulary.{without_prepared}
 use Rattle.qc_decl.specs.Vocabulary.{most_record_bytes}
 use Rattle.qc_msg.specs.Vocabulary.{epoch_length}
+use Rattle.qc_msg.specs.Vocabulary.{start_with}
 use Rattle.qc_site.proofs.RequestCases.{append_cases, close_cases, join_cases, prepare_cases, read_cases, request_cases}
 use Rattle.qc_site.proofs.Cases.{install_cases}
 use Rattle.qc_recover.specs.Vocabulary.{Kept, inquiry, keeps, kept_by, nothing_kept}
@@ -47,9 +48,9 @@ one_more k (records.Prepare q) p among = elim (in_split p (without_prepared k.pr
 one_more k (records.Done tx clock) p among =
     inl (In-unfiltered (λ (x : Prepared). not (same_tx x.tx tx)) p k.promises among)
 one_more k (records.Close epoch) p among = inl among
-one_more k (records.Install epoch clock lines) p among = absurd among
+one_more k (records.Install start) p among = absurd among
 one_more k (records.Commit commit) p among = inl among
-one_more k (records.Decide epoch clock lines) p among = inl among
+one_more k (records.Decide start) p among = inl among
 
 pub promises_from : (rs : List Record) (k : Kept) (p : Prepared) → In p (fold keeps k rs).promises
     → In p k.promises ⊎ In (records.Prepare p) rs
@@ -105,9 +106,9 @@ module _ (decl : Declaration) (s : SiteState) where
   wanted : (from number epoch life : ℕ) (tx : TxId) (w : Want)
       → Votes s number (messages.Request tx epoch life w)
       (grants decl (passed s (messages.Request tx epoch life w)) from number tx w)
-  wanted from number epoch life tx (Read object inv) =
-      read_cases (Votes s number (messages.Request tx epoch life (Read object inv))) decl
-      (passed s (messages.Request tx epoch life (Read object inv))) from number tx object inv
+  wanted from number epoch life tx (Read read) =
+      read_cases (Votes s number (messages.Request tx epoch life (Read read))) decl
+      (passed s (messages.Request tx epoch life (Read read))) from number tx read.object read.inv
       (λ free p among to clock is. (let r = one_answer from number _ p among to clock is in let e = r.1 in
       absurd (let never : ⊥ = cc in never)))
       (λ c clash p among to clock is. clashes p among to clock is)
@@ -116,7 +117,7 @@ module _ (decl : Declaration) (s : SiteState) where
           → In p (answering from number (answers.Clash c.holder c.inv c.event)
           ∷ record { to = b; message = messages.Inquiry c.holder } ∷ []) → (to clock : ℕ)
           → p.message ≡ messages.Answer to (answers.Yes clock)
-          → Voted s number (messages.Request tx epoch life (Read object inv)) None to
+          → Voted s number (messages.Request tx epoch life (Read read)) None to
       clashes p (inl same) to clock is = absurd (let never : ⊥ = cc in never)
       clashes p (inr (inl same)) to clock is = absurd (let never : ⊥ = cc in never)
       clashes p (inr (inr never)) to clock is = absurd never
@@ -185,14 +186,14 @@ module _ (decl : Declaration) (s : SiteState) where
           absurd (let never : ⊥ = cc in never))
 
   install_votes : (from number k at : ℕ) (log : List Line)
-      → Votes s number (messages.Install k at log)
+      → Votes s number (messages.Install (start_with k at log))
       (installs (record s { clock = latest s.clock log }) from number k at log)
   install_votes from number k at log = by (nat_le k s.epoch) (nat_le (epoch_length log) most_record_bytes)
     where
-      by : (b c : Bool) → Votes s number (messages.Install k at log)
+      by : (b c : Bool) → Votes s number (messages.Install (start_with k at log))
           (cond b (moved (record s { clock = latest s.clock log }) (answers_with from number answers.Installed))
           (cond c (moved (installed (record s { clock = latest s.clock log }) k at log)
-          (recording from number (records.Install k at log) answers.Installed))
+          (recording from number (records.Install (start_with k at log)) answers.Installed))
           (moved (record s { clock = latest s.clock log }) (answers_with from number (answers.Behind s.epoch)))))
       by true c p among to clock is = (let r = one_answer from number answers.Installed p among to clock is in
           let e = r.1 in absurd (let never : ⊥ = cc in never))
@@ -222,7 +223,7 @@ module _ (decl : Declaration) (s : SiteState) where
   message_votes from number (messages.Inquiry tx) = λ p among to clock is. absurd among
   message_votes from number (messages.Ask tx) = λ p among to clock is. absurd among
   message_votes from number (messages.Close epoch) = close_votes from number epoch
-  message_votes from number (messages.Install epoch clock log) = install_votes from number epoch clock log
+  message_votes from number (messages.Install start) = install_votes from number start.epoch start.clock start.lines
 
 -- what is sent where the record isn't written is no vote
 
@@ -238,8 +239,8 @@ module _ (decl : Declaration) (s : SiteState) where
 
   want_silent : (from number epoch life : ℕ) (tx : TxId) (w : Want)
       → Silent (grants decl (passed s (messages.Request tx epoch life w)) from number tx w)
-  want_silent from number epoch life tx (Read object inv) =
-      read_cases Silent decl (passed s (messages.Request tx epoch life (Read object inv))) from number tx object inv
+  want_silent from number epoch life tx (Read read) =
+      read_cases Silent decl (passed s (messages.Request tx epoch life (Read read))) from number tx read.object read.inv
       (λ free p among to clock is. among) (λ c clash p among to clock is. among)
   want_silent from number epoch life tx (Append object view own) =
       append_cases Silent decl (passed s (messages.Request tx epoch life (Append object view own))) from number tx
@@ -264,8 +265,8 @@ module _ (decl : Declaration) (s : SiteState) where
   message_silent from number (messages.Close epoch) =
       close_cases Silent (passed s (messages.Close epoch)) from number epoch (λ answer p among to clock is. among)
       (λ near later. faulted from number)
-  message_silent from number (messages.Install epoch clock log) =
-      install_cases Silent (passed s (messages.Install epoch clock log)) from number epoch clock log
+  message_silent from number (messages.Install start) =
+      install_cases Silent (passed s (messages.Install start)) from number start.epoch start.clock start.lines
       (λ answer p among to at is. among) (λ later fits. faulted from number)
 
   pub take_silent : (given : Input) → Silent (site_takes decl s given)

@@ -50,7 +50,7 @@ record Stands (decl : Declaration) (front : Front) : Type 0 where
 -- requests of rounds are numbered at the front end, and nothing else is
 
 abbrev IsRoundWant : Want → Type 0
-IsRoundWant (Read object inv) = Unit {0}
+IsRoundWant (Read read) = Unit {0}
 IsRoundWant (Append object view own) = Unit {0}
 IsRoundWant Prepare = ⊥
 
@@ -61,12 +61,12 @@ IsFrontMessage (messages.Decision tx verdict) = Unit {0}
 IsFrontMessage (messages.Inquiry tx) = Unit {0}
 IsFrontMessage (messages.Ask tx) = Unit {0}
 IsFrontMessage (messages.Close epoch) = Unit {0}
-IsFrontMessage (messages.Install epoch clock log) = Unit {0}
+IsFrontMessage (messages.Install start) = Unit {0}
 
 want_numbered : (c : Client) (n to : ℕ) (tx : TxId) (epoch life : ℕ) (want : Want) → IsRoundWant want
     → (sent_one c n to (messages.Request tx epoch life want)).front ≡ numbered_one c.front n to
     (messages.Request tx epoch life want)
-want_numbered c n to tx epoch life (Read object inv) is = refl
+want_numbered c n to tx epoch life (Read read) is = refl
 want_numbered c n to tx epoch life (Append object view own) is = refl
 want_numbered c n to tx epoch life Prepare is = absurd is
 
@@ -78,7 +78,7 @@ one_numbered c n to (messages.Decision tx verdict) is = refl
 one_numbered c n to (messages.Inquiry tx) is = refl
 one_numbered c n to (messages.Ask tx) is = refl
 one_numbered c n to (messages.Close epoch) is = refl
-one_numbered c n to (messages.Install epoch clock log) is = refl
+one_numbered c n to (messages.Install start) is = refl
 
 all_numbered : (c : Client) (n : ℕ) (ps : List Posting) → ((p : Posting) → In p ps → IsFrontMessage p.message)
     → (sent_all c n ps).front ≡ numbered_all c.front n ps
@@ -91,18 +91,18 @@ all_numbered c n (p ∷ ps) are =
 
 abbrev IsDeskMessage : Message → Type 0
 IsDeskMessage (messages.Request tx epoch life Prepare) = Unit {0}
-IsDeskMessage (messages.Request tx epoch life (Read object inv)) = ⊥
+IsDeskMessage (messages.Request tx epoch life (Read read)) = ⊥
 IsDeskMessage (messages.Request tx epoch life (Append object view own)) = ⊥
 IsDeskMessage (messages.Answer number answer) = Unit {0}
 IsDeskMessage (messages.Decision tx verdict) = Unit {0}
 IsDeskMessage (messages.Inquiry tx) = Unit {0}
 IsDeskMessage (messages.Ask tx) = Unit {0}
 IsDeskMessage (messages.Close epoch) = Unit {0}
-IsDeskMessage (messages.Install epoch clock log) = Unit {0}
+IsDeskMessage (messages.Install start) = Unit {0}
 
 one_left : (c : Client) (n to : ℕ) (message : Message) → IsDeskMessage message
     → (sent_one c n to message).front ≡ c.front
-one_left c n to (messages.Request tx epoch life (Read object inv)) is = absurd is
+one_left c n to (messages.Request tx epoch life (Read read)) is = absurd is
 one_left c n to (messages.Request tx epoch life (Append object view own)) is = absurd is
 one_left c n to (messages.Request tx epoch life Prepare) is = refl
 one_left c n to (messages.Answer number answer) is = refl
@@ -110,7 +110,7 @@ one_left c n to (messages.Decision tx verdict) is = refl
 one_left c n to (messages.Inquiry tx) is = refl
 one_left c n to (messages.Ask tx) is = refl
 one_left c n to (messages.Close epoch) is = refl
-one_left c n to (messages.Install epoch clock log) is = refl
+one_left c n to (messages.Install start) is = refl
 
 all_left : (c : Client) (n : ℕ) (ps : List Posting) → ((p : Posting) → In p ps → IsDeskMessage p.message)
     → (sent_all c n ps).front ≡ c.front
@@ -119,7 +119,7 @@ all_left c n (p ∷ ps) are = all_left (sent_one c n p.to p.message) (n + 1) ps 
     ∙ one_left c n p.to p.message (are p (inl refl))
 
 prepare_left : (message : Message) → IsPrepare message → IsDeskMessage message
-prepare_left (messages.Request tx epoch life (Read object inv)) is = absurd is
+prepare_left (messages.Request tx epoch life (Read read)) is = absurd is
 prepare_left (messages.Request tx epoch life (Append object view own)) is = absurd is
 prepare_left (messages.Request tx epoch life Prepare) is = tt
 prepare_left (messages.Answer number answer) is = tt
@@ -127,7 +127,7 @@ prepare_left (messages.Decision tx verdict) is = tt
 prepare_left (messages.Inquiry tx) is = tt
 prepare_left (messages.Ask tx) is = tt
 prepare_left (messages.Close epoch) is = tt
-prepare_left (messages.Install epoch clock log) is = tt
+prepare_left (messages.Install start) is = tt
 
 decision_left : (tx : TxId) (outcome : Outcome) (sites : List ℕ) (p : Posting)
     → In p (map (λ (site : ℕ). record { to = site; message = messages.Decision tx outcome }) sites)
@@ -139,20 +139,20 @@ decision_left tx outcome (site ∷ sites) p (inr rest) = decision_left tx outcom
 module _ (decl : Declaration) where
   -- a turn of the front end
 
-  round_want : (t : Transaction) (d : Doing) (want : Want) → IsFor decl t d want → IsRoundWant want
-  round_want t Idle want for = absurd for
-  round_want t (Reading object inv calls round) want for = subst IsRoundWant (sym for) tt
-  round_want t (Appending object inv event calls round) want for = subst IsRoundWant (sym for) tt
+  round_want : (t : Transaction) (d : Doing) (site : ℕ) (want : Want) → IsFor decl t d site want → IsRoundWant want
+  round_want t Idle site want for = absurd for
+  round_want t (Reading object inv calls round) site want for = subst IsRoundWant (sym for) tt
+  round_want t (Appending object inv event calls round) site want for = subst IsRoundWant (sym for) tt
 
   sent_by_front : (before after : Front) (to : ℕ) (message : Message) → IsSent decl before after to message
       → IsFrontMessage message
-  sent_by_front before after to (messages.Request tx epoch life want) s = round_want s.t after.doing want s.wants
+  sent_by_front before after to (messages.Request tx epoch life want) s = round_want s.t after.doing to want s.wants
   sent_by_front before after to (messages.Answer number answer) s = tt
   sent_by_front before after to (messages.Decision tx verdict) s = tt
   sent_by_front before after to (messages.Inquiry tx) s = tt
   sent_by_front before after to (messages.Ask tx) s = tt
   sent_by_front before after to (messages.Close epoch) s = tt
-  sent_by_front before after to (messages.Install epoch clock log) s = tt
+  sent_by_front before after to (messages.Install start) s = tt
 
   front_turn : (c : Client) (move : FrontMove) (n : ℕ) → FrontHolds decl move.front → AreSent decl c.front move
       → AsksAtOnce decl move → Stands decl (sent_all (by_front c move).client n (by_front c move).turn.sends).front
@@ -238,7 +238,7 @@ module _ (decl : Declaration) where
   heard_stands c from number (messages.Inquiry tx) n s = s
   heard_stands c from number (messages.Ask tx) n s = s
   heard_stands c from number (messages.Close epoch) n s = s
-  heard_stands c from number (messages.Install epoch clock log) n s = s
+  heard_stands c from number (messages.Install start) n s = s
 
   takes_stands : (c : Client) (given : Input) (n : ℕ) → Stands decl c.front
       → Stands decl (sent_all (client_takes decl c given).client n (client_takes decl c given).turn.sends).front

@@ -27,7 +27,7 @@ module _ (decl : Declaration) where
   pub left_of : (w : State) (ms : List Envelope) (from number : ℕ) (desk : Desk) (answer : Option Answer)
       → AnswerBacked decl w ms from number answer → Left decl desk (learns desk answer)
   left_of w ms from number desk None bk = record { client = refl; epoch = λ p. p; commits = refl; later = omega arith }
-  left_of w ms from number desk (Some (answers.Granted life clock log)) bk =
+  left_of w ms from number desk (Some (answers.Granted grant)) bk =
       record { client = refl; epoch = λ p. p; commits = refl; later = omega arith }
   left_of w ms from number desk (Some (answers.Clash holder inv event)) bk =
       record { client = refl; epoch = λ p. p; commits = refl; later = omega arith }
@@ -43,7 +43,7 @@ module _ (decl : Declaration) where
       record { client = refl; epoch = λ p. p; commits = refl; later = omega arith }
   left_of w ms from number desk (Some (answers.Yes clock)) bk =
       record { client = refl; epoch = λ p. p; commits = refl; later = omega arith }
-  left_of w ms from number desk (Some (answers.Shut clock log prepared)) bk =
+  left_of w ms from number desk (Some (answers.Shut snapshot)) bk =
       record { client = refl; epoch = λ p. p; commits = refl; later = omega arith }
   left_of w ms from number desk (Some answers.Installed) bk =
       record { client = refl; epoch = λ p. p; commits = refl; later = omega arith }
@@ -55,7 +55,7 @@ module _ (decl : Declaration) where
       → AnswerBacked decl w ms from number answer → IsRequest ms number site tx wants.Prepare
       → vote_of b site answer ≡ For → In (record { tx = tx; site = site }) w.votes
   voted w ms from number site b tx None bk r e = absurd (let never : ⊥ = cc in never)
-  voted w ms from number site b tx (Some (answers.Granted life clock log)) bk r e = absurd (let never : ⊥ = cc in never)
+  voted w ms from number site b tx (Some (answers.Granted grant)) bk r e = absurd (let never : ⊥ = cc in never)
   voted w ms from number site b tx (Some (answers.Clash holder inv event)) bk r e = absurd (let never : ⊥ = cc in never)
   voted w ms from number site b tx (Some (answers.Closed epoch)) bk r e = absurd (let never : ⊥ = cc in never)
   voted w ms from number site b tx (Some (answers.Behind epoch)) bk r e = absurd (let never : ⊥ = cc in never)
@@ -67,7 +67,7 @@ module _ (decl : Declaration) where
       one_request ms number site from tx bk.tx wants.Prepare wants.Prepare r bk.request in
       subst (λ (s : ℕ). In (record { tx = tx; site = s }) w.votes) (sym one.1)
       (subst (λ (u : TxId). In (record { tx = u; site = from }) w.votes) (sym one.0) bk.vote)
-  voted w ms from number site b tx (Some (answers.Shut clock log prepared)) bk r e =
+  voted w ms from number site b tx (Some (answers.Shut snapshot)) bk r e =
       absurd (let never : ⊥ = cc in never)
   voted w ms from number site b tx (Some answers.Installed) bk r e = absurd (let never : ⊥ = cc in never)
   voted w ms from number site b tx (Some (answers.Answered verdict)) bk r e = absurd (let never : ⊥ = cc in never)

@@ -20,7 +20,8 @@ use Rattle.qc_msg.specs.declared.record.Record.{Record}
 use Rattle.qc_msg.specs.declared.record.Record.TheVariants as records
 use Rattle.theory_machine.specs.Vocabulary.{Decision, MayDecide, NotBegun, State}
 use Rattle.qc_recover.specs.Vocabulary.{epoch_by}
-use Rattle.qc_epoch.specs.Vocabulary.{Admin, Asking, Decided, Doing, Installing, Question, Resting, ShutSite}
+use Rattle.qc_epoch.specs.Vocabulary.{Admin, Asking, Doing, Installing, Question, Resting, ShutSite}
+use Rattle.qc_msg.specs.declared.payload.EpochStart.{EpochStart}
 use Rattle.qc_epoch.specs.Vocabulary.{close_need}
 use Rattle.qc_epoch.specs.Admin as admins
 use Rattle.laws_refinement.specs.Messages.{IsMessage, IsSnapshot, IsVerdictBacked}
@@ -81,7 +82,7 @@ DoingMirrors decl now mail epoch (Asking k shuts questions) = (k ≡ suc epoch) 
     × ((q : Question) → In q questions → QuestionMirrors decl now mail q)
 DoingMirrors decl now mail epoch (Installing closed awaited calls installed) = Unit {0}
 
-abbrev pub DecidedMirrors : Declaration → State → ℕ → Option Decided → Type 0
+abbrev pub DecidedMirrors : Declaration → State → ℕ → Option EpochStart → Type 0
 DecidedMirrors decl now epoch None = Unit {0}
 DecidedMirrors decl now epoch (Some d) = (d.epoch ≡ epoch) × IsDecided decl now d.epoch d.clock d.lines
 
@@ -91,7 +92,7 @@ pub record AdminMirrors (decl : Declaration) (now : State) (mail : List Envelope
   pub doing : DoingMirrors decl now mail m.epoch m.doing
 
 -- what his records give was decided
-pub record RulesMirror (decl : Declaration) (now : State) (k : Option Decided) : Type 0 where
+pub record RulesMirror (decl : Declaration) (now : State) (k : Option EpochStart) : Type 0 where
   pub planned : IsPlanned decl (epoch_by k)
   pub decided : DecidedMirrors decl now (epoch_by k) k
 
@@ -118,6 +119,6 @@ IsPendingRule decl now (Some records.Life) = Unit {0}
 IsPendingRule decl now (Some (records.Prepare p)) = ⊥
 IsPendingRule decl now (Some (records.Done tx clock)) = ⊥
 IsPendingRule decl now (Some (records.Close epoch)) = ⊥
-IsPendingRule decl now (Some (records.Install epoch clock lines)) = ⊥
+IsPendingRule decl now (Some (records.Install start)) = ⊥
 IsPendingRule decl now (Some (records.Commit r)) = ⊥
-IsPendingRule decl now (Some (records.Decide epoch clock lines)) = IsDeciding decl now epoch clock lines
+IsPendingRule decl now (Some (records.Decide start)) = IsDeciding decl now start.epoch start.clock start.lines

@@ -110,7 +110,7 @@ IsAskedBy decl mail t doing call =
     (want : Want)
     × IsMessage mail call.number call.site
     (messages.Request t.begun.tx t.begun.epoch (life_of t.begun.lives call.site) want)
-    × IsFor decl t doing want
+    × IsFor decl t doing call.site want
 
 -- a begun transaction's operations, views and participants, whatever runs
 pub record TransactionMirrors (now : State) (front : Front) (t : Transaction) : Type 0 where
@@ -196,9 +196,9 @@ IsPendingBy now client (Some records.Life) = Unit {0}
 IsPendingBy now client (Some (records.Prepare p)) = ⊥
 IsPendingBy now client (Some (records.Done tx clock)) = ⊥
 IsPendingBy now client (Some (records.Close epoch)) = ⊥
-IsPendingBy now client (Some (records.Install epoch clock lines)) = ⊥
+IsPendingBy now client (Some (records.Install start)) = ⊥
 IsPendingBy now client (Some (records.Commit r)) = MayCommit now r × (r.tx.client ≡ client)
-IsPendingBy now client (Some (records.Decide epoch clock lines)) = ⊥
+IsPendingBy now client (Some (records.Decide start)) = ⊥
 
 -- a client that is down: by its records; each transaction without one has aborted, but the one whose record is pending
 pub record FallenMirrors (now : State) (client : ℕ) (k : Kept) (pending : Option Record) : Type 0 where

@@ -14,6 +14,6 @@ own_items own = map own_item own
 
 -- a Read asks for its lock, an Append for its own lines, a Prepare for nothing new
 abbrev pub items_wanted : Want → List Item
-items_wanted (Read object inv) = Lock (record { object = object; inv = inv }) ∷ []
+items_wanted (Read read) = Lock (record { object = read.object; inv = read.inv }) ∷ []
 items_wanted (Append object view own) = own_items own
 items_wanted Prepare = []

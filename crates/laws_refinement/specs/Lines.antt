@@ -11,7 +11,10 @@ use Rattle.qc_msg.specs.declared.message.Outcome.{Outcome}
 use Rattle.qc_msg.specs.declared.message.Outcome.TheVariants as outcomes
 use Rattle.theory_machine.specs.Vocabulary.{IsVerdictOf}
 use Rattle.qc_site.specs.Vocabulary.{view_in}
-use Rattle.qc_msg.specs.Vocabulary.{Answered, Granting, Installing, Requested, Shutting, answer_in, granted_in}
+use Rattle.qc_msg.specs.Vocabulary.{Answered, Requested, answer_in, granted_in}
+use Rattle.qc_msg.specs.declared.payload.EpochStart.{EpochStart}
+use Rattle.qc_msg.specs.declared.payload.Snapshot.{Snapshot}
+use Rattle.qc_msg.specs.declared.payload.Grant.{Grant}
 use Rattle.qc_msg.specs.Vocabulary.{installing_in, request_in, shut_in}
 
 -- the lines of a grant's log, and of a snapshot's log and promises
@@ -21,14 +24,14 @@ lines_promised prepared = flat_map (λ (p : Prepared). p.lines) prepared
 
 abbrev pub lines_answered : Answer → List Line
 lines_answered answer =
-    option_map_or (λ (g : Granting). g.log) (granted_in answer)
-    (option_map_or (λ (z : Shutting). z.log ++ lines_promised z.prepared) (shut_in answer) [])
+    option_map_or (λ (g : Grant). g.log) (granted_in answer)
+    (option_map_or (λ (z : Snapshot). z.log ++ lines_promised z.prepared) (shut_in answer) [])
 
 abbrev pub lines_in : Message → List Line
 lines_in message =
     option_map_or (λ (q : Requested). view_in q.want) (request_in message)
     (option_map_or (λ (a : Answered). lines_answered a.answer) (answer_in message)
-    (option_map_or (λ (i : Installing). i.lines) (installing_in message) []))
+    (option_map_or (λ (i : EpochStart). i.lines) (installing_in message) []))
 
 -- a final verdict is the records': one with this stamp, or none
 

@@ -17,6 +17,7 @@ use Rattle.qc_msg.specs.declared.message.Outcome.{Outcome}
 use Rattle.qc_msg.specs.declared.message.Outcome.TheVariants as outcomes
 use Rattle.qc_msg.specs.declared.message.Want.{Want}
 use Rattle.qc_msg.specs.declared.message.Want.TheVariants.{Read, Append, Prepare}
+use Rattle.qc_msg.specs.Vocabulary.{read_of}
 use Rattle.theory_machine.specs.Vocabulary.{Granted, MayPrepare, NotBegun, Snapshot, State, YesVote, epoch_from}
 use Rattle.theory_machine.specs.Vocabulary.{promise_of, site_after}
 use Rattle.qc_site.specs.Vocabulary.{prepared_of}
@@ -36,7 +37,7 @@ pub record IsRequest (mail : List Envelope) (number site : ℕ) (tx : TxId) (wan
 
 -- a Read or an Append is granted, a Prepare is voted on
 abbrev pub IsGrantable : Want → Type 0
-IsGrantable (Read object inv) = Unit {0}
+IsGrantable (Read read) = Unit {0}
 IsGrantable (Append object view own) = Unit {0}
 IsGrantable Prepare = ⊥
 
@@ -57,8 +58,8 @@ pub record IsGrant (decl : Declaration) (now : State) (site life clock : ℕ) (l
   pub items_are : grant.items ≡ items_wanted want
   pub sorted : IsAscending log
   pub lines : (l : Line) → In l log → In l (site_after grant.before).volatile
-  pub shown : (object inv : ℕ) → want ≡ Read object inv → (l : Line) → In l log → l.object ≡ object
-  pub whole : (object inv : ℕ) → want ≡ Read object inv
+  pub shown : (object inv : ℕ) → want ≡ Read (read_of object inv) → (l : Line) → In l log → l.object ≡ object
+  pub whole : (object inv : ℕ) → want ≡ Read (read_of object inv)
       → (l : Line) → In l (site_after grant.before).volatile → l.object ≡ object → In l log
 
 -- a grant is the answer to a request of the number that it names, in the life that this named, if any
@@ -118,7 +119,7 @@ pub record IsAnsweredTo (now : State) (mail : List Envelope) (from number : ℕ)
 -- an Append was sent in the machine, its view in order and its own lines of its object; a Prepare too, and it names the
 -- life of all grants of that site that count
 abbrev pub IsWanted : State → TxId → ℕ → ℕ → Want → Type 0
-IsWanted now tx site life (Read object inv) = Unit {0}
+IsWanted now tx site life (Read read) = Unit {0}
 IsWanted now tx site life (Append object view own) =
     In (record { tx = tx; items = own_items own; view = view }) now.appends
     × IsAscending view × ((o : OwnLine) → In o own → o.object ≡ object)
@@ -126,8 +127,8 @@ IsWanted now tx site life Prepare = MayPrepare (now.status tx) × (0 < life)
     × ((g : Granted) → In g now.counted → g.tx ≡ tx → g.site ≡ site → g.life ≡ life)
 
 abbrev pub IsAnswerBacked : Declaration → State → List Envelope → ℕ → ℕ → Answer → Type 0
-IsAnswerBacked decl now mail from number (answers.Granted life clock log) =
-    IsGrantTo decl now mail from number life clock log
+IsAnswerBacked decl now mail from number (answers.Granted grant) =
+    IsGrantTo decl now mail from number grant.life grant.clock grant.log
 IsAnswerBacked decl now mail from number (answers.Clash holder inv event) = Unit {0}
 IsAnswerBacked decl now mail from number (answers.Closed epoch) = IsPlanned decl epoch
 IsAnswerBacked decl now mail from number (answers.Behind epoch) = Unit {0}
@@ -135,8 +136,8 @@ IsAnswerBacked decl now mail from number (answers.Restarted life) = Unit {0}
 IsAnswerBacked decl now mail from number answers.Stale = Unit {0}
 IsAnswerBacked decl now mail from number answers.Fault = Unit {0}
 IsAnswerBacked decl now mail from number (answers.Yes clock) = IsVoteTo now.votes mail from number
-IsAnswerBacked decl now mail from number (answers.Shut clock log prepared) =
-    IsShutTo decl now mail from number clock log prepared
+IsAnswerBacked decl now mail from number (answers.Shut snapshot) =
+    IsShutTo decl now mail from number snapshot.clock snapshot.log snapshot.prepared
 IsAnswerBacked decl now mail from number answers.Installed = Unit {0}
 IsAnswerBacked decl now mail from number (answers.Answered verdict) = IsAnsweredTo now mail from number verdict
 
@@ -150,4 +151,4 @@ Backed decl now mail from to (messages.Decision tx verdict) = IsVerdictBacked no
 Backed decl now mail from to (messages.Inquiry tx) = (to ≡ client_actor decl tx.client) × (now.status tx ≢ NotBegun)
 Backed decl now mail from to (messages.Ask tx) = (to ≡ client_actor decl tx.client) × (now.status tx ≢ NotBegun)
 Backed decl now mail from to (messages.Close epoch) = IsPlanned decl epoch
-Backed decl now mail from to (messages.Install epoch clock log) = IsDecided decl now epoch clock log
+Backed decl now mail from to (messages.Install start) = IsDecided decl now start.epoch start.clock start.lines

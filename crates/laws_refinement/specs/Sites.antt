@@ -160,7 +160,7 @@ IsPendingAt decl now k ds (Some records.Life) = Unit {0}
 IsPendingAt decl now k ds (Some (records.Prepare p)) = IsPreparing now k ds p
 IsPendingAt decl now k ds (Some (records.Done tx clock)) = IsFinishing now k ds tx clock
 IsPendingAt decl now k ds (Some (records.Close epoch)) = IsClosing decl k.epoch (Some epoch)
-IsPendingAt decl now k ds (Some (records.Install epoch clock lines)) =
-    IsDecided decl now epoch clock lines × (k.epoch < epoch)
+IsPendingAt decl now k ds (Some (records.Install start)) =
+    IsDecided decl now start.epoch start.clock start.lines × (k.epoch < start.epoch)
 IsPendingAt decl now k ds (Some (records.Commit commit)) = ⊥
-IsPendingAt decl now k ds (Some (records.Decide epoch clock lines)) = ⊥
+IsPendingAt decl now k ds (Some (records.Decide start)) = ⊥

@@ -92,7 +92,7 @@ asked_grows old t r is = (
   by x (inl before) = inl (subst (In x) is before)
   by x (inr now) = inr (wanted_in r x now)
 
-requests_few : (b : Begun) (want : Want) (r : RoundState)
+requests_few : (b : Begun) (want : ℕ → Want) (r : RoundState)
     → length (map (request_of b want) (wanted r)) ≤ length (asking_all r (wanted r)).asked
 requests_few b want r =
     let same : length (map (request_of b want) (wanted r)) ≡ length (wanted r) =

@@ -73,8 +73,8 @@ heard_cases decl c from number P silent comes inquired asked (messages.Inquiry t
 heard_cases decl c from number P silent comes inquired asked (messages.Ask tx) = asked tx
 heard_cases decl c from number P silent comes inquired asked (messages.Close epoch) =
     silent (messages.Close epoch) refl
-heard_cases decl c from number P silent comes inquired asked (messages.Install epoch clock log) =
-    silent (messages.Install epoch clock log) refl
+heard_cases decl c from number P silent comes inquired asked (messages.Install start) =
+    silent (messages.Install start) refl
 
 -- a message that is sent changes it where it is a request: the front end notes the number of one, the desk of a Prepare
 pub sent_cases : (c : Client) (number to : ℕ) (P : Client → Type 0)
@@ -84,6 +84,6 @@ sent_cases c number to P asked prepared none m =
     mapped P (λ (q : Requested). requested c number to q.want) c (request_in m) (λ q. by q.want) none
   where
     by : (w : Want) → P (requested c number to w)
-    by (Read object inv) = asked
+    by (Read read) = asked
     by (Append object view own) = asked
     by Prepare = prepared

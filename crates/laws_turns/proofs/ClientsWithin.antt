@@ -121,7 +121,7 @@ module _ (bound : ℕ) (decl : Declaration) (c : Client) (w : ClientWithin bound
 
 requested-within : (bound : ℕ) (c : Client) (number to : ℕ) (want : Want) → ClientWithin bound c
     → ClientWithin bound (requested c number to want)
-requested-within bound c number to (Read object inv) w =
+requested-within bound c number to (Read read) w =
     record { front = record { clock = w.front.clock; count = w.front.count; views = w.front.views }; desk = w.desk }
 requested-within bound c number to (Append object view own) w =
     record { front = record { clock = w.front.clock; count = w.front.count; views = w.front.views }; desk = w.desk }

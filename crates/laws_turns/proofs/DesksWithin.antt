@@ -17,7 +17,8 @@ use Rattle.qc_msg.specs.declared.message.Message.TheVariants as messages
 use Rattle.qc_msg.specs.declared.message.Outcome.{Outcome}
 use Rattle.qc_msg.specs.declared.message.Outcome.TheVariants.{Aborted, Committed}
 use Rattle.qc_msg.specs.declared.reply.AbortCause.{AbortCause}
-use Rattle.qc_msg.specs.Vocabulary.{quiet, sending, site_called, without_call, Granting, granted_in}
+use Rattle.qc_msg.specs.Vocabulary.{quiet, sending, site_called, without_call, granted_in}
+use Rattle.qc_msg.specs.declared.payload.Grant.{Grant}
 use Rattle.qc_commit.specs.declared.ballot.Ballot.{Ballot}
 use Rattle.qc_commit.specs.declared.desk.Desk.{Desk}
 use Rattle.qc_commit.specs.declared.desk.Known.{Known}
@@ -49,12 +50,12 @@ CameWithin bound (Some answer) = AnswerWithin bound answer
 -- what is read of it: the clock and the lines of a grant, the clock of a promise
 pub record ReadWithin (bound : ℕ) (answer : Option Answer) : Type 0 where
   pub grant : MatchOption (option_and_then granted_in answer) (Unit {0})
-      (λ (g : Granting). (g.clock ≤ bound) × LinesWithin bound g.log)
+      (λ (g : Grant). (g.clock ≤ bound) × LinesWithin bound g.log)
   pub promise : promised answer ≤ bound
 
 pub answer_read : (bound : ℕ) (answer : Option Answer) → CameWithin bound answer → ReadWithin bound answer
 answer_read bound None here = record { grant = tt; promise = omega arith }
-answer_read bound (Some (answers.Granted life clock log)) here = record { grant = here; promise = omega arith }
+answer_read bound (Some (answers.Granted grant_here)) here = record { grant = here; promise = omega arith }
 answer_read bound (Some (answers.Clash holder inv event)) here = record { grant = tt; promise = omega arith }
 answer_read bound (Some (answers.Closed epoch)) here = record { grant = tt; promise = omega arith }
 answer_read bound (Some (answers.Behind epoch)) here = record { grant = tt; promise = omega arith }
@@ -62,7 +63,7 @@ answer_read bound (Some (answers.Restarted life)) here = record { grant = tt; pr
 answer_read bound (Some answers.Stale) here = record { grant = tt; promise = omega arith }
 answer_read bound (Some answers.Fault) here = record { grant = tt; promise = omega arith }
 answer_read bound (Some (answers.Yes clock)) here = record { grant = tt; promise = here }
-answer_read bound (Some (answers.Shut clock log prepared)) here = record { grant = tt; promise = omega arith }
+answer_read bound (Some (answers.Shut snapshot)) here = record { grant = tt; promise = omega arith }
 answer_read bound (Some answers.Installed) here = record { grant = tt; promise = omega arith }
 answer_read bound (Some (answers.Answered verdict)) here = record { grant = tt; promise = omega arith }
 

@@ -87,9 +87,9 @@ record_own (Some r) its = (by r its, tt)
     by (records.Prepare p) its = tt
     by (records.Done tx clock) its = tt
     by (records.Close epoch) its = tt
-    by (records.Install epoch clock lines) its = tt
+    by (records.Install start) its = tt
     by (records.Commit c) its = its c refl
-    by (records.Decide epoch clock lines) its = tt
+    by (records.Decide start) its = tt
 
 writes_puts : (w : Option Record) → Every IsOwnRecord (option_to_list w) → Every PutsOwn (writes_of w)
 writes_puts None all = tt

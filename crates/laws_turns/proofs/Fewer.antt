@@ -222,7 +222,7 @@ wanted c number to m w request bound = by w
     new q (inr is) = inr (is, request)
 
     by : (w : Want) → Sent c number m (requested c number to w)
-    by (Read object inv) = record {
+    by (Read read) = record {
       calls = λ q member. new q (asked_by c.desk.voting c.front.doing number to q member);
       bound = λ none. ap (λ (d : Doing). fronts.requested_in d number to) (bound none);
     }

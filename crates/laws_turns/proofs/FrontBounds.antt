@@ -13,7 +13,8 @@ use Rattle.qc_msg.specs.declared.call.Call.{Call}
 use Rattle.qc_msg.specs.declared.message.Answer.{Answer}
 use Rattle.qc_msg.specs.declared.reply.Reply.TheVariants as replies
 use Rattle.qc_msg.specs.declared.reply.AbortCause.TheVariants as causes
-use Rattle.qc_msg.specs.Vocabulary.{quiet, site_called, telling, without_call, Granting, closed_in, granted_in}
+use Rattle.qc_msg.specs.Vocabulary.{quiet, site_called, telling, without_call, closed_in, granted_in}
+use Rattle.qc_msg.specs.declared.payload.Grant.{Grant}
 use Rattle.qc_plan.specs.Vocabulary.{RoundState, note, verdict}
 use Rattle.qc_plan.specs.declared.standing.Verdict.{Verdict}
 use Rattle.qc_plan.specs.declared.standing.Verdict.TheVariants as verdicts
@@ -101,8 +102,8 @@ module _ (bound : ℕ) where
       → CameWithin bound answer → ViewsWithin bound (read_with t site object answer).views
   read-within t site object answer w here =
       mapped_by (λ (u : Transaction). ViewsWithin bound u.views)
-      (λ (g : Granting). with_granted (lived t site g.life) object g.log) t (Unit {0})
-      (λ (g : Granting). (g.clock ≤ bound) × LinesWithin bound g.log) (option_and_then granted_in answer)
+      (λ (g : Grant). with_granted (lived t site g.life) object g.log) t (Unit {0})
+      (λ (g : Grant). (g.clock ≤ bound) × LinesWithin bound g.log) (option_and_then granted_in answer)
       (λ g within. view-within (lived t site g.life) object
       (option_map (λ (v : View). with_log v g.log) (slice_get t.views object)) w
       (logged (slice_get t.views object) g.log (old-within t.views object (slice_get t.views object) refl w) within.1))
@@ -123,9 +124,9 @@ module _ (bound : ℕ) where
       → FrontWithin bound (learns front answer)
   learned-within front answer w here =
       mapped_by (FrontWithin bound)
-      (λ (g : Granting). record front { clock = record { value = max front.clock.value g.clock } })
+      (λ (g : Grant). record front { clock = record { value = max front.clock.value g.clock } })
       (option_map_or (λ (epoch : ℕ). record front { epoch = max front.epoch epoch }) (option_and_then closed_in answer)
-      front) (Unit {0}) (λ (g : Granting). (g.clock ≤ bound) × LinesWithin bound g.log)
+      front) (Unit {0}) (λ (g : Grant). (g.clock ≤ bound) × LinesWithin bound g.log)
       (option_and_then granted_in answer)
       (λ g within. record { clock = granted-clock front g.clock w.clock within.0; count = w.count; views = w.views })
       (λ none. mapped (FrontWithin bound) (λ (epoch : ℕ). record front { epoch = max front.epoch epoch }) front

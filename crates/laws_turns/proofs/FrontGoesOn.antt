@@ -101,7 +101,7 @@ pub record GivesUp (front : Front) (m : FrontMove) : Type 0 where
 abbrev pub FrontKind : Front → FrontMove → Type 0
 FrontKind front m = GoesOn front m ⊎ (BeginsOne front m ⊎ GivesUp front m)
 
-requests_for : (name : Option TxId) (b : Begun) (want : Want) (sites : List ℕ) → name ≡ Some b.tx
+requests_for : (name : Option TxId) (b : Begun) (want : ℕ → Want) (sites : List ℕ) → name ≡ Some b.tx
     → Every (λ (p : Posting). IsRequestFor name p.message) (map (request_of b want) sites)
 requests_for name b want [] is = tt
 requests_for name b want (site ∷ sites) is = (is, requests_for name b want sites is)

@@ -43,11 +43,11 @@ module _ (bound : ℕ) where
         by None here = tt
         by (Some v) here = here
 
-  for-within : (decl : Declaration) (t : Transaction) (doing : Doing) (want : Want) → ViewsWithin bound t.views
-      → IsFor decl t doing want → WantWithin bound want
-  for-within decl t Idle want w never = absurd never
-  for-within decl t (Reading object inv calls round) want w is = subst (WantWithin bound) (sym is) tt
-  for-within decl t (Appending object inv event calls round) want w is =
+  for-within : (decl : Declaration) (t : Transaction) (doing : Doing) (site : ℕ) (want : Want)
+      → ViewsWithin bound t.views → IsFor decl t doing site want → WantWithin bound want
+  for-within decl t Idle site want w never = absurd never
+  for-within decl t (Reading object inv calls round) site want w is = subst (WantWithin bound) (sym is) tt
+  for-within decl t (Appending object inv event calls round) site want w is =
       subst (WantWithin bound) (sym is) (view_log-within t object w)
 
   sent-within : (decl : Declaration) (before : Front) (move : FrontMove)
@@ -56,8 +56,9 @@ module _ (bound : ℕ) where
       every-from_In (λ (p : Posting). MessageWithin bound p.message) move.turn.sends
       (λ p among. one p.to p.message (sent p among)) where
         asks : (to : ℕ) (want : Want) → (t : Transaction) → move.front.transaction ≡ Some t
-            → IsFor decl t move.front.doing want → WantWithin bound want
-        asks to want t begun is = for-within decl t move.front.doing want (subst (TransactionWithin bound) begun w) is
+            → IsFor decl t move.front.doing to want → WantWithin bound want
+        asks to want t begun is =
+            for-within decl t move.front.doing to want (subst (TransactionWithin bound) begun w) is
 
         one : (to : ℕ) (message : Message) → IsSent decl before move.front to message → MessageWithin bound message
         one to message is =

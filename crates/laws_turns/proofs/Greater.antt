@@ -34,12 +34,12 @@ module _ (low high : ℕ) (le : low ≤ high) where
   outcome-le Active here = tt
 
   want-le : (want : Want) → WantWithin low want → WantWithin high want
-  want-le (Read object inv) here = tt
+  want-le (Read read) here = tt
   want-le (Append object view own) here = lines-le view here
   want-le Prepare here = tt
 
   pub answer-le : (answer : Answer) → AnswerWithin low answer → AnswerWithin high answer
-  answer-le (answers.Granted life clock log) here = (clock-le clock here.0, lines-le log here.1)
+  answer-le (answers.Granted grant) here = (clock-le grant.clock here.0, lines-le grant.log here.1)
   answer-le (answers.Clash holder inv event) here = tt
   answer-le (answers.Closed epoch) here = tt
   answer-le (answers.Behind epoch) here = tt
@@ -47,8 +47,8 @@ module _ (low high : ℕ) (le : low ≤ high) where
   answer-le answers.Stale here = tt
   answer-le answers.Fault here = tt
   answer-le (answers.Yes clock) here = clock-le clock here
-  answer-le (answers.Shut clock log prepared) here =
-      (clock-le clock here.0, lines-le log here.1, promises-le prepared here.2)
+  answer-le (answers.Shut snapshot) here =
+      (clock-le snapshot.clock here.0, lines-le snapshot.log here.1, promises-le snapshot.prepared here.2)
   answer-le answers.Installed here = tt
   answer-le (answers.Answered verdict) here = outcome-le verdict here
 
@@ -59,7 +59,7 @@ module _ (low high : ℕ) (le : low ≤ high) where
   message-le (messages.Inquiry tx) here = tt
   message-le (messages.Ask tx) here = tt
   message-le (messages.Close epoch) here = tt
-  message-le (messages.Install epoch clock log) here = (clock-le clock here.0, lines-le log here.1)
+  message-le (messages.Install start) here = (clock-le start.clock here.0, lines-le start.lines here.1)
 
   pub mail_le : (mail : List Envelope) → MailWithin low mail → MailWithin high mail
   mail_le mail = every-weaker (λ (e : Envelope). MessageWithin low e.message)

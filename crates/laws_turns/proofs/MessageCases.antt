@@ -21,5 +21,5 @@ message_cases P requests answers decides inquires rest (messages.Decision tx ver
 message_cases P requests answers decides inquires rest (messages.Inquiry tx) = inquires tx
 message_cases P requests answers decides inquires rest (messages.Ask tx) = rest (messages.Ask tx)
 message_cases P requests answers decides inquires rest (messages.Close epoch) = rest (messages.Close epoch)
-message_cases P requests answers decides inquires rest (messages.Install epoch clock log) =
-    rest (messages.Install epoch clock log)
+message_cases P requests answers decides inquires rest (messages.Install start) =
+    rest (messages.Install start)

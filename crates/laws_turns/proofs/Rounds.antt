@@ -102,10 +102,10 @@ module _ (decl : Declaration) (accepted : IsAccepted decl) (k : ℕ) (within : k
   names_both tx t own is = λ i. lt-ltb tx.client decl.clients (subst (λ (n : ℕ). n < decl.clients) (sym own) within) i
       && is i
 
-  requests_proper : (b : Begun) (want : Want) (sites : List ℕ) → names_declared decl b.tx want ≡ true
-      → AreSites decl sites → AreProper decl (map (request_of b want) sites)
+  requests_proper : (b : Begun) (want : ℕ → Want) (sites : List ℕ)
+      → ((site : ℕ) → names_declared decl b.tx (want site) ≡ true) → AreSites decl sites → AreProper decl (map (request_of b want) sites)
   requests_proper b want [] names all = tt
-  requests_proper b want (s ∷ sites) names all = ((all.0, names), requests_proper b want sites names all.1)
+  requests_proper b want (s ∷ sites) names all = ((all.0, names s), requests_proper b want sites names all.1)
 
   -- rounds
 
@@ -115,7 +115,7 @@ module _ (decl : Declaration) (accepted : IsAccepted decl) (k : ℕ) (within : k
   append_good next t object inv event calls round verdicts.Waiting own is rest = record {
     doing = (is, asking_rest decl round (wanted round) rest);
     sends = requests_proper t.begun (append_want decl t object event) (wanted round)
-        (names_both t.begun.tx (is_some (kind_at decl object)) own is) (wanted_sites decl round rest);
+        (λ site. names_both t.begun.tx (is_some (kind_at decl object)) own is) (wanted_sites decl round rest);
   }
   append_good next t object inv event calls round verdicts.Met own is rest = record { doing = tt; sends = tt }
   append_good next t object inv event calls round (verdicts.Closed epoch site) own is rest =
@@ -139,7 +139,7 @@ module _ (decl : Declaration) (accepted : IsAccepted decl) (k : ℕ) (within : k
   read_good next t object inv calls round verdicts.Waiting own is rest = record {
     doing = (is, asking_rest decl round (wanted round) rest);
     sends = requests_proper t.begun (read_want object inv) (wanted round)
-        (names_both t.begun.tx (is_some (kind_at decl object)) own is) (wanted_sites decl round rest);
+        (λ site. names_both t.begun.tx (is_some (kind_at decl object)) own is) (wanted_sites decl round rest);
   }
   read_good next t object inv calls round verdicts.Met own is rest =
       answered_good next t object inv (answer_of decl t object inv) own is

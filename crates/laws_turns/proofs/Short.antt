@@ -55,10 +55,10 @@ site_short decl s from number message =
   where
     asked : (q : Requested) (want : Want)
         → FewSent (site_at decl s from number (messages.Request q.tx q.epoch q.life want))
-    asked q (Read object inv) =
-        request_cases FewSent decl s from number q.tx q.epoch q.life (Read object inv) (omega arith)
+    asked q (Read read) =
+        request_cases FewSent decl s from number q.tx q.epoch q.life (Read read) (omega arith)
         (λ fault is. omega arith)
-        (λ is. read_cases FewSent decl s from number q.tx object inv (λ free. omega arith) (λ c clash. omega arith))
+        (λ is. read_cases FewSent decl s from number q.tx read.object read.inv (λ free. omega arith) (λ c clash. omega arith))
     asked q (Append object view own) =
         request_cases FewSent decl s from number q.tx q.epoch q.life (Append object view own) (omega arith)
         (λ fault is. omega arith)

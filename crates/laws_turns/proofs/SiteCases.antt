@@ -7,6 +7,7 @@ use Rattle.qc_msg.specs.declared.message.Message.{Message}
 use Rattle.qc_msg.specs.declared.message.Message.TheVariants as messages
 use Rattle.qc_msg.specs.declared.message.Outcome.{Outcome}
 use Rattle.qc_msg.specs.Vocabulary.{Requested, quiet}
+use Rattle.qc_msg.specs.Vocabulary.{start_with}
 use Rattle.qc_site.specs.Vocabulary.{SiteMove, SiteState, closes, finishes, installs, moved, site_at}
 
 pub site_cases : (decl : Declaration) (s : SiteState) (from number : ℕ) (P : Message → SiteMove → Type 0)
@@ -17,7 +18,7 @@ pub site_cases : (decl : Declaration) (s : SiteState) (from number : ℕ) (P : M
     → ((tx : TxId) (verdict : Outcome) → P (messages.Decision tx verdict) (finishes s tx verdict))
     → ((k : ℕ) → P (messages.Close k) (closes s from number k))
     → ((k clock : ℕ) (lines : List Line)
-    → P (messages.Install k clock lines) (installs s from number k clock lines))
+    → P (messages.Install (start_with k clock lines)) (installs s from number k clock lines))
     → (m : Message) → P m (site_at decl s from number m)
 site_cases decl s from number P silent asked decided closed installed (messages.Request tx epoch life want) =
     asked (record { tx = tx; epoch = epoch; life = life; want = want })
@@ -29,5 +30,5 @@ site_cases decl s from number P silent asked decided closed installed (messages.
     silent (messages.Inquiry tx)
 site_cases decl s from number P silent asked decided closed installed (messages.Ask tx) = silent (messages.Ask tx)
 site_cases decl s from number P silent asked decided closed installed (messages.Close k) = closed k
-site_cases decl s from number P silent asked decided closed installed (messages.Install k clock lines) =
-    installed k clock lines
+site_cases decl s from number P silent asked decided closed installed (messages.Install start) =
+    installed start.epoch start.clock start.lines

@@ -130,14 +130,14 @@ module _ (decl : Declaration) (B : TxId → Type 0) where
     clashed c here = record { held = all; prepared = promised; sends = (tt, ((refl, here), tt)) }
 
     granted : (tx : TxId) (want : Want) → B tx → Asks (grants decl s from number tx want)
-    granted tx (Read object inv) here =
-        read_cases Asks decl s from number tx object inv
+    granted tx (Read read) here =
+        read_cases Asks decl s from number tx read.object read.inv
         (λ free. record {
-          held = held-more s.held tx (record { object = object; inv = inv } ∷ []) [] all here;
+          held = held-more s.held tx (record { object = read.object; inv = read.inv } ∷ []) [] all here;
           prepared = promised;
           sends = (tt, tt);
         })
-        (λ c clash. clashed c (read_holder (relation_at decl object) s.held tx object inv c all clash))
+        (λ c clash. clashed c (read_holder (relation_at decl read.object) s.held tx read.object read.inv c all clash))
     granted tx (Append object view own) here =
         append_cases Asks decl s from number tx object view own
         (λ free. record { held = held-more s.held tx [] own all here; prepared = promised; sends = (tt, tt) })

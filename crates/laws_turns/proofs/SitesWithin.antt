@@ -123,14 +123,14 @@ module _ (bound : ℕ) (decl : Declaration) (s : SiteState) (from number : ℕ) 
       (λ (p : Prepared). not (same_tx p.tx tx)) s.prepared w.prepared
 
   granted : (tx : TxId) (want : Want) → WantWithin bound want → SiteMoveWithin bound (grants decl s from number tx want)
-  granted tx (Read object inv) here =
-      read_cases (SiteMoveWithin bound) decl s from number tx object inv
+  granted tx (Read read) here =
+      read_cases (SiteMoveWithin bound) decl s from number tx read.object read.inv
       (λ free. record {
         site = record { clock = w.clock; began = w.began; log = w.log; prepared = w.prepared };
         sends = (
           (
             w.clock,
-            every-filter (λ (l : Line). l.stamp.clock ≤ bound) (λ (l : Line). l.object == object)
+            every-filter (λ (l : Line). l.stamp.clock ≤ bound) (λ (l : Line). l.object == read.object)
                 (known s) all-known,
           ),
           tt,
@@ -235,7 +235,7 @@ module _ (bound : ℕ) (decl : Declaration) (s : SiteState) (from number : ℕ) 
 
 asked-within : (bound : ℕ) (s : SiteState) (tx : TxId) (epoch life : ℕ) (want : Want) → s.clock ≤ bound
     → WantWithin bound want → (passed s (messages.Request tx epoch life want)).clock ≤ bound
-asked-within bound s tx epoch life (Read object inv) w here = w
+asked-within bound s tx epoch life (Read read) w here = w
 asked-within bound s tx epoch life (Append object view own) w here = latest-within bound s.clock view w here
 asked-within bound s tx epoch life Prepare w here = w
 
@@ -253,7 +253,7 @@ clock-within bound s (messages.Decision tx verdict) w here = told-within bound s
 clock-within bound s (messages.Inquiry tx) w here = w
 clock-within bound s (messages.Ask tx) w here = w
 clock-within bound s (messages.Close epoch) w here = w
-clock-within bound s (messages.Install epoch clock lines) w here = latest-within bound s.clock lines w here.1
+clock-within bound s (messages.Install start) w here = latest-within bound s.clock start.lines w here.1
 
 passed-within : (bound : ℕ) (s : SiteState) (message : Message) → SiteWithin bound s → MessageWithin bound message
     → SiteWithin bound (passed s message)

@@ -40,12 +40,12 @@ OutcomeWithin bound Aborted = Unit {0}
 OutcomeWithin bound Active = Unit {0}
 
 abbrev pub WantWithin : ℕ → Want → Type 0
-WantWithin bound (Read object inv) = Unit {0}
+WantWithin bound (Read read) = Unit {0}
 WantWithin bound (Append object view own) = LinesWithin bound view
 WantWithin bound Prepare = Unit {0}
 
 abbrev pub AnswerWithin : ℕ → Answer → Type 0
-AnswerWithin bound (answers.Granted life clock log) = (clock ≤ bound) × LinesWithin bound log
+AnswerWithin bound (answers.Granted grant) = (grant.clock ≤ bound) × LinesWithin bound grant.log
 AnswerWithin bound (answers.Clash holder inv event) = Unit {0}
 AnswerWithin bound (answers.Closed epoch) = Unit {0}
 AnswerWithin bound (answers.Behind epoch) = Unit {0}
@@ -53,8 +53,8 @@ AnswerWithin bound (answers.Restarted life) = Unit {0}
 AnswerWithin bound answers.Stale = Unit {0}
 AnswerWithin bound answers.Fault = Unit {0}
 AnswerWithin bound (answers.Yes clock) = clock ≤ bound
-AnswerWithin bound (answers.Shut clock log prepared) =
-    (clock ≤ bound) × LinesWithin bound log × PromisesWithin bound prepared
+AnswerWithin bound (answers.Shut snapshot) =
+    (snapshot.clock ≤ bound) × LinesWithin bound snapshot.log × PromisesWithin bound snapshot.prepared
 AnswerWithin bound answers.Installed = Unit {0}
 AnswerWithin bound (answers.Answered verdict) = OutcomeWithin bound verdict
 
@@ -65,7 +65,7 @@ MessageWithin bound (messages.Decision tx verdict) = OutcomeWithin bound verdict
 MessageWithin bound (messages.Inquiry tx) = Unit {0}
 MessageWithin bound (messages.Ask tx) = Unit {0}
 MessageWithin bound (messages.Close epoch) = Unit {0}
-MessageWithin bound (messages.Install epoch clock log) = (clock ≤ bound) × LinesWithin bound log
+MessageWithin bound (messages.Install start) = (start.clock ≤ bound) × LinesWithin bound start.lines
 
 -- those of messages, of what is taken, and of a turn's messages
 

@@ -34,11 +34,11 @@ told_votes : (d : Account) (q : ClientRequest) (answer : Option Answer) → q.wa
     → ((told_by d q answer).current ≡ d.current) × ((told_by d q answer).command ≡ d.command)
     × ((told_by d q answer).client ≡ d.client) × ((told_by d q answer).requests ≡ d.requests)
 told_votes d q None want = (refl, refl, refl, refl)
-told_votes d q (Some (answers.Granted life clock log)) want =
-    subst (λ (w : Want). ((granted d q.site life clock log w).current ≡ d.current)
-    × ((granted d q.site life clock log w).command ≡ d.command)
-    × ((granted d q.site life clock log w).client ≡ d.client)
-    × ((granted d q.site life clock log w).requests ≡ d.requests)) (sym want) (refl, refl, refl, refl)
+told_votes d q (Some (answers.Granted grant)) want =
+    subst (λ (w : Want). ((granted d q.site grant.life grant.clock grant.log w).current ≡ d.current)
+    × ((granted d q.site grant.life grant.clock grant.log w).command ≡ d.command)
+    × ((granted d q.site grant.life grant.clock grant.log w).client ≡ d.client)
+    × ((granted d q.site grant.life grant.clock grant.log w).requests ≡ d.requests)) (sym want) (refl, refl, refl, refl)
 told_votes d q (Some (answers.Clash holder inv event)) want = (refl, refl, refl, refl)
 told_votes d q (Some (answers.Closed epoch)) want = (refl, refl, refl, refl)
 told_votes d q (Some (answers.Behind epoch)) want = (refl, refl, refl, refl)
@@ -49,7 +49,7 @@ told_votes d q (Some (answers.Yes clock)) want =
     subst (λ (w : Want). ((promised d clock w).current ≡ d.current) × ((promised d clock w).command ≡ d.command)
     × ((promised d clock w).client ≡ d.client) × ((promised d clock w).requests ≡ d.requests)) (sym want)
     (refl, refl, refl, refl)
-told_votes d q (Some (answers.Shut clock log prepared)) want = (refl, refl, refl, refl)
+told_votes d q (Some (answers.Shut snapshot)) want = (refl, refl, refl, refl)
 told_votes d q (Some answers.Installed) want = (refl, refl, refl, refl)
 told_votes d q (Some (answers.Answered outcome)) want = (refl, refl, refl, refl)
 
@@ -86,7 +86,7 @@ module _ (d : Account) (prepares : (q : ClientRequest) → In q d.requests → q
   heard_votes (messages.Inquiry tx) = same_votes d
   heard_votes (messages.Ask tx) = same_votes d
   heard_votes (messages.Close epoch) = same_votes d
-  heard_votes (messages.Install epoch clock log) = same_votes d
+  heard_votes (messages.Install start) = same_votes d
 
 past : (k a n : ℕ) → a ≤ k → k < a + n → (k ≢ a) → a + 1 ≤ k
 past k a n low high other = by (nat_lt a k) refl
@@ -186,7 +186,7 @@ module _ (decl : Declaration) (d : Account) (c : Client) where
   heard_command (messages.Inquiry tx) = refl
   heard_command (messages.Ask tx) = refl
   heard_command (messages.Close epoch) = refl
-  heard_command (messages.Install epoch clock log) = refl
+  heard_command (messages.Install start) = refl
 
   pub asked_for : Ties decl d c → (g : Input) (t : Current) → IsVotedFor decl (account_taken d g) t → (site : ℕ)
       → site < decl.sites → has_granted t.lives site ≡ true → IsAskedAndFor (account_taken d g) t site

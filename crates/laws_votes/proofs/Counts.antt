@@ -75,9 +75,9 @@ module _ (decl : Declaration) where
   none_written d (records.Prepare prepared) = refl
   none_written d (records.Done tx clock) = refl
   none_written d (records.Close epoch) = refl
-  none_written d (records.Install epoch clock lines) = refl
+  none_written d (records.Install start) = refl
   none_written d (records.Commit commit) = refl
-  none_written d (records.Decide epoch clock lines) = refl
+  none_written d (records.Decide start) = refl
 
   none_sent : (d : Account) (n to : ℕ) (m : Message) → (account_sent decl d n to m).current ≡ d.current
   none_sent d n to (messages.Request tx epoch life want) = by (is_asked_for decl d to tx epoch life want)
@@ -94,7 +94,7 @@ module _ (decl : Declaration) where
   none_sent d n to (messages.Inquiry tx) = refl
   none_sent d n to (messages.Ask tx) = refl
   none_sent d n to (messages.Close epoch) = refl
-  none_sent d n to (messages.Install epoch clock log) = refl
+  none_sent d n to (messages.Install start) = refl
 
   pub record Counts (d : Account) : Type 0 where
     pub down : d.up ≡ false → d.current ≡ None

@@ -21,6 +21,7 @@ use Rattle.qc_msg.specs.declared.message.Message.{Message}
 use Rattle.qc_msg.specs.declared.message.Message.TheVariants.{Install}
 use Rattle.qc_msg.specs.declared.record.Record.{Record}
 use Rattle.qc_msg.specs.declared.reply.Reply.TheVariants.{Fault}
+use Rattle.qc_msg.specs.Vocabulary.{start_with}
 use Rattle.laws_refinement.proofs.AdminCases.{admin_case}
 use Rattle.laws_refinement.proofs.NetLaws.{deciding_lines, message_lines}
 use Rattle.laws_refinement.specs.Vocabulary.{IsDecided, IsTooLong, lines_in}
@@ -52,10 +53,10 @@ module _ (fits : ℕ → List Record → Type 0) (decl : Declaration) (script : 
 
   -- an Install
   pub installs_fit_records_through_falls : (e : Envelope) (epoch clock : ℕ) (log : List Line) → In e (mail h)
-      → e.message ≡ Install epoch clock log → epoch_length log ≤ most_record_bytes
+      → e.message ≡ Install (start_with epoch clock log) → epoch_length log ≤ most_record_bytes
   installs_fit_records_through_falls e epoch clock log sent is =
       let d : IsDecided decl (now fits decl script h open_inputs accepted sound run kept) epoch clock log =
-      backed fits decl script h open_inputs accepted sound run kept e (Install epoch clock log) sent is in
+      backed fits decl script h open_inputs accepted sound run kept e (Install (start_with epoch clock log)) sent is in
       lines_few log d.sorted (λ l among. message_lines decl accepted
       (net fits decl script h open_inputs accepted sound run kept)
       (reached fits decl script h open_inputs accepted sound run kept).reached e l

@@ -20,6 +20,7 @@ use Rattle.qc_msg.specs.declared.message.Message.TheVariants as messages
 use Rattle.qc_msg.specs.declared.message.Want.{Want}
 use Rattle.qc_msg.specs.declared.message.Want.TheVariants.{Append, Prepare, Read}
 use Rattle.qc_msg.specs.declared.record.Record.{Record}
+use Rattle.qc_msg.specs.Vocabulary.{grant_with}
 use Rattle.laws_refinement.specs.Vocabulary.{IsGrantTo, IsGrantable, IsHeld, IsRequest, SiteMirrors, items_wanted}
 use Rattle.laws_guarantees.proofs.Live.{no_outcome}
 use Rattle.laws_votes.proofs.Live.{epoch_named, live}
@@ -102,7 +103,7 @@ record HasItem (want : Want) : Type 0 where
   among : In item (items_wanted want)
 
 some_item : (want : Want) → IsGrantable want → IsFull want → HasItem want
-some_item (Read object inv) asks full = record { item = Lock (record { object = object; inv = inv }); among = inl refl }
+some_item (Read read) asks full = record { item = Lock (record { object = read.object; inv = read.inv }); among = inl refl }
 some_item (Append object view []) asks full = absurd (let low : 0 < 0 = full in let never : ⊥ = omega arith in never)
 some_item (Append object view (o ∷ own)) asks full = record { item = Own o; among = inl refl }
 some_item Prepare asks full = absurd asks
@@ -215,7 +216,7 @@ module _ (fits : ℕ → List Record → Type 0) (decl : Declaration) (script : 
     pub granted : IsGrantedIn
     granted =
         at (backed fits decl script h open_inputs accepted sound run kept told.taken.envelope
-        (messages.Answer told.q.number (answers.Granted (life_of t.lives site) told.clock told.log))
+        (messages.Answer told.q.number (answers.Granted (grant_with (life_of t.lives site) told.clock told.log)))
         (taken_mail a [] h told.taken.envelope told.taken.taken) told.taken.is)
       where
         at : IsGrantTo decl then (net fits decl script h open_inputs accepted sound run kept).mail

@@ -46,12 +46,12 @@ write_grounds ds d records.Life k = same_grounds ds (Writes records.Life) d (rec
 write_grounds ds d (records.Prepare prepared) k = same_grounds ds (Writes (records.Prepare prepared)) d d refl refl k
 write_grounds ds d (records.Done tx clock) k = same_grounds ds (Writes (records.Done tx clock)) d d refl refl k
 write_grounds ds d (records.Close epoch) k = same_grounds ds (Writes (records.Close epoch)) d d refl refl k
-write_grounds ds d (records.Install epoch clock lines) k =
-    same_grounds ds (Writes (records.Install epoch clock lines)) d d refl refl k
+write_grounds ds d (records.Install start) k =
+    same_grounds ds (Writes (records.Install start)) d d refl refl k
 write_grounds ds d (records.Commit commit) k =
     same_grounds ds (Writes (records.Commit commit)) d (record d { written = Some commit }) refl refl k
-write_grounds ds d (records.Decide epoch clock lines) k =
-    same_grounds ds (Writes (records.Decide epoch clock lines)) d d refl refl k
+write_grounds ds d (records.Decide start) k =
+    same_grounds ds (Writes (records.Decide start)) d d refl refl k
 
 module _ (decl : Declaration) where
   -- a request that is asked for has own lines where it is an Append
@@ -72,13 +72,13 @@ module _ (decl : Declaration) where
       → command_asks decl d t site want o ≡ true → IsFull want
   command_full d t site want None is = absurd (let never : ⊥ = cc in never)
   command_full d t site want (Some commands.Begin) is = absurd (let never : ⊥ = cc in never)
-  command_full d t site (Read o i) (Some (commands.Do object inv)) is = tt
+  command_full d t site (Read read) (Some (commands.Do object inv)) is = tt
   command_full d t site (Append o view own) (Some (commands.Do object inv)) is =
       carried_full d t object view own (answer_of decl t object inv)
       (and_second (o == object) (carries decl t object view own (answer_of decl t object inv))
       (and_first ((o == object) && carries decl t object view own (answer_of decl t object inv)) _ is))
   command_full d t site Prepare (Some (commands.Do object inv)) is = absurd (let never : ⊥ = cc in never)
-  command_full d t site (Read o i) (Some commands.Commit) is = absurd (let never : ⊥ = cc in never)
+  command_full d t site (Read read) (Some commands.Commit) is = absurd (let never : ⊥ = cc in never)
   command_full d t site (Append o view own) (Some commands.Commit) is = absurd (let never : ⊥ = cc in never)
   command_full d t site Prepare (Some commands.Commit) is = tt
   command_full d t site want (Some commands.Abort) is = absurd (let never : ⊥ = cc in never)
@@ -177,8 +177,8 @@ module _ (decl : Declaration) where
   send_grounds ds d n to (messages.Inquiry tx) k = same_grounds ds (Sends n to (messages.Inquiry tx)) d d refl refl k
   send_grounds ds d n to (messages.Ask tx) k = same_grounds ds (Sends n to (messages.Ask tx)) d d refl refl k
   send_grounds ds d n to (messages.Close epoch) k = same_grounds ds (Sends n to (messages.Close epoch)) d d refl refl k
-  send_grounds ds d n to (messages.Install epoch clock log) k =
-      same_grounds ds (Sends n to (messages.Install epoch clock log)) d d refl refl k
+  send_grounds ds d n to (messages.Install start) k =
+      same_grounds ds (Sends n to (messages.Install start)) d d refl refl k
 
   one_more : (ds : List Deed) (d : Account) (x : Deed) → HasGrounds ds d → HasLifeGrounds ds d
       → HasLifeGrounds (ds ++ x ∷ []) (account_at decl d x)

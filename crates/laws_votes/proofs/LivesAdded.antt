@@ -11,6 +11,7 @@ use Rattle.qc_promise.specs.Vocabulary.{Account, ClientRequest, Current}
 use Rattle.qc_entry.specs.declared.line.Line.{Line}
 use Rattle.qc_msg.specs.declared.message.Answer.TheVariants as answers
 use Rattle.qc_msg.specs.declared.message.Want.TheVariants.{Prepare}
+use Rattle.qc_msg.specs.Vocabulary.{grant_with}
 use Rattle.laws_guarantees.proofs.Accounts.{WasSent, WasTaken, sent_more, taken_more}
 use Rattle.laws_guarantees.proofs.SiteMoves.{IsFull}
 
@@ -22,7 +23,7 @@ pub record IsToldLife (ds : List Deed) (tx : TxId) (site life : ℕ) : Type 0 wh
   pub full : IsFull q.want
   pub clock : ℕ
   pub log : List Line
-  pub taken : WasTaken ds q.number (answers.Granted life clock log)
+  pub taken : WasTaken ds q.number (answers.Granted (grant_with life clock log))
 
 -- the site of the request granted something to the begun transaction, and the request names the life of that
 abbrev pub HasParticipant : Option Current → ClientRequest → Type 0
@@ -44,7 +45,7 @@ told_more ds x tx site life k = record {
   full = k.full;
   clock = k.clock;
   log = k.log;
-  taken = taken_more ds x k.q.number (answers.Granted life k.clock k.log) k.taken;
+  taken = taken_more ds x k.q.number (answers.Granted (grant_with life k.clock k.log)) k.taken;
 }
 
 -- what is begun later was begun before, with the same lives, or has none yet

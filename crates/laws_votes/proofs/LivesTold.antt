@@ -17,13 +17,14 @@ use Rattle.qc_msg.specs.declared.reply.Reply.{Reply}
 use Rattle.qc_msg.specs.declared.reply.Reply.TheVariants as replies
 use Rattle.qc_msg.specs.declared.step.Command.{Command}
 use Rattle.qc_msg.specs.declared.step.Command.TheVariants as commands
+use Rattle.qc_msg.specs.Vocabulary.{grant_with}
 use Rattle.laws_votes.proofs.LivesAdded.{WasBegunWith, HaveSameLives, same_now, none_now, changed_alike, HasOneMore}
 
 -- what an answer changes: nothing, or a grant of a Read or an Append adds a life
 abbrev pub IsChangedBy : Option Current → ℕ → Option Answer → Current → Type 0
 IsChangedBy o site answer t =
     WasBegunWith o t
-    ⊎ ((life : ℕ) × (clock : ℕ) × (log : List Line) × (answer ≡ Some (answers.Granted life clock log))
+    ⊎ ((life : ℕ) × (clock : ℕ) × (log : List Line) × (answer ≡ Some (answers.Granted (grant_with life clock log)))
     × HasOneMore o site life t)
 
 pub same_changed : (o : Option Current) (site : ℕ) (answer : Option Answer) (t : Current) → o ≡ Some t
@@ -33,7 +34,7 @@ same_changed o site answer t is = inl (t, is, refl, refl)
 pub one_changed : (o : Option Current) (site life clock : ℕ) (log : List Line) (change : Current → Current)
     → ((x : Current) → ((change x).tx ≡ x.tx) × ((change x).lives ≡ with_life x.lives site life)) → (t : Current)
     → option_map change o ≡ Some t
-    → IsChangedBy o site (Some (answers.Granted life clock log)) t
+    → IsChangedBy o site (Some (answers.Granted (grant_with life clock log))) t
 one_changed None site life clock log change keeps t is = absurd (let never : ⊥ = cc in never)
 one_changed (Some x) site life clock log change keeps t is =
     let same : t ≡ change x = cc in
@@ -51,23 +52,23 @@ one_changed (Some x) site life clock log change keeps t is =
     )
 
 pub promised_same : (d : Account) (clock : ℕ) (w : Want) → (promised d clock w).current ≡ d.current
-promised_same d clock (Read object inv) = refl
+promised_same d clock (Read read) = refl
 promised_same d clock (Append object view own) = refl
 promised_same d clock Prepare = refl
 
 pub told_changed : (d : Account) (p : ClientRequest) (answer : Option Answer) (t : Current)
     → (told_by d p answer).current ≡ Some t → IsChangedBy d.current p.site answer t
 told_changed d p None t is = same_changed d.current p.site None t is
-told_changed d p (Some (answers.Granted life clock log)) t is = by p.want is
+told_changed d p (Some (answers.Granted grant)) t is = by p.want is
   where
-    by : (w : Want) → (granted d p.site life clock log w).current ≡ Some t
-        → IsChangedBy d.current p.site (Some (answers.Granted life clock log)) t
-    by (Read object inv) e =
-        one_changed d.current p.site life clock log (λ (x : Current). with_read (lived x p.site life) object log)
+    by : (w : Want) → (granted d p.site grant.life grant.clock grant.log w).current ≡ Some t
+        → IsChangedBy d.current p.site (Some (answers.Granted grant)) t
+    by (Read read) e =
+        one_changed d.current p.site grant.life grant.clock grant.log (λ (x : Current). with_read (lived x p.site grant.life) read.object grant.log)
         (λ x. (refl, refl)) t e
     by (Append object view own) e =
-        one_changed d.current p.site life clock log (λ (x : Current). lived x p.site life) (λ x. (refl, refl)) t e
-    by Prepare e = same_changed d.current p.site (Some (answers.Granted life clock log)) t e
+        one_changed d.current p.site grant.life grant.clock grant.log (λ (x : Current). lived x p.site grant.life) (λ x. (refl, refl)) t e
+    by Prepare e = same_changed d.current p.site (Some (answers.Granted grant)) t e
 told_changed d p (Some (answers.Clash holder inv event)) t is =
     same_changed d.current p.site (Some (answers.Clash holder inv event)) t is
 told_changed d p (Some (answers.Closed epoch)) t is = same_changed d.current p.site (Some (answers.Closed epoch)) t is
@@ -78,8 +79,8 @@ told_changed d p (Some answers.Stale) t is = same_changed d.current p.site (Some
 told_changed d p (Some answers.Fault) t is = same_changed d.current p.site (Some answers.Fault) t is
 told_changed d p (Some (answers.Yes clock)) t is =
     same_changed d.current p.site (Some (answers.Yes clock)) t (sym (promised_same d clock p.want) ∙ is)
-told_changed d p (Some (answers.Shut clock log prepared)) t is =
-    same_changed d.current p.site (Some (answers.Shut clock log prepared)) t is
+told_changed d p (Some (answers.Shut snapshot)) t is =
+    same_changed d.current p.site (Some (answers.Shut snapshot)) t is
 told_changed d p (Some answers.Installed) t is = same_changed d.current p.site (Some answers.Installed) t is
 told_changed d p (Some (answers.Answered verdict)) t is =
     same_changed d.current p.site (Some (answers.Answered verdict)) t is
@@ -94,14 +95,14 @@ granted_on o t site life change keeps was =
 pub told_forward : (d : Account) (p : ClientRequest) (answer : Option Answer) (t : Current) → d.current ≡ Some t
     → (u : Current) × ((told_by d p answer).current ≡ Some u) × KeepsLives t.lives u.lives
 told_forward d p None t was = (t, was, same_lives t.lives)
-told_forward d p (Some (answers.Granted life clock log)) t was = by p.want
+told_forward d p (Some (answers.Granted grant)) t was = by p.want
   where
     by : (w : Want)
-        → (u : Current) × ((granted d p.site life clock log w).current ≡ Some u) × KeepsLives t.lives u.lives
-    by (Read object inv) =
-        granted_on d.current t p.site life (λ (x : Current). with_read (lived x p.site life) object log) (λ x. refl) was
+        → (u : Current) × ((granted d p.site grant.life grant.clock grant.log w).current ≡ Some u) × KeepsLives t.lives u.lives
+    by (Read read) =
+        granted_on d.current t p.site grant.life (λ (x : Current). with_read (lived x p.site grant.life) read.object grant.log) (λ x. refl) was
     by (Append object view own) =
-        granted_on d.current t p.site life (λ (x : Current). lived x p.site life) (λ x. refl) was
+        granted_on d.current t p.site grant.life (λ (x : Current). lived x p.site grant.life) (λ x. refl) was
     by Prepare = (t, was, same_lives t.lives)
 told_forward d p (Some (answers.Clash holder inv event)) t was = (t, was, same_lives t.lives)
 told_forward d p (Some (answers.Closed epoch)) t was = (t, was, same_lives t.lives)
@@ -110,7 +111,7 @@ told_forward d p (Some (answers.Restarted life)) t was = (t, was, same_lives t.l
 told_forward d p (Some answers.Stale) t was = (t, was, same_lives t.lives)
 told_forward d p (Some answers.Fault) t was = (t, was, same_lives t.lives)
 told_forward d p (Some (answers.Yes clock)) t was = (t, promised_same d clock p.want ∙ was, same_lives t.lives)
-told_forward d p (Some (answers.Shut clock log prepared)) t was = (t, was, same_lives t.lives)
+told_forward d p (Some (answers.Shut snapshot)) t was = (t, was, same_lives t.lives)
 told_forward d p (Some answers.Installed) t was = (t, was, same_lives t.lives)
 told_forward d p (Some (answers.Answered verdict)) t was = (t, was, same_lives t.lives)
 

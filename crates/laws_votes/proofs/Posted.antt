@@ -61,8 +61,8 @@ at_fault from number p n x (inr never) is forgets = never
 
 grants_never : (decl : Declaration) (s : SiteState) (from number : ℕ) (tx : TxId) (want : Want)
     → NeverForgets (grants decl s from number tx want)
-grants_never decl s from number tx (Read object inv) =
-    read_cases NeverForgets decl s from number tx object inv (λ free p n x among is forgets. among)
+grants_never decl s from number tx (Read read) =
+    read_cases NeverForgets decl s from number tx read.object read.inv (λ free p n x among is forgets. among)
     (λ c clash p n x among is forgets. among)
 grants_never decl s from number tx (Append object view own) =
     append_cases NeverForgets decl s from number tx object view own (λ free p n x among is forgets. among)
@@ -92,8 +92,8 @@ at_never decl s from number (messages.Ask tx) = λ p n x among is forgets. among
 at_never decl s from number (messages.Close epoch) =
     close_cases NeverForgets s from number epoch (λ answer p n x among is forgets. among)
     (λ near later. at_fault from number)
-at_never decl s from number (messages.Install epoch clock log) =
-    install_cases NeverForgets s from number epoch clock log (λ answer p n x among is forgets. among)
+at_never decl s from number (messages.Install start) =
+    install_cases NeverForgets s from number start.epoch start.clock start.lines (λ answer p n x among is forgets. among)
     (λ later fits. at_fault from number)
 
 pub fails_never : (decl : Declaration) (s : SiteState) (g : Input) → NeverForgets (site_takes decl s g)

@@ -72,12 +72,12 @@ module _ (decl : Declaration) where
         rises = omega arith;
         writes = tt;
       })
-  heard s from number (messages.Install epoch began lines) old =
-      install_keeps (passed s (messages.Install epoch began lines)) old
+  heard s from number (messages.Install start) old =
+      install_keeps (passed s (messages.Install start)) old
     where
-      install_keeps : (at : SiteState) → HoldsLocks at → MoveKeeps at (installs at from number epoch began lines)
+      install_keeps : (at : SiteState) → HoldsLocks at → MoveKeeps at (installs at from number start.epoch start.clock start.lines)
       install_keeps at had =
-          install_cases (MoveKeeps at) at from number epoch began lines
+          install_cases (MoveKeeps at) at from number start.epoch start.clock start.lines
           (λ answer. stays at (answers from number answer) refl had)
           (λ later fits. record { locks = λ p among l there. absurd among; rises = omega arith; writes = tt })
 

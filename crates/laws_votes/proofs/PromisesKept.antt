@@ -76,9 +76,9 @@ IsPassed records.Life clock = Unit {0}
 IsPassed (records.Prepare p) clock = Unit {0}
 IsPassed (records.Done tx done) clock = done ≤ clock
 IsPassed (records.Close epoch) clock = Unit {0}
-IsPassed (records.Install epoch installed lines) clock = Unit {0}
+IsPassed (records.Install start) clock = Unit {0}
 IsPassed (records.Commit commit) clock = Unit {0}
-IsPassed (records.Decide epoch decided lines) clock = Unit {0}
+IsPassed (records.Decide start) clock = Unit {0}
 
 abbrev pub WritePasses : Option Record → ℕ → Type 0
 WritePasses None clock = Unit {0}
@@ -97,7 +97,7 @@ latest_up (l ∷ lines) clock = let one : max clock l.stamp.clock ≤ latest (ma
     latest_up lines (max clock l.stamp.clock) in omega arith
 
 asked_up : (w : Want) (clock : ℕ) → clock ≤ clock_asked clock w
-asked_up (Read object inv) clock = omega arith
+asked_up (Read read) clock = omega arith
 asked_up (Append object view own) clock = latest_up view clock
 asked_up Prepare clock = omega arith
 
@@ -113,4 +113,4 @@ clock_up (messages.Decision tx verdict) clock = told_up verdict clock
 clock_up (messages.Inquiry tx) clock = omega arith
 clock_up (messages.Ask tx) clock = omega arith
 clock_up (messages.Close epoch) clock = omega arith
-clock_up (messages.Install epoch began lines) clock = latest_up lines clock
+clock_up (messages.Install start) clock = latest_up start.lines clock

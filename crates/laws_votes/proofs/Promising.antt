@@ -87,7 +87,7 @@ module _ (fits : ℕ → List Record → Type 0) (decl : Declaration) (script : 
   pub granted_site : (site : ℕ) → (account decl a h).current ≡ Some t → has_granted t.lives site ≡ true
       → is_site decl site ≡ true
   granted_site site current has = by (backed fits decl script h open_inputs accepted sound run kept g.taken.envelope
-      (messages.Answer g.number (answers.Granted g.life g.clock g.log))
+      (messages.Answer g.number (answers.Granted g))
       (taken_mail a [] h g.taken.envelope g.taken.taken) g.taken.is)
     where
       g : WasGranted ds t.tx site

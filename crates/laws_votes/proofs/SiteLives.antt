@@ -24,9 +24,9 @@ life_one k records.Life = omega arith
 life_one k (records.Prepare p) = omega arith
 life_one k (records.Done tx clock) = omega arith
 life_one k (records.Close epoch) = omega arith
-life_one k (records.Install epoch clock lines) = omega arith
+life_one k (records.Install start) = omega arith
 life_one k (records.Commit commit) = omega arith
-life_one k (records.Decide epoch clock lines) = omega arith
+life_one k (records.Decide start) = omega arith
 
 life_more : (k : SiteKept) (rs : List Record) → k.life ≤ (fold keeps k rs).life
 life_more k [] = omega arith

@@ -133,7 +133,7 @@ message_over tx (messages.Decision u verdict) never =
 message_over tx (messages.Inquiry u) never = refl
 message_over tx (messages.Ask u) never = refl
 message_over tx (messages.Close epoch) never = refl
-message_over tx (messages.Install epoch clock log) never = refl
+message_over tx (messages.Install start) never = refl
 
 taken_over : (tx : TxId) (g : Input) → ((e : Envelope) → g ≡ inputs.Got e
     → e.message ≡ messages.Decision tx outcomes.Aborted → ⊥) → frees tx (Takes g) ≡ false

@@ -20,6 +20,7 @@ use Rattle.qc_entry.specs.declared.line.Line.{Line}
 use Rattle.qc_msg.specs.declared.message.Answer.TheVariants as answers
 use Rattle.qc_msg.specs.declared.message.Envelope.{Envelope}
 use Rattle.qc_msg.specs.declared.message.Want.TheVariants.{Prepare}
+use Rattle.qc_msg.specs.Vocabulary.{grant_with}
 use Rattle.laws_guarantees.proofs.Accounts.{HasGrounds, WasSent, WasTaken, after_taken, and_first, found_in, sent_more}
 use Rattle.laws_guarantees.proofs.Accounts.{told_requests}
 use Rattle.laws_guarantees.proofs.SiteMoves.{IsFull}
@@ -75,7 +76,7 @@ module _ (ds : List Deed) (x : Deed) (d : Account) (n : ℕ) (answer : Option An
   now_told p among number t site at has =
       by (told_changed (record d { requests = taken_for n answer d.requests }) p answer t at)
     where
-      added_here : (life clock : ℕ) (log : List Line) → answer ≡ Some (answers.Granted life clock log)
+      added_here : (life clock : ℕ) (log : List Line) → answer ≡ Some (answers.Granted (grant_with life clock log))
           → (m : HasOneMore d.current p.site life t) → (b : Bool) → has_granted m.old.lives site ≡ b
           → IsToldLife (ds ++ x ∷ []) t.tx site (life_of t.lives site)
       added_here life clock log is m true before_it =
@@ -102,8 +103,8 @@ module _ (ds : List Deed) (x : Deed) (d : Account) (n : ℕ) (answer : Option An
             clock = clock;
             log = log;
             taken =
-                subst (λ (number : ℕ). WasTaken (ds ++ x ∷ []) number (answers.Granted life clock log)) (sym number)
-                (now_taken (answers.Granted life clock log) is);
+                subst (λ (number : ℕ). WasTaken (ds ++ x ∷ []) number (answers.Granted (grant_with life clock log))) (sym number)
+                (now_taken (answers.Granted (grant_with life clock log)) is);
           })
 
       by : IsChangedBy d.current p.site answer t → IsToldLife (ds ++ x ∷ []) t.tx site (life_of t.lives site)
@@ -155,4 +156,4 @@ take_grounds ds d (inputs.Got e) grounds k = by e.message refl
     by (messages.Inquiry tx) is = same
     by (messages.Ask tx) is = same
     by (messages.Close epoch) is = same
-    by (messages.Install epoch clock log) is = same
+    by (messages.Install start) is = same

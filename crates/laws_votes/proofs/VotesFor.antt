@@ -25,7 +25,7 @@ against_none : (q : ClientRequest) (o : Option (Option Answer)) → is_some o �
     → (clock : ℕ) × (o ≡ Some (Some (answers.Yes clock)))
 against_none q None taken is = absurd (let never : ⊥ = cc in never)
 against_none q (Some None) taken is = absurd (let never : ⊥ = cc in never)
-against_none q (Some (Some (answers.Granted life clock log))) taken is = absurd (let never : ⊥ = cc in never)
+against_none q (Some (Some (answers.Granted grant))) taken is = absurd (let never : ⊥ = cc in never)
 against_none q (Some (Some (answers.Clash holder inv event))) taken is = absurd (let never : ⊥ = cc in never)
 against_none q (Some (Some (answers.Closed epoch))) taken is = absurd (let never : ⊥ = cc in never)
 against_none q (Some (Some (answers.Behind epoch))) taken is = absurd (let never : ⊥ = cc in never)
@@ -33,7 +33,7 @@ against_none q (Some (Some (answers.Restarted life))) taken is = absurd (let nev
 against_none q (Some (Some answers.Stale)) taken is = absurd (let never : ⊥ = cc in never)
 against_none q (Some (Some answers.Fault)) taken is = absurd (let never : ⊥ = cc in never)
 against_none q (Some (Some (answers.Yes clock))) taken is = (clock, refl)
-against_none q (Some (Some (answers.Shut clock log prepared))) taken is = absurd (let never : ⊥ = cc in never)
+against_none q (Some (Some (answers.Shut snapshot))) taken is = absurd (let never : ⊥ = cc in never)
 against_none q (Some (Some answers.Installed)) taken is = absurd (let never : ⊥ = cc in never)
 against_none q (Some (Some (answers.Answered outcome))) taken is = absurd (let never : ⊥ = cc in never)
 

@@ -8,6 +8,7 @@ use Rattle.qc_msg.specs.declared.message.Want.TheVariants.{Prepare}
 use Rattle.qc_msg.specs.declared.record.Record.{Record}
 use Rattle.qc_msg.specs.declared.record.Record.TheVariants.{Decide}
 use Rattle.qc_msg.specs.declared.step.Step.TheVariants.{Sent}
+use Rattle.qc_msg.specs.Vocabulary.{start_with}
 
 -- the first client's transaction asks a site in the second epoch; the second client's only tells one that it aborted
 abbrev pub asked : List Entry
@@ -18,4 +19,4 @@ asked =
 
 -- an epoch is decided with no lines
 abbrev pub decides : ℕ → Record
-decides epoch = Decide epoch 0 []
+decides epoch = Decide (start_with epoch 0 [])

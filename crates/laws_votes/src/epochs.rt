@@ -18,6 +18,7 @@ ghost use Rattle.qc_msg.specs.Lengths.{epoch_length};
 ghost use Rattle.qc_msg.specs.declared.message.Envelope.{Envelope};
 ghost use Rattle.qc_msg.specs.declared.message.Message.TheVariants.{Install};
 ghost use Rattle.qc_msg.specs.declared.reply.Reply.TheVariants.{Fault};
+ghost use Rattle.qc_msg.specs.Payloads.{start_with};
 ghost use Rattle.laws_refinement.specs.Rules.{AreInTurn};
 ghost use Rattle.qc_promise.specs.Account.{Current, view_of};
 ghost use Rattle.qc_promise.specs.Accounting.{account};
@@ -73,6 +74,6 @@ pub fn decisions_fit_records_through_falls<C: ConductWithFalls>()
 /// answers that it is behind for want of room.
 pub fn installs_fit_records_through_falls<C: ConductWithFalls>()
     ensures { OfEachKeptRun C.fits (λ decl script h open_inputs. operations_of h ≤ 2 * most_committed_operations
-        → (e : Envelope) (epoch clock : ℕ) (log : List Line) → In e (mail h) → e.message ≡ Install epoch clock log
+        → (e : Envelope) (epoch clock : ℕ) (log : List Line) → In e (mail h) → e.message ≡ Install (start_with epoch clock log)
         → epoch_length log ≤ most_record_bytes) }
 {}

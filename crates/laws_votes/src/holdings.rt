@@ -17,6 +17,7 @@ ghost use Rattle.qc_msg.specs.declared.message.Message.TheVariants.{Answer, Requ
 ghost use Rattle.qc_msg.specs.declared.message.Want.{Want};
 ghost use Rattle.qc_msg.specs.declared.message.Want.TheVariants.{Read};
 ghost use Rattle.qc_msg.specs.Deeds.{deeds, mail};
+ghost use Rattle.qc_msg.specs.Payloads.{grant_with, read_of};
 ghost use Rattle.theory_onecopy.specs.Logged.{IsClosedLog};
 ghost use Rattle.qc_promise.specs.Committed.{committed};
 ghost use Rattle.qc_promise.specs.SiteHeld.{held_shown, last_cut};
@@ -40,8 +41,8 @@ pub fn granted_items_are_held_in_their_lives<C: ConductWithFalls>()
 pub fn granted_logs_are_closed_through_falls<C: ConductWithFalls>()
     ensures { OfEachKeptRun C.fits (λ decl script h open_inputs. (request answer : Envelope) (tx : TxId) (number epoch
         named object inv life clock : ℕ) (log : List Line) → slice_get (mail h) number ≡ Some request
-        → request.message ≡ Request tx epoch named (Read object inv) → In answer (mail h)
-        → answer.message ≡ Answer number (Granted life clock log) → IsClosedLog decl (committed decl h) log) }
+        → request.message ≡ Request tx epoch named (Read (read_of object inv)) → In answer (mail h)
+        → answer.message ≡ Answer number (Granted (grant_with life clock log)) → IsClosedLog decl (committed decl h) log) }
 {}
 
 /// What was promised is held: while a promise stands on a site's disk, the last of

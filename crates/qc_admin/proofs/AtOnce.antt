@@ -22,7 +22,8 @@ use Rattle.qc_plan.specs.declared.standing.Verdict.{Verdict}
 use Rattle.qc_plan.specs.declared.standing.Verdict.TheVariants as verdicts
 use Rattle.qc_plan.specs.Vocabulary.{RoundState, note, start, verdict}
 use Rattle.qc_front.specs.Vocabulary.{IsRound, awaited, weights_of}
-use Rattle.qc_epoch.specs.Vocabulary.{Admin, Asking, Closing, Decided, Doing, Installing, Question, Resting, ShutSite}
+use Rattle.qc_epoch.specs.Vocabulary.{Admin, Asking, Closing, Doing, Installing, Question, Resting, ShutSite}
+use Rattle.qc_msg.specs.declared.payload.EpochStart.{EpochStart}
 use Rattle.qc_epoch.specs.Vocabulary.{admin_takes, again, all_taken, answered_in, ask_of, asks, called, close_need}
 use Rattle.qc_epoch.specs.Vocabulary.{close_round, close_round_by, closes, closes_by, closing_takes, decide_turn}
 use Rattle.qc_epoch.specs.Vocabulary.{decides, decision, doing, first_doubt, goes_on, heard, in_asked_order}
@@ -39,7 +40,7 @@ tells : (decl : Declaration) (m : Admin) (turn : Turn) → turn.sends ≡ []
     → IsNumberedAtOnce decl (moved (doing m Resting) turn)
 tells decl m turn none = unsent decl (doing m Resting) turn none tt
 
-decides_now : (decl : Declaration) (m : Admin) (d : Decided) (closed : List ℕ) → IsAccepted decl
+decides_now : (decl : Declaration) (m : Admin) (d : EpochStart) (closed : List ℕ) → IsAccepted decl
     → IsNumberedAtOnce decl (decides decl m d closed)
 decides_now decl m d closed accepted = by (nat_le (epoch_length d.lines) most_record_bytes)
   where
@@ -122,7 +123,7 @@ nobody_yet decl epoch = by (plan_in decl epoch)
 
 -- inputs
 
-again_now : (decl : Declaration) (m : Admin) (o : Option Decided) → IsAccepted decl
+again_now : (decl : Declaration) (m : Admin) (o : Option EpochStart) → IsAccepted decl
     → IsNumberedAtOnce decl (again decl m o)
 again_now decl m None accepted = tells decl m (again decl m None).turn refl
 again_now decl m (Some d) accepted = installs_new decl m d [] (sending (install_sends decl d)) accepted refl
@@ -199,7 +200,7 @@ heard_now decl m (messages.Decision tx verdict) accepted h = unsent decl m quiet
 heard_now decl m (messages.Inquiry tx) accepted h = unsent decl m quiet refl h
 heard_now decl m (messages.Ask tx) accepted h = unsent decl m quiet refl h
 heard_now decl m (messages.Close epoch) accepted h = unsent decl m quiet refl h
-heard_now decl m (messages.Install epoch clock log) accepted h = unsent decl m quiet refl h
+heard_now decl m (messages.Install start) accepted h = unsent decl m quiet refl h
 
 pub takes_now : (decl : Declaration) (m : Admin) (input : Input) → IsAccepted decl → AdminHolds decl m
     → IsNumberedAtOnce decl (admin_takes decl m input)

@@ -20,7 +20,8 @@ use Rattle.qc_plan.specs.declared.standing.Verdict.TheVariants as verdicts
 use Rattle.qc_plan.specs.Vocabulary.{RoundState, note, verdict}
 use Rattle.qc_front.specs.Vocabulary.{sites_called}
 use Rattle.qc_front.proofs.Awaited.{sites_stay}
-use Rattle.qc_epoch.specs.Vocabulary.{Admin, Asking, Closing, Decided, Doing, Installing, Question, Resting, ShutSite}
+use Rattle.qc_epoch.specs.Vocabulary.{Admin, Asking, Closing, Doing, Installing, Question, Resting, ShutSite}
+use Rattle.qc_msg.specs.declared.payload.EpochStart.{EpochStart}
 use Rattle.qc_epoch.specs.Vocabulary.{admin_takes, again, all_sites, all_taken, answered_in, ask_of, asking_takes, asks}
 use Rattle.qc_epoch.specs.Vocabulary.{called, close_round, closes, closes_by, closing_takes, decide_turn, decides}
 use Rattle.qc_epoch.specs.Vocabulary.{decision, doing, first_doubt, heard, in_asked_order, installing, installing_takes}
@@ -44,7 +45,7 @@ installs_begin decl closed accepted set = record {
   none = λ e. refl;
 }
 
-decides_fit : (decl : Declaration) (m : Admin) (d : Decided) (closed : List ℕ) → IsAccepted decl
+decides_fit : (decl : Declaration) (m : Admin) (d : EpochStart) (closed : List ℕ) → IsAccepted decl
     → site_set closed < 2 ^ 16 → AdminFits (decides decl m d closed).admin
 decides_fit decl m d closed accepted set = by (nat_le (epoch_length d.lines) most_record_bytes)
   where
@@ -89,7 +90,7 @@ closes_fit decl m epoch calls round shuts accepted was are fit = by (verdict rou
 
 -- commands
 
-again_fits : (decl : Declaration) (m : Admin) (o : Option Decided) → IsAccepted decl → AdminFits (again decl m o).admin
+again_fits : (decl : Declaration) (m : Admin) (o : Option EpochStart) → IsAccepted decl → AdminFits (again decl m o).admin
 again_fits decl m None accepted = tt
 again_fits decl m (Some d) accepted = installs_begin decl [] accepted (omega arith)
 
@@ -118,7 +119,7 @@ called_fits decl m (commands.Epoch number) accepted was = moves_fit decl m numbe
 installed_bits : (installed : List ℕ) (site : ℕ) (answer : Option Answer)
     → site_set (with_installed installed site answer) ≤ site_set installed + 2 ^ site
 installed_bits installed site None = omega arith
-installed_bits installed site (Some (answers.Granted life clock log)) = omega arith
+installed_bits installed site (Some (answers.Granted grant)) = omega arith
 installed_bits installed site (Some (answers.Clash holder inv event)) = omega arith
 installed_bits installed site (Some (answers.Closed epoch)) = omega arith
 installed_bits installed site (Some (answers.Behind epoch)) = omega arith
@@ -126,7 +127,7 @@ installed_bits installed site (Some (answers.Restarted life)) = omega arith
 installed_bits installed site (Some answers.Stale) = omega arith
 installed_bits installed site (Some answers.Fault) = omega arith
 installed_bits installed site (Some (answers.Yes clock)) = omega arith
-installed_bits installed site (Some (answers.Shut clock log prepared)) = omega arith
+installed_bits installed site (Some (answers.Shut snapshot)) = omega arith
 installed_bits installed site (Some answers.Installed) = let last = last_bit site installed in omega (arith, last)
 installed_bits installed site (Some (answers.Answered verdict)) = omega arith
 
@@ -201,7 +202,7 @@ heard_fits decl m (messages.Decision tx verdict) accepted was told = was
 heard_fits decl m (messages.Inquiry tx) accepted was told = was
 heard_fits decl m (messages.Ask tx) accepted was told = was
 heard_fits decl m (messages.Close epoch) accepted was told = was
-heard_fits decl m (messages.Install epoch clock log) accepted was told = was
+heard_fits decl m (messages.Install start) accepted was told = was
 
 pub takes_fit : (decl : Declaration) (m : Admin) (input : Input) → IsAccepted decl → AdminFits m → GivenFits input
     → AdminFits (admin_takes decl m input).admin

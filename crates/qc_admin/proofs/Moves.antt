@@ -93,7 +93,7 @@ closed_met decl (Ok next) c calls round all ordered runs met are asked = λ m.
 pub shut_last : (shuts : List ShutSite) (site : ℕ) (answer : Option Answer)
     → with_shut_of shuts site answer ≡ with_last shuts (shut_in site answer)
 shut_last shuts site None = sym (append-nil shuts)
-shut_last shuts site (Some (answers.Granted life clock log)) = sym (append-nil shuts)
+shut_last shuts site (Some (answers.Granted grant)) = sym (append-nil shuts)
 shut_last shuts site (Some (answers.Clash holder inv event)) = sym (append-nil shuts)
 shut_last shuts site (Some (answers.Closed epoch)) = sym (append-nil shuts)
 shut_last shuts site (Some (answers.Behind epoch)) = sym (append-nil shuts)
@@ -101,13 +101,13 @@ shut_last shuts site (Some (answers.Restarted life)) = sym (append-nil shuts)
 shut_last shuts site (Some answers.Stale) = sym (append-nil shuts)
 shut_last shuts site (Some answers.Fault) = sym (append-nil shuts)
 shut_last shuts site (Some (answers.Yes clock)) = sym (append-nil shuts)
-shut_last shuts site (Some (answers.Shut clock log prepared)) = refl
+shut_last shuts site (Some (answers.Shut snapshot)) = refl
 shut_last shuts site (Some answers.Installed) = sym (append-nil shuts)
 shut_last shuts site (Some (answers.Answered verdict)) = sym (append-nil shuts)
 
 shut_fits : (site : ℕ) (answer : Option Answer) → AnswerFits answer → ShutsFit (shut_list (shut_in site answer))
 shut_fits site None fits = tt
-shut_fits site (Some (answers.Granted life clock log)) fits = tt
+shut_fits site (Some (answers.Granted grant)) fits = tt
 shut_fits site (Some (answers.Clash holder inv event)) fits = tt
 shut_fits site (Some (answers.Closed epoch)) fits = tt
 shut_fits site (Some (answers.Behind epoch)) fits = tt
@@ -115,7 +115,7 @@ shut_fits site (Some (answers.Restarted life)) fits = tt
 shut_fits site (Some answers.Stale) fits = tt
 shut_fits site (Some answers.Fault) fits = tt
 shut_fits site (Some (answers.Yes clock)) fits = tt
-shut_fits site (Some (answers.Shut clock log prepared)) fits = (fits, tt)
+shut_fits site (Some (answers.Shut snapshot)) fits = (fits, tt)
 shut_fits site (Some answers.Installed) fits = tt
 shut_fits site (Some (answers.Answered verdict)) fits = tt
 

@@ -11,7 +11,8 @@ use Rattle.qc_decl.specs.Vocabulary.{IsAccepted}
 use Rattle.qc_msg.specs.declared.call.Call.{Call}
 use Rattle.qc_msg.specs.declared.turn.Turn.{Turn}
 use Rattle.qc_msg.specs.Vocabulary.{calls_from, sending, with_call}
-use Rattle.qc_epoch.specs.Vocabulary.{Admin, Asking, Decided, Installing, Question, ShutSite, all_sites, ask_of, doing}
+use Rattle.qc_epoch.specs.Vocabulary.{Admin, Asking, Installing, Question, ShutSite, all_sites, ask_of, doing}
+use Rattle.qc_msg.specs.declared.payload.EpochStart.{EpochStart}
 use Rattle.qc_epoch.specs.Vocabulary.{install_of, install_sends, installing, is_number, is_questioned, most_asks, moved}
 use Rattle.qc_epoch.specs.Vocabulary.{numbered_first, taken_for, with_question, with_questions}
 use Rattle.qc_msg.specs.declared.message.Outcome.{Outcome}
@@ -19,7 +20,7 @@ use Rattle.qc_admin.specs.Vocabulary.{IsNumberedAtOnce, is_unasked, numbered_all
 
 -- Installs get their numbers
 
-installs_sent : (m : Admin) (d : Decided) (closed awaits : List ℕ) (calls : List Call) (first : ℕ) (sites : List ℕ)
+installs_sent : (m : Admin) (d : EpochStart) (closed awaits : List ℕ) (calls : List Call) (first : ℕ) (sites : List ℕ)
     → sent_each (doing m (Installing closed awaits calls [])) first (map (install_of d) sites)
     ≡ doing m (Installing closed awaits (calls ++ calls_from first sites) [])
 installs_sent m d closed awaits calls first [] =
@@ -33,7 +34,7 @@ count_from : (first : ℕ) (sites : List ℕ) → length (calls_from first sites
 count_from first [] = refl
 count_from first (s ∷ ss) = ap suc (count_from (first + 1) ss)
 
-pub installs_new : (decl : Declaration) (m : Admin) (d : Decided) (closed : List ℕ) (turn : Turn) → IsAccepted decl
+pub installs_new : (decl : Declaration) (m : Admin) (d : EpochStart) (closed : List ℕ) (turn : Turn) → IsAccepted decl
     → turn.sends ≡ install_sends decl d
     → IsNumberedAtOnce decl (moved (doing m (installing decl closed)) turn)
 installs_new decl m d closed turn accepted are = record {

@@ -23,7 +23,8 @@ use Rattle.qc_plan.specs.declared.standing.Verdict.TheVariants as verdicts
 use Rattle.qc_plan.specs.Vocabulary.{RoundState, note, verdict, wanted}
 use Rattle.qc_front.specs.Vocabulary.{IsPrefix, sites_of}
 use Rattle.qc_front.proofs.Awaited.{wanted_is}
-use Rattle.qc_epoch.specs.Vocabulary.{Admin, Asking, Closing, Decided, Doing, Installing, Question, Resting, ShutSite}
+use Rattle.qc_epoch.specs.Vocabulary.{Admin, Asking, Closing, Doing, Installing, Question, Resting, ShutSite}
+use Rattle.qc_msg.specs.declared.payload.EpochStart.{EpochStart}
 use Rattle.qc_epoch.specs.Vocabulary.{admin_takes, again, all_sites, all_taken, answered_in, ask_of, asks, called}
 use Rattle.qc_epoch.specs.Vocabulary.{close_of, close_round, closes, closes_by, closing_takes, decide_turn, decides}
 use Rattle.qc_epoch.specs.Vocabulary.{decision, doing, first_doubt, goes_on, heard, in_asked_order, install_of}
@@ -110,7 +111,7 @@ asks_go decl qs accepted all = record {
 row : (decl : Declaration) → IsAccepted decl → AreSites (all_sites decl)
 row decl accepted = row_sites decl.sites accepted.sites
 
-decides_go : (decl : Declaration) (m : Admin) (d : Decided) (closed : List ℕ) → IsAccepted decl
+decides_go : (decl : Declaration) (m : Admin) (d : EpochStart) (closed : List ℕ) → IsAccepted decl
     → GoesToActors (decides decl m d closed).turn
 decides_go decl m d closed accepted = by (nat_le (epoch_length d.lines) most_record_bytes)
   where
@@ -154,7 +155,7 @@ closes_go decl m epoch calls round shuts accepted are fit = by (verdict round)
 
 -- inputs
 
-again_goes : (decl : Declaration) (m : Admin) (o : Option Decided) → IsAccepted decl
+again_goes : (decl : Declaration) (m : Admin) (o : Option EpochStart) → IsAccepted decl
     → GoesToActors (again decl m o).turn
 again_goes decl m None accepted = silent (again decl m None).turn refl
 again_goes decl m (Some d) accepted = sites_told (install_of d) (all_sites decl) (again decl m (Some d)).turn
@@ -224,7 +225,7 @@ heard_goes decl m (messages.Decision tx verdict) accepted was told = silent quie
 heard_goes decl m (messages.Inquiry tx) accepted was told = silent quiet refl
 heard_goes decl m (messages.Ask tx) accepted was told = silent quiet refl
 heard_goes decl m (messages.Close epoch) accepted was told = silent quiet refl
-heard_goes decl m (messages.Install epoch clock log) accepted was told = silent quiet refl
+heard_goes decl m (messages.Install start) accepted was told = silent quiet refl
 
 pub takes_go : (decl : Declaration) (m : Admin) (input : Input) → IsAccepted decl → AdminFits m → GivenFits input
     → GoesToActors (admin_takes decl m input).turn

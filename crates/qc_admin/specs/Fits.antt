@@ -13,7 +13,8 @@ use Rattle.qc_msg.specs.declared.turn.Turn.{Turn}
 use Rattle.qc_plan.specs.Vocabulary.{RoundState}
 use Rattle.qc_front.specs.Vocabulary.{sites_called, sites_of}
 use Rattle.qc_epoch.specs.Vocabulary.{Admin, Asking, Closing, Doing, Installing, Resting, ShutSite, most_asks, site_set}
-use Rattle.qc_msg.specs.Vocabulary.{Answered, Shutting, answer_in, shut_in}
+use Rattle.qc_msg.specs.Vocabulary.{Answered, answer_in, shut_in}
+use Rattle.qc_msg.specs.declared.payload.Snapshot.{Snapshot}
 
 -- few sites, which are a set of 16 bits
 pub record AreSites (sites : List ℕ) : Type 0 where
@@ -51,7 +52,7 @@ AdminFits m = DoingFits m.doing
 -- what he takes
 
 abbrev pub AnswerFits : Option Answer → Type 0
-AnswerFits answer = MatchOption (option_and_then shut_in answer) (Unit {0}) (λ (z : Shutting). AreOfClients z.prepared)
+AnswerFits answer = MatchOption (option_and_then shut_in answer) (Unit {0}) (λ (z : Snapshot). AreOfClients z.prepared)
 
 abbrev pub MessageFits : Message → Type 0
 MessageFits message = MatchOption (answer_in message) (Unit {0}) (λ (a : Answered). AnswerFits (Some a.answer))

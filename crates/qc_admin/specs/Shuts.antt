@@ -6,7 +6,7 @@ use Rattle.qc_epoch.specs.Vocabulary.{ShutSite, shut_list}
 
 abbrev pub shut_in : ℕ → Option Answer → Option ShutSite
 shut_in site None = None
-shut_in site (Some (answers.Granted life clock log)) = None
+shut_in site (Some (answers.Granted grant)) = None
 shut_in site (Some (answers.Clash holder inv event)) = None
 shut_in site (Some (answers.Closed epoch)) = None
 shut_in site (Some (answers.Behind epoch)) = None
@@ -14,8 +14,8 @@ shut_in site (Some (answers.Restarted life)) = None
 shut_in site (Some answers.Stale) = None
 shut_in site (Some answers.Fault) = None
 shut_in site (Some (answers.Yes clock)) = None
-shut_in site (Some (answers.Shut clock log prepared)) =
-    Some (record { site = site; clock = clock; log = log; prepared = prepared })
+shut_in site (Some (answers.Shut snapshot)) =
+    Some (record { site = site; clock = snapshot.clock; log = snapshot.log; prepared = snapshot.prepared })
 shut_in site (Some answers.Installed) = None
 shut_in site (Some (answers.Answered verdict)) = None
 

@@ -4,9 +4,8 @@ ghost use Rattle.std.specs.Prelude.{◌≡◌};
 ghost use Rattle.qc_epoch.specs.Admin.{new_admin};
 ghost use Rattle.qc_recover.specs.Admins.{admin_by};
 
-use crate::decided::Decided;
 use crate::doing::Doing;
-use qc_msg::FIRST_EPOCH;
+use qc_msg::{EpochStart, FIRST_EPOCH};
 use std::marker::Model;
 
 /// The administrator.
@@ -15,7 +14,7 @@ pub struct Admin {
     /// The epoch that is decided.
     pub(crate) epoch: u8,
     /// The record of it: none for the first one.
-    pub(crate) decided: Option<Decided>,
+    pub(crate) decided: Option<EpochStart>,
     /// What runs.
     pub(crate) doing: Doing,
 }
@@ -39,7 +38,7 @@ impl Admin {
 
     /// The administrator with this record, or none; nothing runs. It takes no
     /// memory.
-    pub(crate) fn by(decided: Option<Decided>) -> Admin
+    pub(crate) fn by(decided: Option<EpochStart>) -> Admin
         ensures { result ≡ admin_by decided }
     {
         let epoch = match &decided {

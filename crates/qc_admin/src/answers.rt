@@ -14,7 +14,7 @@ pub(crate) fn standing_of(answer: Option<&Answer>) -> Standing
     ensures { result ≡ standing_of (option_copied answer.entry) }
 {
     match answer {
-        Some(Answer::Shut { .. }) => Standing::Granted,
+        Some(Answer::Shut(_)) => Standing::Granted,
         _ => Standing::Missing,
     }
 }

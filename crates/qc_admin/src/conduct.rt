@@ -63,7 +63,7 @@ impl Admin {
             | Message::Inquiry { .. }
             | Message::Ask { .. }
             | Message::Close { .. }
-            | Message::Install { .. } => Ok(Turn::quiet(alloc)),
+            | Message::Install(_) => Ok(Turn::quiet(alloc)),
         }
     }
 

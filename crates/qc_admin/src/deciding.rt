@@ -5,7 +5,6 @@ ghost use Rattle.qc_epoch.specs.Admin.{ShutSite as Told};
 ghost use Rattle.qc_epoch.specs.Deciding.{decision, merged};
 ghost use Rattle.qc_admin.specs.Merging.{stamp_at, with_promised_by, with_shut_by};
 
-use crate::decided::Decided;
 use crate::questions::Questions;
 use crate::shut::{ShutSite, Shuts};
 use crate::stamps::Stamps;
@@ -13,6 +12,7 @@ use qc_entry::{Log, Prepared};
 use qc_list::OutOfMemory;
 use qc_recover::LineSet;
 use qc_site::lines_of;
+use qc_msg::EpochStart;
 use std::alloc::Global;
 
 /// The epoch as what these sites told and these verdicts decide it.
@@ -21,10 +21,10 @@ pub(crate) fn decide(
     epoch: u8,
     shuts: &Shuts,
     questions: &Questions,
-) -> Result<Decided, OutOfMemory>
+) -> Result<EpochStart, OutOfMemory>
     ensures { IfOk result (λ d. d ≡ decision epoch shuts.now questions.now) }
 {
-    Ok(Decided {
+    Ok(EpochStart {
         epoch,
         clock: questions.latest(latest(shuts)),
         lines: merged(alloc, shuts, questions)?,

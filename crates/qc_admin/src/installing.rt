@@ -12,13 +12,13 @@ ghost use Rattle.qc_admin.specs.Next.{becomes};
 ghost use Rattle.qc_admin.specs.Sent.{numbered};
 ghost use Rattle.qc_admin.specs.Shown.{installing_of};
 
+use crate::decided::{fits_record, installs};
 use crate::answers::is_installed;
-use crate::decided::Decided;
 use crate::doing::Doing;
 use crate::next::Next;
 use qc_decl::Declaration;
 use qc_list::{List, OutOfMemory};
-use qc_msg::{Answer, Appended, Calls, Reply, Sites, Turn};
+use qc_msg::{Answer, Appended, Calls, EpochStart, Record, Reply, Sites, Turn};
 use std::alloc::Global;
 
 /// Installs of what is decided, with the open requests.
@@ -40,18 +40,18 @@ pub(crate) struct Installing {
 pub(crate) fn install(
     alloc: Global,
     decl: &Declaration,
-    decided: Decided,
+    decided: EpochStart,
     closed: Sites,
 ) -> Result<Next, OutOfMemory>
     ensures { IfOk result (λ next. (m : AdminState) (d : DoingState) →
         decides decl.now m decided closed ≡ becomes m d next) }
 {
-    if !decided.fits_record() {
+    if !fits_record(&decided) {
         return Ok(Next::telling(alloc, Reply::Fault));
     }
-    let write = decided.written()?;
+    let write = Record::Decide(decided.copy()?);
     let sites = all_sites(alloc, decl)?;
-    let sends = decided.installs(alloc, &sites)?;
+    let sends = installs(alloc, &decided, &sites)?;
     let installing = Installing::of(alloc, closed, sites);
     Ok(Next::Decides {
         decided,
@@ -71,13 +71,13 @@ pub(crate) fn install(
 pub(crate) fn install_again(
     alloc: Global,
     decl: &Declaration,
-    decided: &Decided,
+    decided: &EpochStart,
 ) -> Result<Next, OutOfMemory>
     ensures { IfOk result (λ next. (m : AdminState) (d : DoingState) →
         again decl.now m (Some decided.now) ≡ becomes m d next) }
 {
     let sites = all_sites(alloc, decl)?;
-    let sends = decided.installs(alloc, &sites)?;
+    let sends = installs(alloc, &decided, &sites)?;
     let installing = Installing::of(alloc, List::new(alloc), sites);
     Ok(Next::Runs {
         doing: Doing::Installing(installing),

@@ -4,9 +4,8 @@
 ghost use Rattle.std.specs.Prelude.{◌≡◌};
 ghost use Rattle.qc_admin.specs.Next.{begun, stays, told};
 
-use crate::decided::Decided;
 use crate::doing::Doing;
-use qc_msg::{Reply, Turn};
+use qc_msg::{EpochStart, Reply, Turn};
 use std::alloc::Global;
 
 /// What becomes of him, and his turn.
@@ -23,7 +22,7 @@ pub(crate) enum Next {
     },
     /// An epoch is decided, and something else runs.
     Decides {
-        decided: Decided,
+        decided: EpochStart,
         doing: Doing,
         turn: Turn,
     },

@@ -5,9 +5,8 @@ ghost use Rattle.qc_epoch.specs.Admin.{moved};
 ghost use Rattle.qc_recover.specs.Admins.{admin_rises, keeps, kept_by};
 
 use crate::admin::Admin;
-use crate::decided::Decided;
 use qc_list::{List, OutOfMemory};
-use qc_msg::{Record, Turn};
+use qc_msg::{EpochStart, Record, Turn};
 use qc_recover::rising;
 use std::alloc::Global;
 
@@ -32,22 +31,13 @@ pub fn admin_of(alloc: Global, records: &[Record]) -> Result<RisenAdmin, OutOfMe
 }
 
 /// What the records tell of the decided epoch: the last Decide record.
-fn kept_by(records: &[Record]) -> Result<Option<Decided>, OutOfMemory>
+fn kept_by(records: &[Record]) -> Result<Option<EpochStart>, OutOfMemory>
     ensures { IfOk result (λ kept. kept ≡ kept_by records.now) }
 {
     let mut kept = None;
     'records: for rec in records {
-        if let Record::Decide {
-            epoch,
-            clock,
-            lines,
-        } = rec
-        {
-            kept = Some(Decided {
-                epoch: *epoch,
-                clock: *clock,
-                lines: lines.copy()?,
-            });
+        if let Record::Decide(start) = rec {
+            kept = Some(start.copy()?);
         }
     }
     Ok(kept)

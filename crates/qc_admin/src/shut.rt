@@ -46,17 +46,11 @@ impl ShutSite {
         ensures { IfOk result (λ shut. shut ≡ shut_in site (option_copied answer.entry)) }
     {
         match answer {
-            Some(
-                Answer::Shut {
-                    clock,
-                    log,
-                    prepared,
-                },
-            ) => Ok(Some(ShutSite {
+            Some(Answer::Shut(snapshot)) => Ok(Some(ShutSite {
                 site,
-                clock: *clock,
-                log: log.copy()?,
-                prepared: copy_of(alloc, prepared)?,
+                clock: snapshot.clock,
+                log: snapshot.log.copy()?,
+                prepared: copy_of(alloc, &snapshot.prepared)?,
             })),
             _ => Ok(None),
         }

@@ -35,7 +35,7 @@ IsVerdict front next tx outcomes.Aborted = (name_of front.transaction ≡ Some t
 IsVerdict front next tx outcomes.Active = ⊥
 
 abbrev pub IsWanted : Want → Type 0
-IsWanted (Read object inv) = Unit {0}
+IsWanted (Read read) = Unit {0}
 IsWanted (Append object view own) = Unit {0}
 IsWanted Prepare = ⊥
 
@@ -46,7 +46,7 @@ IsSending front next (messages.Decision tx verdict) = IsVerdict front next tx ve
 IsSending front next (messages.Inquiry tx) = ⊥
 IsSending front next (messages.Ask tx) = ⊥
 IsSending front next (messages.Close epoch) = ⊥
-IsSending front next (messages.Install epoch clock log) = ⊥
+IsSending front next (messages.Install start) = ⊥
 
 -- the transaction has ended, or has the name that it had, or the next one
 abbrev pub IsNamed : Front → Front → Type 0
@@ -111,10 +111,10 @@ gives front next t reply same name = record {
   each (site ∷ sites) = ((name, refl), each sites)
 
 -- requests of a round
-pub asked : (front next : Front) (b : Begun) (want : Want) → IsWanted want → (sites : List ℕ)
+pub asked : (front next : Front) (b : Begun) (want : ℕ → Want) → ((site : ℕ) → IsWanted (want site)) → (sites : List ℕ)
     → Every (λ (p : Posting). IsSending front next p.message) (map (request_of b want) sites)
 asked front next b want wanted [] = tt
-asked front next b want wanted (site ∷ sites) = (wanted, asked front next b want wanted sites)
+asked front next b want wanted (site ∷ sites) = (wanted site, asked front next b want wanted sites)
 
 -- the name stays, whatever joins the transaction
 
@@ -128,8 +128,8 @@ granted-name t object log = view-name t object (option_map (λ (v : View). with_
 pub read-name : (t : Transaction) (site object : ℕ) (answer : Option Answer)
     → (read_with t site object answer).begun.tx ≡ t.begun.tx
 read-name t site object None = refl
-read-name t site object (Some (answers.Granted life clock log)) =
-    ap (λ (b : Begun). b.tx) (granted-name (lived t site life) object log)
+read-name t site object (Some (answers.Granted grant)) =
+    ap (λ (b : Begun). b.tx) (granted-name (lived t site grant.life) object grant.log)
 read-name t site object (Some (answers.Clash holder inv event)) = refl
 read-name t site object (Some (answers.Closed epoch)) = refl
 read-name t site object (Some (answers.Behind epoch)) = refl
@@ -137,14 +137,14 @@ read-name t site object (Some (answers.Restarted life)) = refl
 read-name t site object (Some answers.Stale) = refl
 read-name t site object (Some answers.Fault) = refl
 read-name t site object (Some (answers.Yes clock)) = refl
-read-name t site object (Some (answers.Shut clock log prepared)) = refl
+read-name t site object (Some (answers.Shut snapshot)) = refl
 read-name t site object (Some answers.Installed) = refl
 read-name t site object (Some (answers.Answered verdict)) = refl
 
 pub appended-name : (t : Transaction) (site : ℕ) (answer : Option Answer)
     → (appended_with t site answer).begun.tx ≡ t.begun.tx
 appended-name t site None = refl
-appended-name t site (Some (answers.Granted life clock log)) = refl
+appended-name t site (Some (answers.Granted grant)) = refl
 appended-name t site (Some (answers.Clash holder inv event)) = refl
 appended-name t site (Some (answers.Closed epoch)) = refl
 appended-name t site (Some (answers.Behind epoch)) = refl
@@ -152,7 +152,7 @@ appended-name t site (Some (answers.Restarted life)) = refl
 appended-name t site (Some answers.Stale) = refl
 appended-name t site (Some answers.Fault) = refl
 appended-name t site (Some (answers.Yes clock)) = refl
-appended-name t site (Some (answers.Shut clock log prepared)) = refl
+appended-name t site (Some (answers.Shut snapshot)) = refl
 appended-name t site (Some answers.Installed) = refl
 appended-name t site (Some (answers.Answered verdict)) = refl
 
@@ -165,7 +165,7 @@ event-name t object inv event resp =
 
 pub learned : (front : Front) (answer : Option Answer) → IsSame front (learns front answer)
 learned front None = itself front
-learned front (Some (answers.Granted life clock log)) = record { client = refl; life = refl; count = refl }
+learned front (Some (answers.Granted grant)) = record { client = refl; life = refl; count = refl }
 learned front (Some (answers.Clash holder inv event)) = itself front
 learned front (Some (answers.Closed epoch)) = record { client = refl; life = refl; count = refl }
 learned front (Some (answers.Behind epoch)) = itself front
@@ -173,6 +173,6 @@ learned front (Some (answers.Restarted life)) = itself front
 learned front (Some answers.Stale) = itself front
 learned front (Some answers.Fault) = itself front
 learned front (Some (answers.Yes clock)) = itself front
-learned front (Some (answers.Shut clock log prepared)) = itself front
+learned front (Some (answers.Shut snapshot)) = itself front
 learned front (Some answers.Installed) = itself front
 learned front (Some (answers.Answered verdict)) = itself front

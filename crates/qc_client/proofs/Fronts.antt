@@ -42,7 +42,7 @@ append-goes decl front next t object inv event calls round verdicts.Waiting same
     (asked front
     (turned next (Some (with_asked t (wanted round)))
     (Appending object inv event calls (asking_all round (wanted round)))) t.begun
-    (append_want decl t object event) tt (wanted round))
+    (append_want decl t object event) (λ site. tt) (wanted round))
 append-goes decl front next t object inv event calls round verdicts.Met same name =
     goes front next (with_event t object inv event (resp_of decl object event)) Idle
     (telling (replies.Response (resp_of decl object event))) same
@@ -72,7 +72,7 @@ read-goes decl front next t object inv calls round verdicts.Waiting same name =
     (sending (map (request_of t.begun (read_want object inv)) (wanted round))) same name
     (asked front
     (turned next (Some (with_asked t (wanted round))) (Reading object inv calls (asking_all round (wanted round))))
-    t.begun (read_want object inv) tt (wanted round))
+    t.begun (read_want object inv) (λ site. tt) (wanted round))
 read-goes decl front next t object inv calls round verdicts.Met same name =
     answered-goes decl front next t object inv (answer_of decl t object inv) same name
 read-goes decl front next t object inv calls round (verdicts.Closed epoch site) same name =

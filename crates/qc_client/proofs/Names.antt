@@ -189,7 +189,7 @@ heard-well decl c from number (messages.Decision tx verdict) well = well
 heard-well decl c from number (messages.Inquiry tx) well = well
 heard-well decl c from number (messages.Ask tx) well = well
 heard-well decl c from number (messages.Close epoch) well = well
-heard-well decl c from number (messages.Install epoch clock log) well = well
+heard-well decl c from number (messages.Install start) well = well
 
 pub takes-well : (decl : Declaration) (c : Client) (g : Input) → IsReady c g → IsWell c
     → IsWell (client_takes decl c g).client

@@ -81,7 +81,7 @@ front-tells c m goes well = every-weaker (λ (p : Posting). IsSending c.front m.
       tells (messages.Inquiry tx) is = tt
       tells (messages.Ask tx) is = tt
       tells (messages.Close epoch) is = tt
-      tells (messages.Install epoch clock log) is = tt
+      tells (messages.Install start) is = tt
 
 -- what the desk sends
 
@@ -110,7 +110,7 @@ desk-tells c m hand (inl w) begun well =
       tells (messages.Inquiry tx) is = tt
       tells (messages.Ask tx) is = tt
       tells (messages.Close epoch) is = tt
-      tells (messages.Install epoch clock log) is = tt
+      tells (messages.Install start) is = tt
 desk-tells c m hand (inr (inl r)) begun well =
     subst (λ ps. Every (λ (p : Posting). TellsOutcome (by_desk c m).client p.message) ps)
     (sym (ap (λ (t : Turn). t.sends) r.turn))
@@ -178,7 +178,7 @@ heard-tells decl c from number (messages.Decision tx verdict) well = tt
 heard-tells decl c from number (messages.Inquiry tx) well = (refl, tt)
 heard-tells decl c from number (messages.Ask tx) well = (tt, tt)
 heard-tells decl c from number (messages.Close epoch) well = tt
-heard-tells decl c from number (messages.Install epoch clock log) well = tt
+heard-tells decl c from number (messages.Install start) well = tt
 
 pub takes-tells : (decl : Declaration) (c : Client) (g : Input) → IsWell c
     → Every (λ (p : Posting). TellsOutcome (client_takes decl c g).client p.message) (client_takes decl c g).turn.sends
@@ -224,7 +224,7 @@ takes-knows decl c (given.Got envelope) tx stamp is = hears envelope.message whe
   hears (messages.Inquiry t) = is
   hears (messages.Ask t) = is
   hears (messages.Close epoch) = is
-  hears (messages.Install epoch clock log) = is
+  hears (messages.Install start) = is
 takes-knows decl c (given.Lost number) tx stamp is = answered-knows decl c number None tx stamp is
 
 sent-knows : (c : Client) (first : ℕ) (tx : TxId) (stamp : Stamp) → Knows c tx stamp → Knows (sent c first) tx stamp

@@ -56,7 +56,7 @@ heard decl c from number (messages.Inquiry tx) =
 heard decl c from number (messages.Ask tx) =
     moved c (sending (record { to = from; message = messages.Answer number (Answered (outcome_of c tx)) } ∷ []))
 heard decl c from number (messages.Close epoch) = moved c quiet
-heard decl c from number (messages.Install epoch clock log) = moved c quiet
+heard decl c from number (messages.Install start) = moved c quiet
 
 abbrev pub client_takes : Declaration → Client → Input → ClientMove
 client_takes decl c (inputs.Called command) = called decl c command
@@ -66,7 +66,7 @@ client_takes decl c (inputs.Lost number) = answered decl c number None
 -- a request of the client's was sent to a site under this number
 
 abbrev pub requested : Client → ℕ → ℕ → Want → Client
-requested c number to (Read object inv) = record c { front = fronts.requested c.front number to }
+requested c number to (Read read) = record c { front = fronts.requested c.front number to }
 requested c number to (Append object view own) = record c { front = fronts.requested c.front number to }
 requested c number to Prepare = record c { desk = desks.prepared c.desk number to }
 

@@ -56,7 +56,7 @@ impl Client {
         ensures err { OnErr result (self.new ≡ self.old) }
     {
         match message {
-            Message::Answer { to, answer } => self.answer(alloc, decl, *to, Some(answer)),
+            Message::Answer { to, answer } => self.take_answer(alloc, decl, *to, Some(answer)),
             Message::Inquiry { tx } => {
                 let verdict = self.outcome(*tx);
                 Turn::sending_one(alloc, from, Message::Decision { tx: *tx, verdict })
@@ -69,7 +69,7 @@ impl Client {
             Message::Request { .. }
             | Message::Decision { .. }
             | Message::Close { .. }
-            | Message::Install { .. } => Ok(Turn::quiet(alloc)),
+            | Message::Install(_) => Ok(Turn::quiet(alloc)),
         }
     }
 
@@ -87,7 +87,7 @@ impl Client {
             ≡ record { client = self.new; turn = turn }) }
         ensures err { OnErr result (self.new ≡ self.old) }
     {
-        self.answer(alloc, decl, number, None)
+        self.take_answer(alloc, decl, number, None)
     }
 
     /// The messages of the last turn were given the numbers from `first` on. It
@@ -126,7 +126,7 @@ impl Client {
 
     /// Takes what came of the request of this number: its answer, or, with
     /// none, that it is lost. While the desk waits for votes it is one.
-    fn answer(
+    fn take_answer(
         &mut self,
         alloc: Global,
         decl: &Declaration,
@@ -141,7 +141,7 @@ impl Client {
         ensures err { OnErr result (self.new ≡ self.old) }
     {
         if !self.desk.is_voting() {
-            return self.front.answer(alloc, decl, number, answer);
+            return self.front.hear_answer(alloc, decl, number, answer);
         }
         let turn = self.desk.vote(alloc, number, answer)?;
         self.end_by(&turn);

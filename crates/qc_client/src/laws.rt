@@ -21,6 +21,7 @@ ghost use Rattle.qc_msg.specs.declared.step.Command.TheVariants as commands;
 ghost use Rattle.qc_msg.specs.declared.step.Input.{Input};
 ghost use Rattle.qc_msg.specs.declared.turn.Posting.{Posting};
 ghost use Rattle.qc_msg.specs.Turns.{quiet, sending};
+ghost use Rattle.qc_msg.specs.Payloads.{start_with};
 ghost use Rattle.qc_stamp.specs.declared.stamp.Stamp.{Stamp};
 ghost use Rattle.qc_stamp.specs.declared.stamp.TxId.{TxId};
 ghost use Rattle.qc_stamp.specs.Order.{same_tx};
@@ -83,7 +84,7 @@ pub fn other_inputs_do_nothing()
     ensures close { (decl : Declaration) (c : Client) (from number epoch : ℕ)
         → heard decl c from number (messages.Close epoch) ≡ moved c quiet }
     ensures install { (decl : Declaration) (c : Client) (from number epoch clock : ℕ) (log : List Line)
-        → heard decl c from number (messages.Install epoch clock log) ≡ moved c quiet }
+        → heard decl c from number (messages.Install (start_with epoch clock log)) ≡ moved c quiet }
     ensures epoch { (decl : Declaration) (c : Client) (number : ℕ)
         → called decl c (commands.Epoch number) ≡ moved c quiet }
 {}

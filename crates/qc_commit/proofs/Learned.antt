@@ -28,7 +28,7 @@ pub learns_both : (desk : Desk) (answer : Option Answer)
       epoch = max desk.epoch (closed answer);
     }
 learns_both desk None = nothing desk
-learns_both desk (Some (answers.Granted life clock log)) = nothing desk
+learns_both desk (Some (answers.Granted grant)) = nothing desk
 learns_both desk (Some (answers.Clash holder inv event)) = nothing desk
 learns_both desk (Some (answers.Closed epoch)) =
     λ i. record {
@@ -50,7 +50,7 @@ learns_both desk (Some (answers.Yes clock)) =
       commits = desk.commits;
       voting = desk.voting;
     }
-learns_both desk (Some (answers.Shut clock log prepared)) = nothing desk
+learns_both desk (Some (answers.Shut snapshot)) = nothing desk
 learns_both desk (Some answers.Installed) = nothing desk
 learns_both desk (Some (answers.Answered verdict)) = nothing desk
 

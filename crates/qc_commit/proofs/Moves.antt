@@ -31,7 +31,7 @@ tx_of voting = option_map (λ (v : Voting). v.begun.tx) voting
 -- a message that asks for a promise
 
 abbrev pub IsPromiseWanted : Want → Type 0
-IsPromiseWanted (Read object inv) = ⊥
+IsPromiseWanted (Read read) = ⊥
 IsPromiseWanted (Append object view own) = ⊥
 IsPromiseWanted Prepare = Unit {0}
 
@@ -42,7 +42,7 @@ IsPrepare (messages.Decision tx verdict) = ⊥
 IsPrepare (messages.Inquiry tx) = ⊥
 IsPrepare (messages.Ask tx) = ⊥
 IsPrepare (messages.Close epoch) = ⊥
-IsPrepare (messages.Install epoch clock log) = ⊥
+IsPrepare (messages.Install start) = ⊥
 
 -- nothing is told or written, and the transaction stays in hand
 pub record Waits (desk : Desk) (hand : Option TxId) (m : DeskMove) : Type 0 where

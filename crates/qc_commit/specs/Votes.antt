@@ -31,7 +31,7 @@ prepares b site =
 -- each is as one that holds nothing
 abbrev pub vote_of : Begun → ℕ → Option Answer → Vote
 vote_of b site None = Against (causes.NoAnswer site)
-vote_of b site (Some (answers.Granted life clock log)) = Against (causes.Forgot site)
+vote_of b site (Some (answers.Granted grant)) = Against (causes.Forgot site)
 vote_of b site (Some (answers.Clash holder inv event)) = Against (causes.Forgot site)
 vote_of b site (Some (answers.Closed epoch)) = Against (causes.Closed epoch site)
 vote_of b site (Some (answers.Behind epoch)) = Against (causes.Forgot site)
@@ -39,7 +39,7 @@ vote_of b site (Some (answers.Restarted life)) = Against (causes.Restarted site 
 vote_of b site (Some answers.Stale) = Against (causes.Forgot site)
 vote_of b site (Some answers.Fault) = Against (causes.Fault site)
 vote_of b site (Some (answers.Yes clock)) = For
-vote_of b site (Some (answers.Shut clock log prepared)) = Against (causes.Forgot site)
+vote_of b site (Some (answers.Shut snapshot)) = Against (causes.Forgot site)
 vote_of b site (Some answers.Installed) = Against (causes.Forgot site)
 vote_of b site (Some (answers.Answered verdict)) = Against (causes.Forgot site)
 

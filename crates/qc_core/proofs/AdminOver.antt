@@ -31,9 +31,9 @@ IsOfAdminRecord records.Life = Unit {0}
 IsOfAdminRecord (records.Prepare p) = ⊥
 IsOfAdminRecord (records.Done tx clock) = ⊥
 IsOfAdminRecord (records.Close epoch) = ⊥
-IsOfAdminRecord (records.Install epoch clock lines) = ⊥
+IsOfAdminRecord (records.Install start) = ⊥
 IsOfAdminRecord (records.Commit commit) = ⊥
-IsOfAdminRecord (records.Decide epoch clock lines) = Unit {0}
+IsOfAdminRecord (records.Decide start) = Unit {0}
 
 abbrev pub WritesAsAdmin : Option Record → Type 0
 WritesAsAdmin None = Unit {0}
@@ -51,9 +51,9 @@ decision_his (Some records.Life) is = absurd is
 decision_his (Some (records.Prepare p)) is = absurd is
 decision_his (Some (records.Done tx clock)) is = absurd is
 decision_his (Some (records.Close epoch)) is = absurd is
-decision_his (Some (records.Install epoch clock lines)) is = absurd is
+decision_his (Some (records.Install start)) is = absurd is
 decision_his (Some (records.Commit commit)) is = absurd is
-decision_his (Some (records.Decide epoch clock lines)) is = tt
+decision_his (Some (records.Decide start)) is = tt
 
 module _ (decl : Declaration) where
   takes : (v : Actor) (g : Input) → IsAdminOrDown v → IsAdminMove (actor_takes decl v g)

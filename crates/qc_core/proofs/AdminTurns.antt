@@ -36,7 +36,7 @@ IsOfAdmin (messages.Decision tx verdict) = ⊥
 IsOfAdmin (messages.Inquiry tx) = ⊥
 IsOfAdmin (messages.Ask tx) = Unit {0}
 IsOfAdmin (messages.Close epoch) = Unit {0}
-IsOfAdmin (messages.Install epoch clock log) = Unit {0}
+IsOfAdmin (messages.Install start) = Unit {0}
 
 abbrev pub IsSentByAdmin : Posting → Type 0
 IsSentByAdmin p = IsOfAdmin p.message
@@ -48,9 +48,9 @@ IsDecision records.Life = ⊥
 IsDecision (records.Prepare p) = ⊥
 IsDecision (records.Done tx clock) = ⊥
 IsDecision (records.Close epoch) = ⊥
-IsDecision (records.Install epoch clock lines) = ⊥
+IsDecision (records.Install start) = ⊥
 IsDecision (records.Commit commit) = ⊥
-IsDecision (records.Decide epoch clock lines) = Unit {0}
+IsDecision (records.Decide start) = Unit {0}
 
 abbrev pub WritesDecision : Option Record → Type 0
 WritesDecision None = Unit {0}
@@ -103,7 +103,7 @@ no_answer (messages.Decision tx verdict) is = absurd is
 no_answer (messages.Inquiry tx) is = absurd is
 no_answer (messages.Ask tx) is = refl
 no_answer (messages.Close epoch) is = refl
-no_answer (messages.Install epoch clock log) is = refl
+no_answer (messages.Install start) is = refl
 
 pub no_answers : (ps : List Posting) → Every IsSentByAdmin ps → Every NoAnswer ps
 no_answers [] are = tt
@@ -115,9 +115,9 @@ no_life (Some records.Life) is = absurd is
 no_life (Some (records.Prepare p)) is = absurd is
 no_life (Some (records.Done tx clock)) is = absurd is
 no_life (Some (records.Close epoch)) is = absurd is
-no_life (Some (records.Install epoch clock lines)) is = absurd is
+no_life (Some (records.Install start)) is = absurd is
 no_life (Some (records.Commit commit)) is = absurd is
-no_life (Some (records.Decide epoch clock lines)) is = refl
+no_life (Some (records.Decide start)) is = refl
 
 pub quiet_well : IsAdminTurn quiet
 quiet_well =

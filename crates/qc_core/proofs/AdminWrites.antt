@@ -5,7 +5,8 @@ use Rattle.std.proofs.Common.{Option, Some, None, refl}
 use Rattle.std.specs.List.{AllByRecursion as Every}
 use Rattle.qc_decl.specs.Vocabulary.{most_record_bytes}
 use Rattle.qc_decl.specs.declared.declaration.Declaration.{Declaration}
-use Rattle.qc_epoch.specs.Vocabulary.{Admin, Asking, Closing, Decided, Doing, Installing, Question, Resting, ShutSite}
+use Rattle.qc_epoch.specs.Vocabulary.{Admin, Asking, Closing, Doing, Installing, Question, Resting, ShutSite}
+use Rattle.qc_msg.specs.declared.payload.EpochStart.{EpochStart}
 use Rattle.qc_epoch.specs.Vocabulary.{all_taken, decision, first_doubt, in_asked_order, most_asks}
 use Rattle.qc_epoch.specs.Vocabulary.{moved as admins_moved, outcome_in, questions_of, standing_of, taken_for}
 use Rattle.qc_epoch.specs.Vocabulary.{with_installed, with_shut_of}
@@ -26,7 +27,7 @@ use Rattle.qc_plan.specs.declared.standing.Verdict.{Verdict}
 use Rattle.qc_plan.specs.declared.standing.Verdict.TheVariants as verdicts
 use Rattle.qc_core.proofs.AdminTurns.{IsSentByAdmin, IsAdminTurn, quiet_well, tells_well, fault_well, sends_well}
 
-installs_ask : (d : Decided) (sites : List ℕ) → Every IsSentByAdmin (map (admins.install_of d) sites)
+installs_ask : (d : EpochStart) (sites : List ℕ) → Every IsSentByAdmin (map (admins.install_of d) sites)
 installs_ask d [] = tt
 installs_ask d (site ∷ sites) = (tt, installs_ask d sites)
 
@@ -39,7 +40,7 @@ module _ (decl : Declaration) (m : Admin) where
   asks_ask [] = tt
   asks_ask (q ∷ qs) = (tt, asks_ask qs)
 
-  decides_well : (d : Decided) (closed : List ℕ) → IsAdminTurn (admins.decides decl m d closed).turn
+  decides_well : (d : EpochStart) (closed : List ℕ) → IsAdminTurn (admins.decides decl m d closed).turn
   decides_well d closed = by (nat_le (epoch_length d.lines) most_record_bytes)
     where
       by : (b : Bool)
@@ -92,7 +93,7 @@ module _ (decl : Declaration) (m : Admin) where
       by (verdicts.Clash tx site) = quiet_well
       by (verdicts.Short got need) = tells_well (replies.Quorum halves.Close got need) refl tt
 
-  again_well : (o : Option Decided) → IsAdminTurn (admins.again decl m o).turn
+  again_well : (o : Option EpochStart) → IsAdminTurn (admins.again decl m o).turn
   again_well None = tells_well (replies.Order m.epoch) refl tt
   again_well (Some d) = sends_well (admins.install_sends decl d) (installs_ask d (admins.all_sites decl))
 
@@ -167,7 +168,7 @@ module _ (decl : Declaration) (m : Admin) where
   heard_well (messages.Inquiry tx) = quiet_well
   heard_well (messages.Ask tx) = quiet_well
   heard_well (messages.Close epoch) = quiet_well
-  heard_well (messages.Install epoch clock log) = quiet_well
+  heard_well (messages.Install start) = quiet_well
 
   pub admin_written : (g : Input) → IsAdminTurn (admins.admin_takes decl m g).turn
   admin_written (inputs.Called command) = called_well command

@@ -199,7 +199,7 @@ heard_lands decl running c first from number (messages.Inquiry tx) st =
 heard_lands decl running c first from number (messages.Ask tx) st =
     tells_one decl running c first (heard decl c from number (messages.Ask tx)).turn st refl (λ n. refl)
 heard_lands decl running c first from number (messages.Close epoch) st = stays decl running c first st
-heard_lands decl running c first from number (messages.Install epoch clock log) st = stays decl running c first st
+heard_lands decl running c first from number (messages.Install start) st = stays decl running c first st
 
 -- a command, where none runs
 

@@ -197,7 +197,7 @@ module _ (decl : Declaration) (accepted : IsAccepted decl) where
   heard_reach c from number (messages.Inquiry tx) low h are = record { turn = one_short from _ low; asked = are }
   heard_reach c from number (messages.Ask tx) low h are = record { turn = one_short from _ low; asked = are }
   heard_reach c from number (messages.Close epoch) low h are = quiet_reach decl.sites c are
-  heard_reach c from number (messages.Install epoch clock log) low h are = quiet_reach decl.sites c are
+  heard_reach c from number (messages.Install start) low h are = quiet_reach decl.sites c are
 
   front_command : (c : Client) (command : Command) → AskedFit decl.sites c
       → ClientReach decl.sites (by_front c (fronts.called decl c.front command))

@@ -99,10 +99,10 @@ tells_one decl running c first turn st none same = record {
 -- the front end moves, while no commit waits
 
 -- the front end asks sites to read and append, and never to prepare
-no_prepare : (decl : Declaration) (t : Transaction) (d : Doing) → IsFor decl t d Prepare → ⊥
-no_prepare decl t Idle never = never
-no_prepare decl t (Reading object inv calls round) is = let no : ⊥ = cc in no
-no_prepare decl t (Appending object inv event calls round) is = let no : ⊥ = cc in no
+no_prepare : (decl : Declaration) (t : Transaction) (d : Doing) (site : ℕ) → IsFor decl t d site Prepare → ⊥
+no_prepare decl t Idle site never = never
+no_prepare decl t (Reading object inv calls round) site is = let no : ⊥ = cc in no
+no_prepare decl t (Appending object inv event calls round) site is = let no : ⊥ = cc in no
 
 front_sends : (decl : Declaration) (c : Client) (before next front : Front) (first : ℕ) (ps : List Posting)
     → ((p : Posting) → In p ps → IsSent decl before next p.to p.message)
@@ -116,9 +116,9 @@ front_sends decl c before next front first (p ∷ ps) all =
     wants : (tx : TxId) (epoch life : ℕ) (want : Want) → IsRequestOf decl next p.to tx epoch life want
         → requested (record c { front = front }) first p.to want
         ≡ record c { front = fronts.requested front first p.to }
-    wants tx epoch life (Read object inv) is = refl
+    wants tx epoch life (Read read) is = refl
     wants tx epoch life (Append object view own) is = refl
-    wants tx epoch life Prepare is = absurd (no_prepare decl is.t next.doing is.wants)
+    wants tx epoch life Prepare is = absurd (no_prepare decl is.t next.doing p.to is.wants)
 
     one : (m : Message) → IsSent decl before next p.to m
         → sent_one (record c { front = front }) first p.to m ≡ record c { front = numbered_one front first p.to m }
@@ -128,7 +128,7 @@ front_sends decl c before next front first (p ∷ ps) all =
     one (messages.Inquiry tx) never = absurd never
     one (messages.Ask tx) never = absurd never
     one (messages.Close epoch) never = absurd never
-    one (messages.Install epoch clock log) never = absurd never
+    one (messages.Install start) never = absurd never
 
 pub front_lands : (decl : Declaration) (running : Bool) (c : Client) (first : ℕ) (m : FrontMove) → c.desk.voting ≡ None
     → AreSent decl c.front m → FrontHolds decl m.front → AsksAtOnce decl m

@@ -58,7 +58,7 @@ tells n front turn none asked = record {
   asked = asked;
 }
 
-requests_reach : (n : ℕ) (b : Begun) (want : Want) (sites : List ℕ) → Every (λ site. site < n) sites
+requests_reach : (n : ℕ) (b : Begun) (want : ℕ → Want) (sites : List ℕ) → Every (λ site. site < n) sites
     → Every (λ (p : Posting). p.to < n) (map (request_of b want) sites)
 requests_reach n b want [] low = tt
 requests_reach n b want (site ∷ sites) low = (low.0, requests_reach n b want sites low.1)
@@ -75,7 +75,7 @@ verdicts_few n b v are =
     let few : length b.asked ≤ n = few_sites n b.asked are in
     omega arith
 
-goes_reaches : (n : ℕ) (front : Front) (t : Transaction) (doing : RoundState → Doing) (want : Want) (r : RoundState)
+goes_reaches : (n : ℕ) (front : Front) (t : Transaction) (doing : RoundState → Doing) (want : ℕ → Want) (r : RoundState)
     → AreSites n t.begun.asked → RestFits n r → Reaches n (goes_on front t doing want r)
 goes_reaches n front t doing want r are f = record {
   sends = requests_reach n t.begun want (wanted r) (wanted_below n r f);
@@ -110,9 +110,9 @@ event_asked t object inv event resp =
 read_asked : (t : Transaction) (site object : ℕ) (answer : Option Answer)
     → (read_with t site object answer).begun.asked ≡ t.begun.asked
 read_asked t site object None = refl
-read_asked t site object (Some (answers.Granted life clock log)) =
-    ap (λ (b : Begun). b.asked) (view_asked (lived t site life) object
-    (option_map (λ (v : View). with_log v log) (slice_get t.views object)))
+read_asked t site object (Some (answers.Granted grant)) =
+    ap (λ (b : Begun). b.asked) (view_asked (lived t site grant.life) object
+    (option_map (λ (v : View). with_log v grant.log) (slice_get t.views object)))
 read_asked t site object (Some (answers.Clash holder inv event)) = refl
 read_asked t site object (Some (answers.Closed epoch)) = refl
 read_asked t site object (Some (answers.Behind epoch)) = refl
@@ -120,14 +120,14 @@ read_asked t site object (Some (answers.Restarted life)) = refl
 read_asked t site object (Some answers.Stale) = refl
 read_asked t site object (Some answers.Fault) = refl
 read_asked t site object (Some (answers.Yes clock)) = refl
-read_asked t site object (Some (answers.Shut clock log prepared)) = refl
+read_asked t site object (Some (answers.Shut snapshot)) = refl
 read_asked t site object (Some answers.Installed) = refl
 read_asked t site object (Some (answers.Answered verdict)) = refl
 
 appended_asked : (t : Transaction) (site : ℕ) (answer : Option Answer)
     → (appended_with t site answer).begun.asked ≡ t.begun.asked
 appended_asked t site None = refl
-appended_asked t site (Some (answers.Granted life clock log)) = refl
+appended_asked t site (Some (answers.Granted grant)) = refl
 appended_asked t site (Some (answers.Clash holder inv event)) = refl
 appended_asked t site (Some (answers.Closed epoch)) = refl
 appended_asked t site (Some (answers.Behind epoch)) = refl
@@ -135,7 +135,7 @@ appended_asked t site (Some (answers.Restarted life)) = refl
 appended_asked t site (Some answers.Stale) = refl
 appended_asked t site (Some answers.Fault) = refl
 appended_asked t site (Some (answers.Yes clock)) = refl
-appended_asked t site (Some (answers.Shut clock log prepared)) = refl
+appended_asked t site (Some (answers.Shut snapshot)) = refl
 appended_asked t site (Some answers.Installed) = refl
 appended_asked t site (Some (answers.Answered verdict)) = refl
 

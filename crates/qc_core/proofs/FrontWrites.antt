@@ -103,7 +103,7 @@ pub ends_asks : (b : Begun) (outcome : Outcome) (reply : Reply) → says_neither
 ends_asks b outcome reply neither = record
     { turn = says_well (decisions b outcome) (Some reply) neither; sends = decisions_ask b.tx outcome b.asked }
 
-requests_ask : (b : Begun) (want : Want) (sites : List ℕ) → Every NoAnswer (map (request_of b want) sites)
+requests_ask : (b : Begun) (want : ℕ → Want) (sites : List ℕ) → Every NoAnswer (map (request_of b want) sites)
 requests_ask b want [] = tt
 requests_ask b want (site ∷ sites) = (refl, requests_ask b want sites)
 
@@ -111,7 +111,7 @@ pub prepares_ask : (b : Begun) (sites : List ℕ) → Every NoAnswer (map (asks_
 prepares_ask b [] = tt
 prepares_ask b (site ∷ sites) = (refl, prepares_ask b sites)
 
-wants_asks : (b : Begun) (want : Want) (sites : List ℕ) → IsAsking (sending (map (request_of b want) sites))
+wants_asks : (b : Begun) (want : ℕ → Want) (sites : List ℕ) → IsAsking (sending (map (request_of b want) sites))
 wants_asks b want sites = record {
   turn = says_well (map (request_of b want) sites) None refl;
   sends = requests_ask b want sites;

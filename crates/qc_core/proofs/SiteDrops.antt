@@ -80,14 +80,14 @@ more_other held tx t locks own other =
 
 hold_same : (held : List Held) (tx t : TxId) (want : Want) → same_tx t tx ≡ true
     → without_held (holding held t want) tx ≡ without_held held tx
-hold_same held tx t (Read object inv) same = more_same held tx t (record { object = object; inv = inv } ∷ []) [] same
+hold_same held tx t (Read read) same = more_same held tx t (record { object = read.object; inv = read.inv } ∷ []) [] same
 hold_same held tx t (Append object view own) same = more_same held tx t [] own same
 hold_same held tx t Prepare same = refl
 
 hold_other : (held : List Held) (tx t : TxId) (want : Want) → same_tx t tx ≡ false
     → holding (without_held held tx) t want ≡ without_held (holding held t want) tx
-hold_other held tx t (Read object inv) other =
-    more_other held tx t (record { object = object; inv = inv } ∷ []) [] other
+hold_other held tx t (Read read) other =
+    more_other held tx t (record { object = read.object; inv = read.inv } ∷ []) [] other
 hold_other held tx t (Append object view own) other = more_other held tx t [] own other
 hold_other held tx t Prepare other = refl
 

@@ -28,6 +28,7 @@ use Rattle.qc_msg.specs.declared.step.Input.{Input}
 use Rattle.qc_msg.specs.declared.step.Input.TheVariants as inputs
 use Rattle.qc_msg.specs.declared.turn.Posting.{Posting}
 use Rattle.qc_msg.specs.Vocabulary.{Deed, Requested, Takes, epoch_length, quiet}
+use Rattle.qc_msg.specs.Vocabulary.{start_with}
 use Rattle.qc_promise.specs.Vocabulary.{TurnDue, answers_due, clash_told, closed_refusal, epoch_refusal, fits_record}
 use Rattle.qc_promise.specs.Vocabulary.{granting_turn, inquiries_due, is_declared, is_epoch, is_promised}
 use Rattle.qc_promise.specs.Vocabulary.{prepared_shown, promise_due, promise_in, promise_turn, quiet_turn}
@@ -48,7 +49,7 @@ module _ (decl : Declaration) (site : ℕ) (ds : List Deed) (from number : ℕ) 
   now = shown site ds
 
   same_names : (want : Want) → names_declared decl tx want ≡ is_declared decl tx want
-  same_names (Read object inv) = refl
+  same_names (Read read) = refl
   same_names (Append object view own) = refl
   same_names Prepare = refl
 
@@ -98,10 +99,10 @@ module _ (decl : Declaration) (site : ℕ) (ds : List Deed) (from number : ℕ) 
 
   grant_does : (want : Want) → Does (grants decl now from number tx want).turn
       (due_for want (want_refusal decl ds tx want))
-  grant_does (Read object inv) = by (read_clash (relation_at decl object) now.held tx object inv)
+  grant_does (Read read) = by (read_clash (relation_at decl read.object) now.held tx read.object read.inv)
     where
-      by : (o : Option Conflict) → Does (reads_by decl now from number tx object inv o).turn
-          (due_for (Read object inv) (option_map clash_told o))
+      by : (o : Option Conflict) → Does (reads_by decl now from number tx read.object read.inv o).turn
+          (due_for (Read read) (option_map clash_told o))
       by None = record { same = refl; untold = refl; failed_untold = refl }
       by (Some c) = record { same = refl; untold = refl; failed_untold = refl }
   grant_does (Append object view own) = by (append_clash (relation_at decl object) now.held tx own)
@@ -237,27 +238,27 @@ module _ (decl : Declaration) (site : ℕ) (ds : List Deed) where
         by false false true is = rw (sym is) (record { same = refl; untold = refl; failed_untold = refl })
         by false false false is = rw (sym is) (record { same = refl; untold = refl; failed_untold = refl })
 
-    install_does : (k clock : ℕ) (lines : List Line) → Answered (messages.Install k clock lines)
+    install_does : (k clock : ℕ) (lines : List Line) → Answered (messages.Install (start_with k clock lines))
     install_does k clock lines =
         subst (λ (s : SiteState). Does (installs s from number k clock lines).turn
-        (turn_due decl (after (messages.Install k clock lines))
-        (letter number from to (messages.Install k clock lines))))
-        (sym (still site ds 0 number from to (messages.Install k clock lines) [] None (λ t. refl, λ t. refl) refl refl))
+        (turn_due decl (after (messages.Install (start_with k clock lines)))
+        (letter number from to (messages.Install (start_with k clock lines)))))
+        (sym (still site ds 0 number from to (messages.Install (start_with k clock lines)) [] None (λ t. refl, λ t. refl) refl refl))
         (by (nat_le k s.epoch) (nat_le (epoch_length lines) most_record_bytes))
       where
         s : SiteState
-        s = shown site (after (messages.Install k clock lines))
+        s = shown site (after (messages.Install (start_with k clock lines)))
 
         e : Envelope
-        e = record { number = number; from = from; to = to; message = messages.Install k clock lines }
+        e = record { number = number; from = from; to = to; message = messages.Install (start_with k clock lines) }
 
         by : (past short : Bool)
             → Does (cond past (moved s (answered from number answers.Installed))
             (cond short (moved (installed s k clock lines)
-            (recording from number (records.Install k clock lines) answers.Installed))
+            (recording from number (records.Install (start_with k clock lines)) answers.Installed))
             (moved s (answered from number (answers.Behind s.epoch))))).turn
             (cond past (telling_turn e answers.Installed)
-            (cond short (recording_turn e (records.Install k clock lines) answers.Installed)
+            (cond short (recording_turn e (records.Install (start_with k clock lines)) answers.Installed)
             (telling_turn e (answers.Behind s.epoch))))
         by true short = record { same = refl; untold = refl; failed_untold = refl }
         by false true = record { same = refl; untold = refl; failed_untold = refl }
@@ -272,7 +273,7 @@ module _ (decl : Declaration) (site : ℕ) (ds : List Deed) where
     heard_does (messages.Inquiry tx) = record { same = refl; untold = refl; failed_untold = refl }
     heard_does (messages.Ask tx) = record { same = refl; untold = refl; failed_untold = refl }
     heard_does (messages.Close k) = close_does k
-    heard_does (messages.Install k clock lines) = install_does k clock lines
+    heard_does (messages.Install start) = install_does start.epoch start.clock start.lines
 
   -- each input
   pub turns_are_due : (g : Input) → Does (site_takes decl (shown site ds) g).turn (turn_due decl (ds ++ Takes g ∷ []) g)

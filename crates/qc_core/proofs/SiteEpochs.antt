@@ -13,6 +13,7 @@ use Rattle.qc_msg.specs.declared.record.Record.TheVariants as records
 use Rattle.qc_msg.specs.declared.step.Input.{Input}
 use Rattle.qc_msg.specs.declared.turn.Turn.{Turn}
 use Rattle.qc_msg.specs.Vocabulary.{Deed, epoch_length}
+use Rattle.qc_msg.specs.Vocabulary.{start_with}
 use Rattle.qc_promise.specs.Vocabulary.{Lines, learning, lines_shown, prepared_shown, recorded_by, records_in}
 use Rattle.qc_promise.specs.Vocabulary.{with_promise}
 use Rattle.qc_site.specs.Vocabulary.{SiteState, answering, answers as answered, closed, closes, installed, installs}
@@ -83,28 +84,28 @@ module _ (site : ℕ) (ds : List Deed) (n number from to : ℕ) where
 
   module _ (k clock : ℕ) (lines : List Line) where
     abbrev installing : Input
-    installing = letter number from to (messages.Install k clock lines)
+    installing = letter number from to (messages.Install (start_with k clock lines))
 
     abbrev at_install : SiteState
-    at_install = passed site ds (messages.Install k clock lines)
+    at_install = passed site ds (messages.Install (start_with k clock lines))
 
     answers_install : (x : Answer) → IsStep site ds installing n (moved at_install (answered from number x))
-    answers_install x = still site ds n number from to (messages.Install k clock lines)
+    answers_install x = still site ds n number from to (messages.Install (start_with k clock lines))
         (answering from number x ∷ []) None (λ t. refl, λ t. refl) refl refl
 
     writes_install : IsStep site ds installing n
         (moved (installed at_install k clock lines)
-        (recording from number (records.Install k clock lines) answers.Installed))
+        (recording from number (records.Install (start_with k clock lines)) answers.Installed))
     writes_install =
         sym (shown-more site ds installing n turn
         ∙ same_state (grown site ds installing n turn) (installed at_install k clock lines)
         refl refl refl refl refl refl refl
         (ap (λ (v : List Prepared). fold with_promise [] v) none_last)
         none_last
-        (ap (λ (c : ℕ). max c clock) (clock_passes (shown site ds).clock (messages.Install k clock lines))))
+        (ap (λ (c : ℕ). max c clock) (clock_passes (shown site ds).clock (messages.Install (start_with k clock lines)))))
       where
         turn : Turn
-        turn = recording from number (records.Install k clock lines) answers.Installed
+        turn = recording from number (records.Install (start_with k clock lines)) answers.Installed
 
         freed : (p : Prepared) → lasts (posted ds installing n turn) p ≡ false
         freed p = ap (λ (b : Bool). not b) (post_frees n turn p.tx)
@@ -119,7 +120,7 @@ module _ (site : ℕ) (ds : List Deed) (n number from to : ℕ) where
         by : (past short : Bool) → IsStep site ds installing n
             (cond past (moved at_install (answered from number answers.Installed))
             (cond short (moved (installed at_install k clock lines)
-            (recording from number (records.Install k clock lines) answers.Installed))
+            (recording from number (records.Install (start_with k clock lines)) answers.Installed))
             (moved at_install (answered from number (answers.Behind at_install.epoch)))))
         by true short = answers_install answers.Installed
         by false true = writes_install

@@ -12,7 +12,8 @@ use Rattle.qc_entry.specs.declared.record.Prepared.{Prepared}
 use Rattle.qc_msg.specs.declared.message.Envelope.{Envelope}
 use Rattle.qc_msg.specs.declared.record.Record.{Record}
 use Rattle.qc_msg.specs.declared.turn.Posting.{Posting}
-use Rattle.qc_msg.specs.Vocabulary.{Deed, Installing, Requested, got_in, install_in, prepare_in, request_in, written_in}
+use Rattle.qc_msg.specs.Vocabulary.{Deed, Requested, got_in, install_in, prepare_in, request_in, written_in}
+use Rattle.qc_msg.specs.declared.payload.EpochStart.{EpochStart}
 use Rattle.qc_promise.specs.Vocabulary.{Act, Grant, Lines, begun_with_lines, frees, grants, is_decision, is_ended}
 use Rattle.qc_promise.specs.Vocabulary.{is_final, is_granted, is_over, joining, learning, left_of, lines_done}
 use Rattle.qc_promise.specs.Vocabulary.{lines_from, posted_next, promises_since, recorded_from, sent_by, standing}
@@ -87,7 +88,7 @@ module _ (ys : List Deed) (apart : posted_next ys ≡ []) where
       → lines_from l before (xs ++ ys) ≡ lines_from (lines_from l before xs) (fold with_written before xs) ys
   lines-more l before [] = refl
   lines-more l before (d ∷ xs) =
-      ap (λ (v : List Line). lines_from (option_map_or (λ (i : Installing). begun_with_lines i.lines)
+      ap (λ (v : List Line). lines_from (option_map_or (λ (i : EpochStart). begun_with_lines i.lines)
       (option_and_then install_in (written_in d)) (learning l v)) (with_written before d) (xs ++ ys))
       (joining-more before d xs)
       ∙ lines-more (with_joined l before d xs) (with_written before d) xs

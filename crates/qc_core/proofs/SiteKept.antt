@@ -29,9 +29,9 @@ life_kept k (journals.Life ∷ rs) = life_kept (keeps k journals.Life) rs
 life_kept k (journals.Prepare p ∷ rs) = life_kept (keeps k (journals.Prepare p)) rs
 life_kept k (journals.Done tx clock ∷ rs) = life_kept (keeps k (journals.Done tx clock)) rs
 life_kept k (journals.Close epoch ∷ rs) = life_kept (keeps k (journals.Close epoch)) rs
-life_kept k (journals.Install epoch clock lines ∷ rs) = life_kept (keeps k (journals.Install epoch clock lines)) rs
+life_kept k (journals.Install start ∷ rs) = life_kept (keeps k (journals.Install start)) rs
 life_kept k (journals.Commit c ∷ rs) = life_kept (keeps k (journals.Commit c)) rs
-life_kept k (journals.Decide epoch clock lines ∷ rs) = life_kept (keeps k (journals.Decide epoch clock lines)) rs
+life_kept k (journals.Decide start ∷ rs) = life_kept (keeps k (journals.Decide start)) rs
 
 pub life_by_records : (rs : List Record) → fold life_by first_life rs ≡ (kept_by rs).life
 life_by_records rs = life_kept nothing_kept rs
@@ -42,9 +42,9 @@ epoch_kept k (journals.Life ∷ rs) = epoch_kept (keeps k journals.Life) rs
 epoch_kept k (journals.Prepare p ∷ rs) = epoch_kept (keeps k (journals.Prepare p)) rs
 epoch_kept k (journals.Done tx clock ∷ rs) = epoch_kept (keeps k (journals.Done tx clock)) rs
 epoch_kept k (journals.Close epoch ∷ rs) = epoch_kept (keeps k (journals.Close epoch)) rs
-epoch_kept k (journals.Install epoch clock lines ∷ rs) = epoch_kept (keeps k (journals.Install epoch clock lines)) rs
+epoch_kept k (journals.Install start ∷ rs) = epoch_kept (keeps k (journals.Install start)) rs
 epoch_kept k (journals.Commit c ∷ rs) = epoch_kept (keeps k (journals.Commit c)) rs
-epoch_kept k (journals.Decide epoch clock lines ∷ rs) = epoch_kept (keeps k (journals.Decide epoch clock lines)) rs
+epoch_kept k (journals.Decide start ∷ rs) = epoch_kept (keeps k (journals.Decide start)) rs
 
 pub epoch_by_records : (rs : List Record) → fold epoch_by first_epoch rs ≡ (kept_by rs).epoch
 epoch_by_records rs = epoch_kept nothing_kept rs
@@ -55,9 +55,9 @@ closed_kept k (journals.Life ∷ rs) = closed_kept (keeps k journals.Life) rs
 closed_kept k (journals.Prepare p ∷ rs) = closed_kept (keeps k (journals.Prepare p)) rs
 closed_kept k (journals.Done tx clock ∷ rs) = closed_kept (keeps k (journals.Done tx clock)) rs
 closed_kept k (journals.Close epoch ∷ rs) = closed_kept (keeps k (journals.Close epoch)) rs
-closed_kept k (journals.Install epoch clock lines ∷ rs) = closed_kept (keeps k (journals.Install epoch clock lines)) rs
+closed_kept k (journals.Install start ∷ rs) = closed_kept (keeps k (journals.Install start)) rs
 closed_kept k (journals.Commit c ∷ rs) = closed_kept (keeps k (journals.Commit c)) rs
-closed_kept k (journals.Decide epoch clock lines ∷ rs) = closed_kept (keeps k (journals.Decide epoch clock lines)) rs
+closed_kept k (journals.Decide start ∷ rs) = closed_kept (keeps k (journals.Decide start)) rs
 
 pub closed_by_records : (rs : List Record) → fold closed_by None rs ≡ (kept_by rs).closed_for
 closed_by_records rs = closed_kept nothing_kept rs
@@ -74,14 +74,14 @@ clock_kept k (journals.Prepare p ∷ rs) =
     ∙ clock_kept (keeps k (journals.Prepare p)) rs
 clock_kept k (journals.Done tx clock ∷ rs) = clock_kept (keeps k (journals.Done tx clock)) rs
 clock_kept k (journals.Close epoch ∷ rs) = clock_kept (keeps k (journals.Close epoch)) rs
-clock_kept k (journals.Install epoch clock lines ∷ rs) =
-    fold-append max k.clock (clocks_of lines ++ clock ∷ []) (flat_map clocks_in_record rs)
+clock_kept k (journals.Install start ∷ rs) =
+    fold-append max k.clock (clocks_of start.lines ++ start.clock ∷ []) (flat_map clocks_in_record rs)
     ∙ ap (λ (c : ℕ). fold max c (flat_map clocks_in_record rs))
-    (fold-append max k.clock (clocks_of lines) (clock ∷ [])
-    ∙ ap (λ (c : ℕ). max c clock) (fold-map max (λ (l : Line). l.stamp.clock) k.clock lines))
-    ∙ clock_kept (keeps k (journals.Install epoch clock lines)) rs
+    (fold-append max k.clock (clocks_of start.lines) (start.clock ∷ [])
+    ∙ ap (λ (c : ℕ). max c start.clock) (fold-map max (λ (l : Line). l.stamp.clock) k.clock start.lines))
+    ∙ clock_kept (keeps k (journals.Install start)) rs
 clock_kept k (journals.Commit c ∷ rs) = clock_kept (keeps k (journals.Commit c)) rs
-clock_kept k (journals.Decide epoch clock lines ∷ rs) = clock_kept (keeps k (journals.Decide epoch clock lines)) rs
+clock_kept k (journals.Decide start ∷ rs) = clock_kept (keeps k (journals.Decide start)) rs
 
 pub clock_by_records : (rs : List Record) → fold max 0 (flat_map clocks_in_record rs) ≡ (kept_by rs).clock
 clock_by_records rs = clock_kept nothing_kept rs
@@ -121,11 +121,11 @@ agrees_after k before (journals.Prepare p) agree tx =
     last_after tx before (journals.Prepare p) ∙ promised_last k.prepares p tx (last_prepare tx before) (agree tx)
 agrees_after k before (journals.Done t clock) agree tx = last_after tx before (journals.Done t clock) ∙ agree tx
 agrees_after k before (journals.Close epoch) agree tx = last_after tx before (journals.Close epoch) ∙ agree tx
-agrees_after k before (journals.Install epoch clock lines) agree tx =
-    last_after tx before (journals.Install epoch clock lines)
+agrees_after k before (journals.Install start) agree tx =
+    last_after tx before (journals.Install start)
 agrees_after k before (journals.Commit c) agree tx = last_after tx before (journals.Commit c) ∙ agree tx
-agrees_after k before (journals.Decide epoch clock lines) agree tx =
-    last_after tx before (journals.Decide epoch clock lines) ∙ agree tx
+agrees_after k before (journals.Decide start) agree tx =
+    last_after tx before (journals.Decide start) ∙ agree tx
 
 -- the lines
 
@@ -151,18 +151,18 @@ lines_kept k before (journals.Close epoch ∷ rs) agree =
     ap (λ (l : Lines). recorded_from l (before ++ journals.Close epoch ∷ []) rs) (learning-nil (lines_in k))
     ∙ lines_kept (keeps k (journals.Close epoch)) (before ++ journals.Close epoch ∷ []) rs
     (agrees_after k before (journals.Close epoch) agree)
-lines_kept k before (journals.Install epoch clock lines ∷ rs) agree =
-    lines_kept (keeps k (journals.Install epoch clock lines)) (before ++ journals.Install epoch clock lines ∷ []) rs
-    (agrees_after k before (journals.Install epoch clock lines) agree)
+lines_kept k before (journals.Install start ∷ rs) agree =
+    lines_kept (keeps k (journals.Install start)) (before ++ journals.Install start ∷ []) rs
+    (agrees_after k before (journals.Install start) agree)
 lines_kept k before (journals.Commit c ∷ rs) agree =
     ap (λ (l : Lines). recorded_from l (before ++ journals.Commit c ∷ []) rs) (learning-nil (lines_in k))
     ∙ lines_kept (keeps k (journals.Commit c)) (before ++ journals.Commit c ∷ []) rs
     (agrees_after k before (journals.Commit c) agree)
-lines_kept k before (journals.Decide epoch clock lines ∷ rs) agree =
-    ap (λ (l : Lines). recorded_from l (before ++ journals.Decide epoch clock lines ∷ []) rs)
+lines_kept k before (journals.Decide start ∷ rs) agree =
+    ap (λ (l : Lines). recorded_from l (before ++ journals.Decide start ∷ []) rs)
     (learning-nil (lines_in k))
-    ∙ lines_kept (keeps k (journals.Decide epoch clock lines)) (before ++ journals.Decide epoch clock lines ∷ []) rs
-    (agrees_after k before (journals.Decide epoch clock lines) agree)
+    ∙ lines_kept (keeps k (journals.Decide start)) (before ++ journals.Decide start ∷ []) rs
+    (agrees_after k before (journals.Decide start) agree)
 
 pub lines_by_records : (rs : List Record)
     → recorded_by rs ≡ record { began = (kept_by rs).began; since = (kept_by rs).lines }
@@ -176,11 +176,11 @@ same_promises k (journals.Life ∷ rs) = same_promises (keeps k journals.Life) r
 same_promises k (journals.Prepare p ∷ rs) = same_promises (keeps k (journals.Prepare p)) rs
 same_promises k (journals.Done tx clock ∷ rs) = same_promises (keeps k (journals.Done tx clock)) rs
 same_promises k (journals.Close epoch ∷ rs) = same_promises (keeps k (journals.Close epoch)) rs
-same_promises k (journals.Install epoch clock lines ∷ rs) =
-    same_promises (keeps k (journals.Install epoch clock lines)) rs
+same_promises k (journals.Install start ∷ rs) =
+    same_promises (keeps k (journals.Install start)) rs
 same_promises k (journals.Commit c ∷ rs) = same_promises (keeps k (journals.Commit c)) rs
-same_promises k (journals.Decide epoch clock lines ∷ rs) =
-    same_promises (keeps k (journals.Decide epoch clock lines)) rs
+same_promises k (journals.Decide start ∷ rs) =
+    same_promises (keeps k (journals.Decide start)) rs
 
 pub promises_by_records : (rs : List Record) → promises_of rs ≡ (kept_by rs).promises
 promises_by_records rs = promises_by_record rs ∙ same_promises nothing_kept rs

@@ -10,7 +10,8 @@ use Rattle.qc_entry.specs.Vocabulary.{union}
 use Rattle.qc_msg.specs.declared.record.Record.{Record}
 use Rattle.qc_msg.specs.declared.step.Input.{Input}
 use Rattle.qc_msg.specs.declared.turn.Turn.{Turn}
-use Rattle.qc_msg.specs.Vocabulary.{Deed, Installing, heard_in, install_in, prepare_in, turn_deeds, written_in}
+use Rattle.qc_msg.specs.Vocabulary.{Deed, heard_in, install_in, prepare_in, turn_deeds, written_in}
+use Rattle.qc_msg.specs.declared.payload.EpochStart.{EpochStart}
 use Rattle.qc_promise.specs.Vocabulary.{Lifetime, Lines, begun_with_lines, joining, learning, lifetime, lines_done}
 use Rattle.qc_promise.specs.Vocabulary.{lines_from, lines_shown, no_lines, recorded_by, recorded_from, records_in}
 use Rattle.qc_promise.specs.Vocabulary.{view_by, with_given, with_written}
@@ -55,13 +56,13 @@ module _ (ds : List Deed) (g : Input) (n : ℕ) (turn : Turn) where
 -- what the log began with
 
 given_began : (l m : Lines) (w : Record) (before : List Record) (lines : List Line) → l.began ≡ m.began
-    → (option_map_or (λ (i : Installing). begun_with_lines i.lines) (install_in w) (learning l lines)).began ≡
+    → (option_map_or (λ (i : EpochStart). begun_with_lines i.lines) (install_in w) (learning l lines)).began ≡
     (with_given m before w).began
 given_began l m w before lines same = by (install_in w) (prepare_in w)
   where
-    by : (o : Option Installing) (p : Option Prepared)
-        → (option_map_or (λ (i : Installing). begun_with_lines i.lines) o (learning l lines)).began
-        ≡ (option_map_or (λ (i : Installing). begun_with_lines i.lines) o
+    by : (o : Option EpochStart) (p : Option Prepared)
+        → (option_map_or (λ (i : EpochStart). begun_with_lines i.lines) o (learning l lines)).began
+        ≡ (option_map_or (λ (i : EpochStart). begun_with_lines i.lines) o
         (option_map_or (λ (q : Prepared). record m { since = union m.since q.lines }) p
         (learning m (lines_done before w)))).began
     by (Some i) p = refl
@@ -76,11 +77,11 @@ began_from l m before rs (d ∷ xs) same =
   where
     by : (o : Option Record) → ((u v : Lines) (us vs : List Record) → u.began ≡ v.began
         → (lines_from u us xs).began ≡ (recorded_from v vs (filter_map written_in xs)).began)
-        → (lines_from (option_map_or (λ (i : Installing). begun_with_lines i.lines) (option_and_then install_in o)
+        → (lines_from (option_map_or (λ (i : EpochStart). begun_with_lines i.lines) (option_and_then install_in o)
         (learning l (joining before d xs))) (with_written before d) xs).began
         ≡ (recorded_from m rs (cons_option o (filter_map written_in xs))).began
     by None rest = rest (learning l (joining before d xs)) m (with_written before d) rs same
-    by (Some w) rest = rest (option_map_or (λ (i : Installing). begun_with_lines i.lines) (install_in w)
+    by (Some w) rest = rest (option_map_or (λ (i : EpochStart). begun_with_lines i.lines) (install_in w)
         (learning l (joining before d xs))) (with_given m rs w) (with_written before d) (rs ++ w ∷ [])
         (given_began l m w rs (joining before d xs) same)
 

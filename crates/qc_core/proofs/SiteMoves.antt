@@ -60,12 +60,12 @@ module _ (decl : Declaration) (site : ℕ) (ds : List Deed) (n : ℕ) where
     given_want want = letter number from to (messages.Request tx epoch life want)
 
     grant : (want : Want) → IsStep site ds (given_want want) n (grants decl (state want) from number tx want)
-    grant (Read object inv) = by (read_clash (relation_at decl object) (shown site ds).held tx object inv)
+    grant (Read read_here) = by (read_clash (relation_at decl read_here.object) (shown site ds).held tx read_here.object read_here.inv)
       where
-        by : (o : Option Conflict) → IsStep site ds (given_want (Read object inv)) n
-            (reads_by decl (state (Read object inv)) from number tx object inv o)
-        by None = read site ds n number from to tx epoch life object inv
-        by (Some c) = clashes site ds n number from to tx epoch life decl (Read object inv) c
+        by : (o : Option Conflict) → IsStep site ds (given_want (Read read_here)) n
+            (reads_by decl (state (Read read_here)) from number tx read_here.object read_here.inv o)
+        by None = read site ds n number from to tx epoch life read_here.object read_here.inv
+        by (Some c) = clashes site ds n number from to tx epoch life decl (Read read_here) c
     grant (Append object view own) = by (append_clash (relation_at decl object) (shown site ds).held tx own)
       where
         by : (o : Option Conflict) → IsStep site ds (given_want (Append object view own)) n
@@ -126,7 +126,7 @@ module _ (decl : Declaration) (site : ℕ) (ds : List Deed) (n : ℕ) where
     hear (messages.Ask tx) ok = still site ds n number from to (messages.Ask tx) [] None
         (λ t. refl, λ t. refl) refl refl
     hear (messages.Close epoch) ok = close site ds n number from to epoch
-    hear (messages.Install epoch clock lines) ok = install site ds n number from to epoch clock lines
+    hear (messages.Install start) ok = install site ds n number from to start.epoch start.clock start.lines
 
   -- each input
   pub steps : (g : Input) → IsInput g → IsStep site ds g n (site_takes decl (shown site ds) g)

@@ -13,7 +13,8 @@ use Rattle.qc_msg.specs.declared.record.Record.{Record}
 use Rattle.qc_msg.specs.declared.reply.Reply.{Reply}
 use Rattle.qc_msg.specs.declared.turn.Posting.{Posting}
 use Rattle.qc_msg.specs.declared.turn.Turn.{Turn}
-use Rattle.qc_msg.specs.Vocabulary.{Deed, Installing, install_in, prepare_in, sends_of, tells_of, turn_deeds, writes_of}
+use Rattle.qc_msg.specs.Vocabulary.{Deed, install_in, prepare_in, sends_of, tells_of, turn_deeds, writes_of}
+use Rattle.qc_msg.specs.declared.payload.EpochStart.{EpochStart}
 use Rattle.qc_msg.specs.Vocabulary.{written_in}
 use Rattle.qc_promise.specs.Vocabulary.{Act, Lines, Sent, Told, Wrote, begun_with_lines, clocks_at, clocks_written}
 use Rattle.qc_promise.specs.Vocabulary.{is_ended, is_over, learning, lines_done, lines_from, posted_next}
@@ -67,7 +68,7 @@ pub learning-nil : (l : Lines) → learning l [] ≡ l
 learning-nil l = ap (λ (v : List Line). record l { since = v }) (union-nil l.since)
 
 abbrev pub lines_written : Lines → List Record → Record → Lines
-lines_written l before w = option_map_or (λ (i : Installing). begun_with_lines i.lines) (install_in w)
+lines_written l before w = option_map_or (λ (i : EpochStart). begun_with_lines i.lines) (install_in w)
     (learning l (lines_done before w))
 
 talk_lines : (l : Lines) (before : List Record) (n : ℕ) (ps : List Posting) (told : Option Reply)

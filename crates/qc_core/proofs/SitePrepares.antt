@@ -41,9 +41,9 @@ none_later_record tx before records.Life e = refl
 none_later_record tx before (records.Prepare p) e = ap (λ (b : Bool). option_or (cond b (Some p) None) before) e
 none_later_record tx before (records.Done t clock) e = refl
 none_later_record tx before (records.Close epoch) e = refl
-none_later_record tx before (records.Install epoch clock lines) e = (let never : ⊥ = cc in absurd never)
+none_later_record tx before (records.Install start) e = (let never : ⊥ = cc in absurd never)
 none_later_record tx before (records.Commit commit) e = refl
-none_later_record tx before (records.Decide epoch clock lines) e = refl
+none_later_record tx before (records.Decide start) e = refl
 
 none_later : (tx : TxId) (before : Option Prepared) (ds : List Deed) → is_over tx ds ≡ false
     → fold (prepare_by tx) before (filter_map written_in ds) ≡ before
@@ -84,9 +84,9 @@ promise_is_last tx p before (d ∷ ds) e = by (written_in d) e (λ (v : Option P
     by_record (records.Prepare q) e last = of_prepare q (is_over q.tx ds) refl (same_tx q.tx tx) refl e last
     by_record (records.Done t clock) e last = last before e
     by_record (records.Close epoch) e last = last before e
-    by_record (records.Install epoch clock lines) e last = last None e
+    by_record (records.Install start) e last = last None e
     by_record (records.Commit commit) e last = last before e
-    by_record (records.Decide epoch clock lines) e last = last before e
+    by_record (records.Decide start) e last = last before e
 
     by : (o : Option Record) → promise_in (option_map_or (unless_over ds) (option_and_then prepare_in o) []
         ++ promises_since ds) tx ≡ Some p → IsLast tx p ds

@@ -25,6 +25,7 @@ use Rattle.qc_msg.specs.declared.step.Input.TheVariants as inputs
 use Rattle.qc_msg.specs.declared.record.Record.{Record}
 use Rattle.qc_msg.specs.declared.record.Record.TheVariants as records
 use Rattle.qc_msg.specs.Vocabulary.{epoch_length, quiet}
+use Rattle.qc_msg.specs.Vocabulary.{grant_with, read_of, start_with}
 use Rattle.qc_site.specs.Vocabulary.{AreByClients, AreOfClients, SiteMove, SiteState, answers as answered, appends_by}
 use Rattle.qc_site.specs.Vocabulary.{clashing, closed, closes, dropped, fault_of, finishes, grants, installed, installs}
 use Rattle.qc_site.specs.Vocabulary.{is_closed_for, is_prepared, joins, known as known_lines, moved, names_declared}
@@ -64,14 +65,14 @@ module _ (decl : Declaration) (accepted : IsAccepted decl) (from number : ℕ) (
       record { turn = record { receivers = (low, (omega arith, tt)); few = omega arith }; clients = clients }
 
   reads_reach : (s : SiteState) (tx : TxId) (object inv : ℕ) → tx.client < most_clients → IsOfClients s
-      → SiteReach (grants decl s from number tx (Read object inv))
+      → SiteReach (grants decl s from number tx (Read (read_of object inv)))
   reads_reach s tx object inv known clients = by (read_clash (relation_at decl object) s.held tx object inv) refl
     where
       by : (o : Option Conflict) → read_clash (relation_at decl object) s.held tx object inv ≡ o
           → SiteReach (reads_by decl s from number tx object inv o)
       by None is = record {
         turn = one_short from (messages.Answer number
-            (answers.Granted s.life s.clock (of_object (known_lines s) object))) low;
+            (answers.Granted (grant_with s.life s.clock (of_object (known_lines s) object)))) low;
         clients = record {
           held = clients-held s.held tx
               (record { object = object; inv = inv } ∷ []) [] clients.held known;
@@ -88,7 +89,7 @@ module _ (decl : Declaration) (accepted : IsAccepted decl) (from number : ℕ) (
       by : (o : Option Conflict) → append_clash (relation_at decl object) s.held tx own ≡ o
           → SiteReach (appends_by decl s from number tx view own o)
       by None is = record {
-        turn = one_short from (messages.Answer number (answers.Granted s.life s.clock [])) low;
+        turn = one_short from (messages.Answer number (answers.Granted (grant_with s.life s.clock []))) low;
         clients = record { held = clients-held s.held tx [] own clients.held known; prepared = clients.prepared };
       }
       by (Some c) is = clash_reach s c clients (append_client (relation_at decl object) s.held tx own c clients.held is)
@@ -116,7 +117,7 @@ module _ (decl : Declaration) (accepted : IsAccepted decl) (from number : ℕ) (
 
   grants_reach : (s : SiteState) (tx : TxId) (want : Want) → tx.client < most_clients → IsOfClients s
       → SiteReach (grants decl s from number tx want)
-  grants_reach s tx (Read object inv) known clients = reads_reach s tx object inv known clients
+  grants_reach s tx (Read read) known clients = reads_reach s tx read.object read.inv known clients
   grants_reach s tx (Append object view own) known clients = appends_reach s tx object view own known clients
   grants_reach s tx Prepare known clients = prepares_reach s tx known clients
 
@@ -191,7 +192,7 @@ module _ (decl : Declaration) (accepted : IsAccepted decl) (from number : ℕ) (
     where
       by : (past short : Bool) → SiteReach (cond past (moved s (answered from number answers.Installed))
           (cond short (moved (installed s k clock lines)
-          (recording from number (records.Install k clock lines) answers.Installed))
+          (recording from number (records.Install (start_with k clock lines)) answers.Installed))
           (moved s (answered from number (answers.Behind s.epoch)))))
       by true short = answers_reach s answers.Installed clients
       by false true = record { turn = recording_short; clients = record { held = tt; prepared = tt } }
@@ -207,7 +208,7 @@ module _ (decl : Declaration) (accepted : IsAccepted decl) (from number : ℕ) (
   hears_reach s (messages.Inquiry tx) clients = quiet_reach s clients
   hears_reach s (messages.Ask tx) clients = quiet_reach s clients
   hears_reach s (messages.Close epoch) clients = closes_reach s epoch clients
-  hears_reach s (messages.Install epoch clock lines) clients = installs_reach s epoch clock lines clients
+  hears_reach s (messages.Install start) clients = installs_reach s start.epoch start.clock start.lines clients
 
 pub site_reach : (decl : Declaration) → IsAccepted decl → (s : SiteState) (g : Input) → IsFrom g → IsOfClients s
     → SiteReach (site_takes decl s g)

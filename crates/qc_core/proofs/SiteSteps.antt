@@ -18,6 +18,7 @@ use Rattle.qc_msg.specs.declared.step.Input.{Input}
 use Rattle.qc_msg.specs.declared.step.Input.TheVariants as inputs
 use Rattle.qc_msg.specs.declared.turn.Posting.{Posting}
 use Rattle.qc_msg.specs.Vocabulary.{Deed, Takes, granted_in, quiet, says, turn_deeds}
+use Rattle.qc_msg.specs.Vocabulary.{grant_with, read_of}
 use Rattle.qc_promise.specs.Vocabulary.{Lines, lines_shown, view_in}
 use Rattle.qc_site.specs.Vocabulary.{SiteMove, SiteState, answering, answers as answered, appends, clashing}
 use Rattle.qc_site.specs.Vocabulary.{clock_after, known, learned, moved, reads}
@@ -99,10 +100,10 @@ module _ (site : ℕ) (ds : List Deed) (n number from to : ℕ) where
           log = learned (shown site ds) (view_in want);
           held = hold (shown site ds).held (record { tx = tx; want = want });
         }
-        → IsStep site ds (asking want) n (moved r (answered from number (answers.Granted l c log)))
+        → IsStep site ds (asking want) n (moved r (answered from number (answers.Granted (grant_with l c log))))
     granted want l c log r is =
-        is ∙ sym (shown-more site ds (asking want) n (answered from number (answers.Granted l c log))
-        ∙ talks site ds (asking want) n (answering from number (answers.Granted l c log) ∷ []) None (nothing want)
+        is ∙ sym (shown-more site ds (asking want) n (answered from number (answers.Granted (grant_with l c log)))
+        ∙ talks site ds (asking want) n (answering from number (answers.Granted (grant_with l c log)) ∷ []) None (nothing want)
         (record { tx = tx; want = want } ∷ []) (view_in want)
         (ap (λ (b : Bool). cond ((b && true || false) && true) (record { tx = tx; want = want } ∷ []) [])
         (eq-eqb number number refl))
@@ -114,13 +115,13 @@ module _ (site : ℕ) (ds : List Deed) (n number from to : ℕ) where
         })
         (clock_passes (shown site ds).clock (asked want)))
 
-    pub read : (object inv : ℕ) → IsStep site ds (asking (Read object inv)) n
-        (reads (passed site ds (asked (Read object inv))) from number tx object inv)
-    read object inv = granted (Read object inv) (shown site ds).life (shown site ds).clock
+    pub read : (object inv : ℕ) → IsStep site ds (asking (Read (read_of object inv))) n
+        (reads (passed site ds (asked (Read (read_of object inv)))) from number tx object inv)
+    read object inv = granted (Read (read_of object inv)) (shown site ds).life (shown site ds).clock
         (of_object (known (shown site ds)) object)
-        (reads (passed site ds (asked (Read object inv))) from number tx object inv).site
+        (reads (passed site ds (asked (Read (read_of object inv)))) from number tx object inv).site
         (ap (λ (l : Lines). record (shown site ds)
-        { log = l.since; held = hold (shown site ds).held (record { tx = tx; want = Read object inv }) })
+        { log = l.since; held = hold (shown site ds).held (record { tx = tx; want = Read (read_of object inv) }) })
         (sym (learning-nil (lines_shown ds))))
 
     pub append : (object : ℕ) (view : List Line) (own : List OwnLine)

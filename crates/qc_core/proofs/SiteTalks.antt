@@ -106,7 +106,7 @@ lines_pass clock [] = refl
 lines_pass clock (l ∷ lines) = lines_pass (max clock l.stamp.clock) lines
 
 pub clock_passes : (clock : ℕ) (m : Message) → fold max clock (clocks_in m) ≡ clock_after clock m
-clock_passes clock (messages.Request tx epoch life (Read object inv)) = refl
+clock_passes clock (messages.Request tx epoch life (Read read)) = refl
 clock_passes clock (messages.Request tx epoch life (Append object view own)) = lines_pass clock view
 clock_passes clock (messages.Request tx epoch life Prepare) = refl
 clock_passes clock (messages.Answer to answer) = refl
@@ -116,4 +116,4 @@ clock_passes clock (messages.Decision tx Active) = refl
 clock_passes clock (messages.Inquiry tx) = refl
 clock_passes clock (messages.Ask tx) = refl
 clock_passes clock (messages.Close epoch) = refl
-clock_passes clock (messages.Install epoch installed lines) = lines_pass clock lines
+clock_passes clock (messages.Install start) = lines_pass clock start.lines

@@ -31,6 +31,7 @@ use Rattle.qc_msg.specs.declared.record.Record.TheVariants as records
 use Rattle.qc_msg.specs.declared.step.Input.{Input}
 use Rattle.qc_msg.specs.declared.step.Input.TheVariants as inputs
 use Rattle.qc_msg.specs.declared.turn.Appended.TheVariants.{Done}
+use Rattle.qc_msg.specs.Vocabulary.{grant_with, start_with}
 use Rattle.qc_site.specs.Vocabulary.{SiteState, answers as answered_with, appends_by, clashing, closed, closes}
 use Rattle.qc_site.specs.Vocabulary.{fault_of, finishes, grants, installed, installs, is_closed_for, is_prepared, joins}
 use Rattle.qc_site.specs.Vocabulary.{known, moved as site_moved, names_declared, passed, prepare_length, prepared_of}
@@ -100,12 +101,12 @@ module _ (decl : Declaration) (s : SiteState) (e : Envelope) (asks : asks_answer
 
   reads_written : (object inv : ℕ) (o : Option Conflict)
       → IsSiteTurn (inputs.Got e) (reads_by decl s e.from e.number tx object inv o).turn
-  reads_written object inv None = answers_well (answers.Granted s.life s.clock (of_object (known s) object))
+  reads_written object inv None = answers_well (answers.Granted (grant_with s.life s.clock (of_object (known s) object)))
   reads_written object inv (Some c) = clashes_well c
 
   appends_written : (view : List _) (own : List _) (o : Option Conflict)
       → IsSiteTurn (inputs.Got e) (appends_by decl s e.from e.number tx view own o).turn
-  appends_written view own None = answers_well (answers.Granted s.life s.clock [])
+  appends_written view own None = answers_well (answers.Granted (grant_with s.life s.clock []))
   appends_written view own (Some c) = clashes_well c
 
   prepares_written : IsSiteTurn (inputs.Got e) (prepares s e.from e.number tx).turn
@@ -123,8 +124,8 @@ module _ (decl : Declaration) (s : SiteState) (e : Envelope) (asks : asks_answer
       by true false false = answers_well answers.Stale
 
   grants_written : (want : Want) → IsSiteTurn (inputs.Got e) (grants decl s e.from e.number tx want).turn
-  grants_written (Read object inv) = reads_written object inv
-      (read_clash (relation_at decl object) s.held tx object inv)
+  grants_written (Read read) = reads_written read.object read.inv
+      (read_clash (relation_at decl read.object) s.held tx read.object read.inv)
   grants_written (Append object view own) =
       appends_written view own (append_clash (relation_at decl object) s.held tx own)
   grants_written Prepare = prepares_written
@@ -185,10 +186,10 @@ module _ (s : SiteState) (e : Envelope) (asks : asks_answer e.message ≡ true) 
       by : (past short : Bool) → IsSiteTurn (inputs.Got e)
           (cond past (site_moved s (answered_with e.from e.number answers.Installed))
           (cond short (site_moved (installed s k clock lines)
-          (recording e.from e.number (records.Install k clock lines) answers.Installed))
+          (recording e.from e.number (records.Install (start_with k clock lines)) answers.Installed))
           (site_moved s (answered_with e.from e.number (answers.Behind s.epoch))))).turn
       by true short = tells_well answers.Installed
-      by false true = records_well (records.Install k clock lines) answers.Installed refl
+      by false true = records_well (records.Install (start_with k clock lines)) answers.Installed refl
       by false false = tells_well (answers.Behind s.epoch)
 
 module _ (s : SiteState) (g : Input) (tx : TxId) where
@@ -220,8 +221,8 @@ message_written decl s e (messages.Decision tx verdict) is = finishes_written s 
 message_written decl s e (messages.Inquiry tx) is = rests_well (inputs.Got e)
 message_written decl s e (messages.Ask tx) is = rests_well (inputs.Got e)
 message_written decl s e (messages.Close epoch) is = closes_written s e (ap asks_answer is) epoch
-message_written decl s e (messages.Install epoch clock lines) is =
-    installs_written s e (ap asks_answer is) epoch clock lines
+message_written decl s e (messages.Install start) is =
+    installs_written s e (ap asks_answer is) start.epoch start.clock start.lines
 
 pub site_written : (decl : Declaration) (s : SiteState) (g : Input) → IsSiteTurn g (site_takes decl s g).turn
 site_written decl s (inputs.Called command) = rests_well (inputs.Called command)

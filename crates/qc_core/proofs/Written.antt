@@ -123,7 +123,7 @@ hears_written decl c e (messages.Inquiry tx) is = record { turn = says_well _ No
 hears_written decl c e (messages.Ask tx) is =
     record { turn = says_well _ None refl; sends = ((refl, (refl, ap asks_answer is)), tt) }
 hears_written decl c e (messages.Close epoch) is = asking_taken (inputs.Got e) quiet quiet_asks
-hears_written decl c e (messages.Install epoch clock log) is = asking_taken (inputs.Got e) quiet quiet_asks
+hears_written decl c e (messages.Install start) is = asking_taken (inputs.Got e) quiet quiet_asks
 
 called_written : (decl : Declaration) (c : Client) (command : Command) → IsAsking (clients.called decl c command).turn
 called_written decl c commands.Begin = command_written decl c.front commands.Begin

@@ -1,5 +1,5 @@
 -- What proofs, and other crates, name of this crate's definitions.
-pub use Rattle.qc_epoch.specs.Admin.{Admin, AdminMove, Asking, Closing, Decided, Doing, Installing, Question, Resting}
+pub use Rattle.qc_epoch.specs.Admin.{Admin, AdminMove, Asking, Closing, Doing, Installing, Question, Resting}
 pub use Rattle.qc_epoch.specs.Admin.{ShutSite, moved, new_admin}
 pub use Rattle.qc_epoch.specs.Answers.{is_number, outcome_in, standing_of, taken_for, with_installed, with_shut_of}
 pub use Rattle.qc_epoch.specs.Conduct.{admin_takes, again, all_sites, answered, answered_in, ask_of, asking_takes, asks}

@@ -62,7 +62,7 @@ impl<C: Conduct, N: RunName> FabricState<C, N> {
     /// last one that is given. Whether there was anything: a line of an actor's is
     /// left to who has that actor's pass. Where there was nothing, the controller's
     /// pass sees the history. After want of memory nothing has changed.
-    pub fn advance(
+    pub fn do_next(
         &mut self,
         decl: &Declaration,
         pass: &mut Pass<Step>,

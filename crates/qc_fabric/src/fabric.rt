@@ -184,10 +184,10 @@ impl<C: Conduct, N: RunName> Fabric<C, N> {
             (seen pass.new) }
     {
         let mut shared = self.shared.lock(rt);
-        if shared.state.advance(decl, pass, last)? {
+        if shared.state.do_next(decl, pass, last)? {
             return Ok(true);
         }
-        match shared.state.next(decl) {
+        match shared.state.comes_next(decl) {
             Some(Picked::Quiet) => Ok(false),
             _ => Ok(true),
         }
@@ -259,5 +259,5 @@ impl<C: Conduct, N: RunName> Fabric<C, N> {
 fn has_actor<C: Conduct, N: RunName>(state: &FabricState<C, N>, decl: &Declaration) -> bool
     requires { decl.now ≡ N.declaration }
 {
-    matches!(state.next(decl), Some(Picked::Actor(_)))
+    matches!(state.comes_next(decl), Some(Picked::Actor(_)))
 }

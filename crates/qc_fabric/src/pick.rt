@@ -35,7 +35,7 @@ impl<C: Conduct, N: RunName> FabricState<C, N> {
     /// The actor that comes next; or which quantity has reached its limit; or that
     /// nothing is ready and nobody is held. None where nothing is ready for those
     /// that aren't held, and some actor is. It takes no memory.
-    pub fn next(&self, decl: &Declaration) -> Option<Picked>
+    pub fn comes_next(&self, decl: &Declaration) -> Option<Picked>
         requires { decl.now ≡ N.declaration }
         ensures picked { result
             ≡ picked N.declaration N.script self.now.open_inputs self.now.held self.now.history }
@@ -60,7 +60,7 @@ impl<C: Conduct, N: RunName> FabricState<C, N> {
         ensures spare { self.new.spare ≡ self.old.spare }
         ensures named { IsNamed N.declaration result }
     {
-        let next = self.next(decl);
+        let next = self.comes_next(decl);
         if let Some(Picked::Actor(actor)) = next {
             set(&mut self.held, actor, true);
         }

@@ -108,9 +108,7 @@ fn lines_recorded(written: &Record) -> u32
 {
     match written {
         Record::Prepare(prepared) => saturated(prepared.lines.lines().len()),
-        Record::Install { lines, .. } | Record::Decide { lines, .. } => {
-            saturated(lines.lines().len())
-        }
+        Record::Install(start) | Record::Decide(start) => saturated(start.lines.lines().len()),
         Record::Life | Record::Done { .. } | Record::Close { .. } | Record::Commit(_) => 0,
     }
 }
@@ -122,7 +120,7 @@ fn lines_of(message: &Message) -> u32
     match message {
         Message::Request { want, .. } => lines_wanted(want),
         Message::Answer { answer, .. } => lines_answered(answer),
-        Message::Install { log, .. } => saturated(log.lines().len()),
+        Message::Install(start) => saturated(start.lines.lines().len()),
         Message::Decision { .. }
         | Message::Inquiry { .. }
         | Message::Ask { .. }
@@ -136,7 +134,7 @@ fn lines_wanted(want: &Want) -> u32
 {
     match want {
         Want::Append { view, .. } => saturated(view.lines().len()),
-        Want::Read { .. } | Want::Prepare => 0,
+        Want::Read(_) | Want::Prepare => 0,
     }
 }
 
@@ -145,10 +143,9 @@ fn lines_answered(answer: &Answer) -> u32
     ensures { result ≡ counted (lines_answered answer.now) }
 {
     match answer {
-        Answer::Granted { log, .. } => saturated(log.lines().len()),
-        Answer::Shut { log, prepared, .. } => {
-            saturated(log.lines().len()).saturating_add(lines_promised(prepared.items()))
-        }
+        Answer::Granted(grant) => saturated(grant.log.lines().len()),
+        Answer::Shut(snapshot) => saturated(snapshot.log.lines().len())
+            .saturating_add(lines_promised(snapshot.prepared.items())),
         _ => 0,
     }
 }

@@ -151,10 +151,10 @@ said decl actor before (records.Close epoch) e =
       lines = tt;
       ops = tt;
     }
-said decl actor before (records.Install epoch clock lines) e =
+said decl actor before (records.Install start) e =
     let b = both_true _ _ e in
     let s = both_true _ _ b.1 in
-    let i = start_of decl epoch clock lines s.1 in
+    let i = start_of decl start.epoch start.clock start.lines s.1 in
     record {
       few = few_of before b.0;
       writer = site_of decl actor s.0;
@@ -182,10 +182,10 @@ said decl actor before (records.Commit c) e =
       lines = tt;
       ops = every_of (is_op_fit decl) (IsOpDeclared decl) (op_of decl) c.ops o.1;
     }
-said decl actor before (records.Decide epoch clock lines) e =
+said decl actor before (records.Decide start) e =
     let b = both_true _ _ e in
     let s = both_true _ _ b.1 in
-    let i = start_of decl epoch clock lines s.1 in
+    let i = start_of decl start.epoch start.clock start.lines s.1 in
     record {
       few = few_of before b.0;
       writer = administrator_of decl actor s.0;
@@ -215,16 +215,16 @@ fit decl actor before (records.Done tx clock) h =
     (true_both _ _ (of_client decl tx.client h.clients.0) (of_clock clock h.clocks.0)))
 fit decl actor before (records.Close epoch) h =
     true_both _ _ (of_few before h.few) (true_both _ _ (of_site decl actor h.writer) (of_plan decl epoch h.epochs.0))
-fit decl actor before (records.Install epoch clock lines) h =
+fit decl actor before (records.Install start) h =
     true_both _ _ (of_few before h.few) (true_both _ _ (of_site decl actor h.writer)
-    (of_start decl epoch clock lines h.epochs.0 h.clocks.0 h.lines))
+    (of_start decl start.epoch start.clock start.lines h.epochs.0 h.clocks.0 h.lines))
 fit decl actor before (records.Commit c) h =
     let ops = all_of (is_op_fit decl) (IsOpDeclared decl) (of_op decl) c.ops h.ops in
     true_both _ _ (of_few before h.few) (true_both _ _ (of_this_client decl actor c.tx.client h.clients.0 h.writer)
     (true_both _ _ (of_clock c.stamp.clock h.clocks.0) ops))
-fit decl actor before (records.Decide epoch clock lines) h =
+fit decl actor before (records.Decide start) h =
     true_both _ _ (of_few before h.few) (true_both _ _ (of_administrator decl actor h.writer)
-    (of_start decl epoch clock lines h.epochs.0 h.clocks.0 h.lines))
+    (of_start decl start.epoch start.clock start.lines h.epochs.0 h.clocks.0 h.lines))
 
 pub as_said : (decl : Declaration) (actor before : ℕ) (rec : Record)
     → (fits decl actor before rec ≡ true) ↔ IsFit decl actor before rec

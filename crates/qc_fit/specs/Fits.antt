@@ -44,11 +44,11 @@ is_of decl actor records.Life = is_site decl actor || (is_client decl actor || i
 is_of decl actor (records.Prepare p) = is_site decl actor && is_prepared_fit decl p
 is_of decl actor (records.Done tx clock) = is_site decl actor && (has_client decl tx.client && is_clock clock)
 is_of decl actor (records.Close epoch) = is_site decl actor && has_epoch decl epoch
-is_of decl actor (records.Install epoch clock lines) = is_site decl actor && is_start_fit decl epoch clock lines
+is_of decl actor (records.Install start) = is_site decl actor && is_start_fit decl start.epoch start.clock start.lines
 is_of decl actor (records.Commit c) =
     is_this_client decl actor c.tx.client && (is_clock c.stamp.clock && list_all (is_op_fit decl) c.ops)
-is_of decl actor (records.Decide epoch clock lines) =
-    is_administrator decl actor && is_start_fit decl epoch clock lines
+is_of decl actor (records.Decide start) =
+    is_administrator decl actor && is_start_fit decl start.epoch start.clock start.lines
 
 -- whether a record fits its actor, behind so many others in its journal
 abbrev pub fits : Declaration → ℕ → ℕ → Record → Bool

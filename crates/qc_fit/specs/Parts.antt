@@ -7,7 +7,8 @@ use Rattle.qc_entry.specs.declared.line.OwnLine.{OwnLine}
 use Rattle.qc_entry.specs.declared.line.ReadLock.{ReadLock}
 use Rattle.qc_msg.specs.declared.record.Record.{Record}
 use Rattle.qc_msg.specs.declared.record.Record.TheVariants as records
-use Rattle.qc_msg.specs.Vocabulary.{Finished, Installing, commit_of, decide_in, done_in, install_in, prepare_in}
+use Rattle.qc_msg.specs.Vocabulary.{Finished, commit_of, decide_in, done_in, install_in, prepare_in}
+use Rattle.qc_msg.specs.declared.payload.EpochStart.{EpochStart}
 use Rattle.qc_entry.specs.declared.record.Prepared.{Prepared}
 use Rattle.qc_entry.specs.declared.record.Commit.{Commit}
 
@@ -23,9 +24,9 @@ epochs_of records.Life = []
 epochs_of (records.Prepare p) = p.epoch ∷ []
 epochs_of (records.Done tx clock) = []
 epochs_of (records.Close epoch) = epoch ∷ []
-epochs_of (records.Install epoch clock lines) = epoch ∷ []
+epochs_of (records.Install start) = start.epoch ∷ []
 epochs_of (records.Commit c) = []
-epochs_of (records.Decide epoch clock lines) = epoch ∷ []
+epochs_of (records.Decide start) = start.epoch ∷ []
 
 -- its own clocks, beside those of its lines
 abbrev pub clocks_of : Record → List ℕ
@@ -33,9 +34,9 @@ clocks_of records.Life = []
 clocks_of (records.Prepare p) = []
 clocks_of (records.Done tx clock) = clock ∷ []
 clocks_of (records.Close epoch) = []
-clocks_of (records.Install epoch clock lines) = clock ∷ []
+clocks_of (records.Install start) = start.clock ∷ []
 clocks_of (records.Commit c) = c.stamp.clock ∷ []
-clocks_of (records.Decide epoch clock lines) = clock ∷ []
+clocks_of (records.Decide start) = start.clock ∷ []
 
 abbrev pub locks_of : Record → List ReadLock
 locks_of written = option_map_or (λ (p : Prepared). p.locks) (prepare_in written) []
@@ -46,8 +47,8 @@ owns_of written = option_map_or (λ (p : Prepared). p.own) (prepare_in written) 
 abbrev pub lines_of : Record → List Line
 lines_of written =
     option_map_or (λ (p : Prepared). p.lines) (prepare_in written)
-    (option_map_or (λ (i : Installing). i.lines) (install_in written)
-    (option_map_or (λ (i : Installing). i.lines) (decide_in written) []))
+    (option_map_or (λ (i : EpochStart). i.lines) (install_in written)
+    (option_map_or (λ (i : EpochStart). i.lines) (decide_in written) []))
 
 abbrev pub ops_of : Record → List Op
 ops_of written = option_map_or (λ (c : Commit). c.ops) (commit_of written) []

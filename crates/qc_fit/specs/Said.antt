@@ -20,9 +20,9 @@ IsWriter decl actor records.Life = actor ≤ administrator decl
 IsWriter decl actor (records.Prepare p) = actor < decl.sites
 IsWriter decl actor (records.Done tx clock) = actor < decl.sites
 IsWriter decl actor (records.Close epoch) = actor < decl.sites
-IsWriter decl actor (records.Install epoch clock lines) = actor < decl.sites
+IsWriter decl actor (records.Install start) = actor < decl.sites
 IsWriter decl actor (records.Commit c) = actor ≡ client_actor decl c.tx.client
-IsWriter decl actor (records.Decide epoch clock lines) = actor ≡ administrator decl
+IsWriter decl actor (records.Decide start) = actor ≡ administrator decl
 
 abbrev pub HasPlan : Declaration → ℕ → Type 0
 HasPlan decl epoch = (plan : Plan) × (plan_in decl epoch ≡ Some plan)

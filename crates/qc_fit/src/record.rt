@@ -11,7 +11,7 @@ use crate::numbers::{
 };
 use qc_decl::Declaration;
 use qc_entry::{Line, Log, Op, OwnLine, Prepared, ReadLock};
-use qc_msg::Record;
+use qc_msg::{EpochStart, Record};
 
 /// The number below which the records before a record stay.
 const MOST_RECORDS: u32 = 2_147_483_648;
@@ -40,21 +40,13 @@ fn is_of(decl: &Declaration, actor: u8, rec: &Record) -> bool
             is_site(decl, actor) && has_client(decl, tx.client) && is_clock(*clock)
         }
         Record::Close { epoch } => is_site(decl, actor) && has_epoch(decl, *epoch),
-        Record::Install {
-            epoch,
-            clock,
-            lines,
-        } => is_site(decl, actor) && is_start_fit(decl, *epoch, *clock, lines),
+        Record::Install(start) => is_site(decl, actor) && is_start_fit(decl, start),
         Record::Commit(commit) => {
             is_this_client(decl, actor, commit.tx.client)
                 && is_clock(commit.stamp.clock)
                 && are_ops_fit(decl, commit.ops.items())
         }
-        Record::Decide {
-            epoch,
-            clock,
-            lines,
-        } => is_administrator(decl, actor) && is_start_fit(decl, *epoch, *clock, lines),
+        Record::Decide(start) => is_administrator(decl, actor) && is_start_fit(decl, start),
     }
 }
 
@@ -70,10 +62,12 @@ fn is_prepared_fit(decl: &Declaration, prepared: &Prepared) -> bool
 }
 
 /// Whether what is in an Install or a Decide is declared.
-fn is_start_fit(decl: &Declaration, epoch: u8, clock: u64, lines: &Log) -> bool
-    ensures { result ≡ is_start_fit decl.now epoch clock lines.now }
+fn is_start_fit(decl: &Declaration, start: &EpochStart) -> bool
+    ensures { result ≡ is_start_fit decl.now start.now.epoch start.now.clock start.now.lines }
 {
-    has_epoch(decl, epoch) && is_clock(clock) && are_lines_fit(decl, lines.lines())
+    has_epoch(decl, start.epoch)
+        && is_clock(start.clock)
+        && are_lines_fit(decl, start.lines.lines())
 }
 
 /// Whether each lock is on an invocation that its object has.

@@ -50,7 +50,7 @@ pub record IsFull (calls : List Call) (r : RoundState) : Type 0 where
 abbrev pub MoveAsks : Declaration → FrontMove → Type 0
 MoveAsks decl move = AsksIn decl move.front.transaction move.front.doing move.turn.sends
 
-asks_all : (b : Begun) (want : Want) (calls : List Call) (r : RoundState) → IsFull calls r
+asks_all : (b : Begun) (want : ℕ → Want) (calls : List Call) (r : RoundState) → IsFull calls r
     → AsksAll b want calls (asking_all r (wanted r)) (map (request_of b want) (wanted r))
 asks_all b want calls r f = by (all_noted r.asked) refl
   where
@@ -181,7 +181,7 @@ called_asks decl front (commands.Epoch number) h full = stays_asks decl front.tr
 learns_asks : (decl : Declaration) (answer : Option Answer) (move : FrontMove) → MoveAsks decl move
     → MoveAsks decl (learned answer move)
 learns_asks decl None move h = h
-learns_asks decl (Some (answers.Granted life clock log)) move h = h
+learns_asks decl (Some (answers.Granted grant)) move h = h
 learns_asks decl (Some (answers.Clash holder inv event)) move h = h
 learns_asks decl (Some (answers.Closed epoch)) move h = h
 learns_asks decl (Some (answers.Behind epoch)) move h = h
@@ -189,7 +189,7 @@ learns_asks decl (Some (answers.Restarted life)) move h = h
 learns_asks decl (Some answers.Stale) move h = h
 learns_asks decl (Some answers.Fault) move h = h
 learns_asks decl (Some (answers.Yes clock)) move h = h
-learns_asks decl (Some (answers.Shut clock log prepared)) move h = h
+learns_asks decl (Some (answers.Shut snapshot)) move h = h
 learns_asks decl (Some answers.Installed) move h = h
 learns_asks decl (Some (answers.Answered verdict)) move h = h
 

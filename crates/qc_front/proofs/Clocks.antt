@@ -24,10 +24,10 @@ learned_by front site None =
       granted = λ s life told log asked is. (let never : ⊥ = cc in absurd never);
       closed = λ s told asked is. (let never : ⊥ = cc in absurd never);
     }
-learned_by front site (Some (answers.Granted life clock log)) = record {
+learned_by front site (Some (answers.Granted grant)) = record {
   clock = omega arith;
   epoch = omega arith;
-  granted = λ s l told ls asked is. (let same : clock ≡ told = cc in omega arith);
+  granted = λ s l told ls asked is. (let same : grant.clock ≡ told = cc in omega arith);
   closed = λ s told asked is. (let never : ⊥ = cc in absurd never);
 }
 learned_by front site (Some (answers.Closed epoch)) = record {
@@ -78,7 +78,7 @@ learned_by front site (Some (answers.Yes clock)) =
       granted = λ s life told log asked is. (let never : ⊥ = cc in absurd never);
       closed = λ s told asked is. (let never : ⊥ = cc in absurd never);
     }
-learned_by front site (Some (answers.Shut clock lines prepared)) =
+learned_by front site (Some (answers.Shut snapshot)) =
     record {
       clock = omega arith;
       epoch = omega arith;
@@ -156,7 +156,7 @@ takes_learns decl front number answer = takes_in_learns decl front front.doing f
 
 learned_count : (front : Front) (answer : Option Answer) → (learns front answer).count ≡ front.count
 learned_count front None = refl
-learned_count front (Some (answers.Granted life clock log)) = refl
+learned_count front (Some (answers.Granted grant)) = refl
 learned_count front (Some (answers.Clash holder inv event)) = refl
 learned_count front (Some (answers.Closed epoch)) = refl
 learned_count front (Some (answers.Behind epoch)) = refl
@@ -164,7 +164,7 @@ learned_count front (Some (answers.Restarted life)) = refl
 learned_count front (Some answers.Stale) = refl
 learned_count front (Some answers.Fault) = refl
 learned_count front (Some (answers.Yes clock)) = refl
-learned_count front (Some (answers.Shut clock log prepared)) = refl
+learned_count front (Some (answers.Shut snapshot)) = refl
 learned_count front (Some answers.Installed) = refl
 learned_count front (Some (answers.Answered verdict)) = refl
 

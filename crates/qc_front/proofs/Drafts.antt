@@ -10,6 +10,7 @@ use Rattle.qc_entry.specs.declared.line.OwnLine.{OwnLine}
 use Rattle.qc_msg.specs.declared.begun.Begun.{Begun}
 use Rattle.qc_msg.specs.declared.message.Answer.{Answer}
 use Rattle.qc_msg.specs.declared.message.Answer.TheVariants as answers
+use Rattle.qc_msg.specs.declared.message.Want.{Want}
 use Rattle.qc_msg.specs.declared.message.Want.TheVariants.{Append}
 use Rattle.qc_table.specs.Vocabulary.{Rules}
 use Rattle.qc_view.specs.declared.view.View.{View}
@@ -102,17 +103,18 @@ answer_drafted decl views d inv has =
 pub want_drafted : (decl : Declaration) (views : List View) (d : Draft) (event : ℕ) → IsDraft views d
     → append_want decl (drafted views d) d.object event ≡ append_want_of decl d event
 want_drafted decl views d event has =
-    ap (λ (o : Option View). Append d.object (option_map_or (λ (v : View). v.log) o [])
-    (own_appended decl (drafted [] d) d.object event)) (view_is views d.object d.view has)
+    let want_by : Option View → ℕ → Want = λ o site.
+      Append d.object (option_map_or (λ (v : View). v.log) o []) (own_appended decl (drafted [] d) d.object event) in
+    ap want_by (view_is views d.object d.view has)
 
 -- what came of a request to a site
 
 pub read_drafted : (t : Transaction) (object site : ℕ) (answer : Option Answer)
     → drafted t.views (read_draft (draft_of t object) site answer) ≡ read_with t site object answer
 read_drafted t object site None = undone t object
-read_drafted t object site (Some (answers.Granted life clock log)) =
-    sym (granted_drafted t.views (lived_draft (draft_of t object) site life) log refl)
-    ∙ ap (λ (u : Transaction). with_granted (lived u site life) object log) (undone t object)
+read_drafted t object site (Some (answers.Granted grant)) =
+    sym (granted_drafted t.views (lived_draft (draft_of t object) site grant.life) grant.log refl)
+    ∙ ap (λ (u : Transaction). with_granted (lived u site grant.life) object grant.log) (undone t object)
 read_drafted t object site (Some (answers.Clash holder inv event)) = undone t object
 read_drafted t object site (Some (answers.Closed epoch)) = undone t object
 read_drafted t object site (Some (answers.Behind epoch)) = undone t object
@@ -120,15 +122,15 @@ read_drafted t object site (Some (answers.Restarted life)) = undone t object
 read_drafted t object site (Some answers.Stale) = undone t object
 read_drafted t object site (Some answers.Fault) = undone t object
 read_drafted t object site (Some (answers.Yes clock)) = undone t object
-read_drafted t object site (Some (answers.Shut clock log prepared)) = undone t object
+read_drafted t object site (Some (answers.Shut snapshot)) = undone t object
 read_drafted t object site (Some answers.Installed) = undone t object
 read_drafted t object site (Some (answers.Answered verdict)) = undone t object
 
 pub appended_drafted : (t : Transaction) (object site : ℕ) (answer : Option Answer)
     → drafted t.views (appended_draft (draft_of t object) site answer) ≡ appended_with t site answer
 appended_drafted t object site None = undone t object
-appended_drafted t object site (Some (answers.Granted life clock log)) =
-    ap (λ (u : Transaction). lived u site life) (undone t object)
+appended_drafted t object site (Some (answers.Granted grant)) =
+    ap (λ (u : Transaction). lived u site grant.life) (undone t object)
 appended_drafted t object site (Some (answers.Clash holder inv event)) = undone t object
 appended_drafted t object site (Some (answers.Closed epoch)) = undone t object
 appended_drafted t object site (Some (answers.Behind epoch)) = undone t object
@@ -136,7 +138,7 @@ appended_drafted t object site (Some (answers.Restarted life)) = undone t object
 appended_drafted t object site (Some answers.Stale) = undone t object
 appended_drafted t object site (Some answers.Fault) = undone t object
 appended_drafted t object site (Some (answers.Yes clock)) = undone t object
-appended_drafted t object site (Some (answers.Shut clock log prepared)) = undone t object
+appended_drafted t object site (Some (answers.Shut snapshot)) = undone t object
 appended_drafted t object site (Some answers.Installed) = undone t object
 appended_drafted t object site (Some (answers.Answered verdict)) = undone t object
 
@@ -154,8 +156,8 @@ pub record IsDraftOf (t : Transaction) (object : ℕ) (d : Draft) : Type 0 where
 pub read_is_draft : (t : Transaction) (object site : ℕ) (answer : Option Answer)
     → IsDraftOf t object (read_draft (draft_of t object) site answer)
 read_is_draft t object site None = record { object_is = refl; view = refl; ops = refl }
-read_is_draft t object site (Some (answers.Granted life clock log)) =
-    record { object_is = refl; view = same_some (slice_get t.views object) (λ (v : View). with_log v log); ops = refl }
+read_is_draft t object site (Some (answers.Granted grant)) =
+    record { object_is = refl; view = same_some (slice_get t.views object) (λ (v : View). with_log v grant.log); ops = refl }
 read_is_draft t object site (Some (answers.Clash holder inv event)) =
     record { object_is = refl; view = refl; ops = refl }
 read_is_draft t object site (Some (answers.Closed epoch)) = record { object_is = refl; view = refl; ops = refl }
@@ -164,7 +166,7 @@ read_is_draft t object site (Some (answers.Restarted life)) = record { object_is
 read_is_draft t object site (Some answers.Stale) = record { object_is = refl; view = refl; ops = refl }
 read_is_draft t object site (Some answers.Fault) = record { object_is = refl; view = refl; ops = refl }
 read_is_draft t object site (Some (answers.Yes clock)) = record { object_is = refl; view = refl; ops = refl }
-read_is_draft t object site (Some (answers.Shut clock log prepared)) =
+read_is_draft t object site (Some (answers.Shut snapshot)) =
     record { object_is = refl; view = refl; ops = refl }
 read_is_draft t object site (Some answers.Installed) = record { object_is = refl; view = refl; ops = refl }
 read_is_draft t object site (Some (answers.Answered verdict)) = record { object_is = refl; view = refl; ops = refl }
@@ -172,7 +174,7 @@ read_is_draft t object site (Some (answers.Answered verdict)) = record { object_
 pub appended_is_draft : (t : Transaction) (object site : ℕ) (answer : Option Answer)
     → IsDraftOf t object (appended_draft (draft_of t object) site answer)
 appended_is_draft t object site None = record { object_is = refl; view = refl; ops = refl }
-appended_is_draft t object site (Some (answers.Granted life clock log)) =
+appended_is_draft t object site (Some (answers.Granted grant)) =
     record { object_is = refl; view = refl; ops = refl }
 appended_is_draft t object site (Some (answers.Clash holder inv event)) =
     record { object_is = refl; view = refl; ops = refl }
@@ -182,7 +184,7 @@ appended_is_draft t object site (Some (answers.Restarted life)) = record { objec
 appended_is_draft t object site (Some answers.Stale) = record { object_is = refl; view = refl; ops = refl }
 appended_is_draft t object site (Some answers.Fault) = record { object_is = refl; view = refl; ops = refl }
 appended_is_draft t object site (Some (answers.Yes clock)) = record { object_is = refl; view = refl; ops = refl }
-appended_is_draft t object site (Some (answers.Shut clock log prepared)) =
+appended_is_draft t object site (Some (answers.Shut snapshot)) =
     record { object_is = refl; view = refl; ops = refl }
 appended_is_draft t object site (Some answers.Installed) = record { object_is = refl; view = refl; ops = refl }
 appended_is_draft t object site (Some (answers.Answered verdict)) = record { object_is = refl; view = refl; ops = refl }

@@ -32,7 +32,7 @@ use Rattle.qc_front.proofs.CommandsKeep.{view_keeps, MoveHolds, appends_holds, r
 learns_holds : (decl : Declaration) (front : Front) (answer : Option Answer) (move : FrontMove) → MoveHolds decl move
     → MoveHolds decl (learned answer move)
 learns_holds decl front None move h = h
-learns_holds decl front (Some (answers.Granted life clock log)) move h = h
+learns_holds decl front (Some (answers.Granted grant)) move h = h
 learns_holds decl front (Some (answers.Clash holder inv event)) move h = h
 learns_holds decl front (Some (answers.Closed epoch)) move h = h
 learns_holds decl front (Some (answers.Behind epoch)) move h = h
@@ -40,7 +40,7 @@ learns_holds decl front (Some (answers.Restarted life)) move h = h
 learns_holds decl front (Some answers.Stale) move h = h
 learns_holds decl front (Some answers.Fault) move h = h
 learns_holds decl front (Some (answers.Yes clock)) move h = h
-learns_holds decl front (Some (answers.Shut clock log prepared)) move h = h
+learns_holds decl front (Some (answers.Shut snapshot)) move h = h
 learns_holds decl front (Some answers.Installed) move h = h
 learns_holds decl front (Some (answers.Answered verdict)) move h = h
 
@@ -53,8 +53,8 @@ pub record KeepsOps (t u : Transaction) : Type 0 where
 pub read_keeps : (t : Transaction) (site object : ℕ) (answer : Option Answer)
     → KeepsOps t (read_with t site object answer)
 read_keeps t site object None = record { ops = refl; epoch = refl }
-read_keeps t site object (Some (answers.Granted life clock log)) =
-    let same : (with_granted (lived t site life) object log).begun ≡ (lived t site life).begun = view_keeps (lived t site life) object (option_map (λ (v : View). with_log v log) (slice_get t.views object)) in
+read_keeps t site object (Some (answers.Granted grant)) =
+    let same : (with_granted (lived t site grant.life) object grant.log).begun ≡ (lived t site grant.life).begun = view_keeps (lived t site grant.life) object (option_map (λ (v : View). with_log v grant.log) (slice_get t.views object)) in
     record { ops = ap (λ (b : Begun). b.ops) same; epoch = ap (λ (b : Begun). b.epoch) same }
 read_keeps t site object (Some (answers.Clash holder inv event)) = record { ops = refl; epoch = refl }
 read_keeps t site object (Some (answers.Closed epoch)) = record { ops = refl; epoch = refl }
@@ -63,7 +63,7 @@ read_keeps t site object (Some (answers.Restarted life)) = record { ops = refl; 
 read_keeps t site object (Some answers.Stale) = record { ops = refl; epoch = refl }
 read_keeps t site object (Some answers.Fault) = record { ops = refl; epoch = refl }
 read_keeps t site object (Some (answers.Yes clock)) = record { ops = refl; epoch = refl }
-read_keeps t site object (Some (answers.Shut clock log prepared)) = record { ops = refl; epoch = refl }
+read_keeps t site object (Some (answers.Shut snapshot)) = record { ops = refl; epoch = refl }
 read_keeps t site object (Some answers.Installed) = record { ops = refl; epoch = refl }
 read_keeps t site object (Some (answers.Answered verdict)) = record { ops = refl; epoch = refl }
 
@@ -74,7 +74,7 @@ relived t lives = record t { begun = record t.begun { lives = lives } }
 pub appended_is : (t : Transaction) (site : ℕ) (answer : Option Answer)
     → appended_with t site answer ≡ relived t (appended_with t site answer).begun.lives
 appended_is t site None = refl
-appended_is t site (Some (answers.Granted life clock log)) = refl
+appended_is t site (Some (answers.Granted grant)) = refl
 appended_is t site (Some (answers.Clash holder inv event)) = refl
 appended_is t site (Some (answers.Closed epoch)) = refl
 appended_is t site (Some (answers.Behind epoch)) = refl
@@ -82,7 +82,7 @@ appended_is t site (Some (answers.Restarted life)) = refl
 appended_is t site (Some answers.Stale) = refl
 appended_is t site (Some answers.Fault) = refl
 appended_is t site (Some (answers.Yes clock)) = refl
-appended_is t site (Some (answers.Shut clock log prepared)) = refl
+appended_is t site (Some (answers.Shut snapshot)) = refl
 appended_is t site (Some answers.Installed) = refl
 appended_is t site (Some (answers.Answered verdict)) = refl
 

@@ -21,7 +21,7 @@ learned answer move = moved (learns move.front answer) move.turn
 
 pub client_kept : (front : Front) (answer : Option Answer) → (learns front answer).client ≡ front.client
 client_kept front None = refl
-client_kept front (Some (answers.Granted life clock log)) = refl
+client_kept front (Some (answers.Granted grant)) = refl
 client_kept front (Some (answers.Clash holder inv event)) = refl
 client_kept front (Some (answers.Closed epoch)) = refl
 client_kept front (Some (answers.Behind epoch)) = refl
@@ -29,14 +29,14 @@ client_kept front (Some (answers.Restarted life)) = refl
 client_kept front (Some answers.Stale) = refl
 client_kept front (Some answers.Fault) = refl
 client_kept front (Some (answers.Yes clock)) = refl
-client_kept front (Some (answers.Shut clock log prepared)) = refl
+client_kept front (Some (answers.Shut snapshot)) = refl
 client_kept front (Some answers.Installed) = refl
 client_kept front (Some (answers.Answered verdict)) = refl
 
 turned_learns : (front : Front) (answer : Option Answer) (transaction : Option Transaction) (doing : Doing)
     → turned (learns front answer) transaction doing ≡ learns (turned front transaction doing) answer
 turned_learns front None transaction doing = refl
-turned_learns front (Some (answers.Granted life clock log)) transaction doing = refl
+turned_learns front (Some (answers.Granted grant)) transaction doing = refl
 turned_learns front (Some (answers.Clash holder inv event)) transaction doing = refl
 turned_learns front (Some (answers.Closed epoch)) transaction doing = refl
 turned_learns front (Some (answers.Behind epoch)) transaction doing = refl
@@ -44,7 +44,7 @@ turned_learns front (Some (answers.Restarted life)) transaction doing = refl
 turned_learns front (Some answers.Stale) transaction doing = refl
 turned_learns front (Some answers.Fault) transaction doing = refl
 turned_learns front (Some (answers.Yes clock)) transaction doing = refl
-turned_learns front (Some (answers.Shut clock log prepared)) transaction doing = refl
+turned_learns front (Some (answers.Shut snapshot)) transaction doing = refl
 turned_learns front (Some answers.Installed) transaction doing = refl
 turned_learns front (Some (answers.Answered verdict)) transaction doing = refl
 

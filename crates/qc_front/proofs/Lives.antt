@@ -13,6 +13,7 @@ use Rattle.qc_msg.specs.declared.call.Call.{Call}
 use Rattle.qc_msg.specs.declared.message.Answer.{Answer}
 use Rattle.qc_msg.specs.declared.message.Answer.TheVariants as answers
 use Rattle.qc_msg.specs.Vocabulary.{has_granted, life_of, site_called, with_life, without_call}
+use Rattle.qc_msg.specs.Vocabulary.{grant_with}
 use Rattle.qc_plan.specs.declared.standing.Verdict.{Verdict}
 use Rattle.qc_plan.specs.declared.standing.Verdict.TheVariants as verdicts
 use Rattle.qc_plan.specs.Vocabulary.{RoundState, note, verdict}
@@ -30,7 +31,7 @@ use Rattle.qc_front.proofs.CommandsKeep.{view_keeps}
 -- the lives after what came of a request
 abbrev lives_with : List LifeAt → ℕ → Option Answer → List LifeAt
 lives_with lives site None = lives
-lives_with lives site (Some (answers.Granted life clock log)) = with_life lives site life
+lives_with lives site (Some (answers.Granted grant)) = with_life lives site grant.life
 lives_with lives site (Some (answers.Clash holder inv event)) = lives
 lives_with lives site (Some (answers.Closed epoch)) = lives
 lives_with lives site (Some (answers.Behind epoch)) = lives
@@ -38,16 +39,16 @@ lives_with lives site (Some (answers.Restarted life)) = lives
 lives_with lives site (Some answers.Stale) = lives
 lives_with lives site (Some answers.Fault) = lives
 lives_with lives site (Some (answers.Yes clock)) = lives
-lives_with lives site (Some (answers.Shut clock log prepared)) = lives
+lives_with lives site (Some (answers.Shut snapshot)) = lives
 lives_with lives site (Some answers.Installed) = lives
 lives_with lives site (Some (answers.Answered verdict)) = lives
 
 read_lives : (t : Transaction) (site object : ℕ) (answer : Option Answer)
     → (read_with t site object answer).begun.lives ≡ lives_with t.begun.lives site answer
 read_lives t site object None = refl
-read_lives t site object (Some (answers.Granted life clock log)) =
-    ap (λ (b : Begun). b.lives) (view_keeps (lived t site life) object
-    (option_map (λ (v : View). with_log v log) (slice_get t.views object)))
+read_lives t site object (Some (answers.Granted grant)) =
+    ap (λ (b : Begun). b.lives) (view_keeps (lived t site grant.life) object
+    (option_map (λ (v : View). with_log v grant.log) (slice_get t.views object)))
 read_lives t site object (Some (answers.Clash holder inv event)) = refl
 read_lives t site object (Some (answers.Closed epoch)) = refl
 read_lives t site object (Some (answers.Behind epoch)) = refl
@@ -55,14 +56,14 @@ read_lives t site object (Some (answers.Restarted life)) = refl
 read_lives t site object (Some answers.Stale) = refl
 read_lives t site object (Some answers.Fault) = refl
 read_lives t site object (Some (answers.Yes clock)) = refl
-read_lives t site object (Some (answers.Shut clock log prepared)) = refl
+read_lives t site object (Some (answers.Shut snapshot)) = refl
 read_lives t site object (Some answers.Installed) = refl
 read_lives t site object (Some (answers.Answered verdict)) = refl
 
 appended_lives : (t : Transaction) (site : ℕ) (answer : Option Answer)
     → (appended_with t site answer).begun.lives ≡ lives_with t.begun.lives site answer
 appended_lives t site None = refl
-appended_lives t site (Some (answers.Granted life clock log)) = refl
+appended_lives t site (Some (answers.Granted grant)) = refl
 appended_lives t site (Some (answers.Clash holder inv event)) = refl
 appended_lives t site (Some (answers.Closed epoch)) = refl
 appended_lives t site (Some (answers.Behind epoch)) = refl
@@ -70,7 +71,7 @@ appended_lives t site (Some (answers.Restarted life)) = refl
 appended_lives t site (Some answers.Stale) = refl
 appended_lives t site (Some answers.Fault) = refl
 appended_lives t site (Some (answers.Yes clock)) = refl
-appended_lives t site (Some (answers.Shut clock log prepared)) = refl
+appended_lives t site (Some (answers.Shut snapshot)) = refl
 appended_lives t site (Some answers.Installed) = refl
 appended_lives t site (Some (answers.Answered verdict)) = refl
 
@@ -162,62 +163,62 @@ no_grant lives asked answer none = record {
 with_keeps : (lives : List LifeAt) (site : ℕ) (answer : Option Answer)
     → KeepsLives lives (lives_with lives site answer) (Some site) answer
 with_keeps lives site None = no_grant lives (Some site) None
-    (λ s life g. (let is : None ≡ Some (answers.Granted life g.clock g.log) = g.is in let never : ⊥ = cc in never))
-with_keeps lives site (Some (answers.Granted life clock log)) = record {
-  kept = λ s has. kept_by lives site life s has (has_granted lives site);
+    (λ s life g. (let is : None ≡ Some (answers.Granted (grant_with life g.clock g.log)) = g.is in let never : ⊥ = cc in never))
+with_keeps lives site (Some (answers.Granted grant)) = record {
+  kept = λ s has. kept_by lives site grant.life s has (has_granted lives site);
   gained = λ s none has.
-      (let both : (site ≡ s) × (life_of (with_life lives site life) s ≡ life) =
-      gained_by lives site life s none (has_granted lives site) has in
+      (let both : (site ≡ s) × (life_of (with_life lives site grant.life) s ≡ grant.life) =
+      gained_by lives site grant.life s none (has_granted lives site) has in
       record {
-        clock = clock;
-        log = log;
-        is = ap (λ (l : ℕ). Some (answers.Granted l clock log)) (sym both.1);
+        clock = grant.clock;
+        log = grant.log;
+        is = ap (λ (l : ℕ). Some (answers.Granted (grant_with l grant.clock grant.log))) (sym both.1);
         counts = ap (λ (n : ℕ). Some n) both.0;
       });
   counted = λ s told g.
       (let asked : Some site ≡ Some s = g.counts in let same : site ≡ s = cc in
-      subst (λ (k : ℕ). has_granted (with_life lives site life) k ≡ true) same
-      (has_by lives site life (has_granted lives site) refl));
+      subst (λ (k : ℕ). has_granted (with_life lives site grant.life) k ≡ true) same
+      (has_by lives site grant.life (has_granted lives site) refl));
 }
 with_keeps lives site (Some (answers.Clash holder inv event)) =
     no_grant lives (Some site) (Some (answers.Clash holder inv event))
-    (λ s life g. (let is : Some (answers.Clash holder inv event) ≡ Some (answers.Granted life g.clock g.log) = g.is in
+    (λ s life g. (let is : Some (answers.Clash holder inv event) ≡ Some (answers.Granted (grant_with life g.clock g.log)) = g.is in
     let never : ⊥ = cc in never))
 with_keeps lives site (Some (answers.Closed epoch)) =
     no_grant lives (Some site) (Some (answers.Closed epoch))
-    (λ s life g. (let is : Some (answers.Closed epoch) ≡ Some (answers.Granted life g.clock g.log) = g.is in
+    (λ s life g. (let is : Some (answers.Closed epoch) ≡ Some (answers.Granted (grant_with life g.clock g.log)) = g.is in
     let never : ⊥ = cc in never))
 with_keeps lives site (Some (answers.Behind epoch)) =
     no_grant lives (Some site) (Some (answers.Behind epoch))
-    (λ s life g. (let is : Some (answers.Behind epoch) ≡ Some (answers.Granted life g.clock g.log) = g.is in
+    (λ s life g. (let is : Some (answers.Behind epoch) ≡ Some (answers.Granted (grant_with life g.clock g.log)) = g.is in
     let never : ⊥ = cc in never))
 with_keeps lives site (Some (answers.Restarted told)) =
     no_grant lives (Some site) (Some (answers.Restarted told))
-    (λ s life g. (let is : Some (answers.Restarted told) ≡ Some (answers.Granted life g.clock g.log) = g.is in
+    (λ s life g. (let is : Some (answers.Restarted told) ≡ Some (answers.Granted (grant_with life g.clock g.log)) = g.is in
     let never : ⊥ = cc in never))
 with_keeps lives site (Some answers.Stale) =
     no_grant lives (Some site) (Some answers.Stale)
-    (λ s life g. (let is : Some answers.Stale ≡ Some (answers.Granted life g.clock g.log) = g.is in
+    (λ s life g. (let is : Some answers.Stale ≡ Some (answers.Granted (grant_with life g.clock g.log)) = g.is in
     let never : ⊥ = cc in never))
 with_keeps lives site (Some answers.Fault) =
     no_grant lives (Some site) (Some answers.Fault)
-    (λ s life g. (let is : Some answers.Fault ≡ Some (answers.Granted life g.clock g.log) = g.is in
+    (λ s life g. (let is : Some answers.Fault ≡ Some (answers.Granted (grant_with life g.clock g.log)) = g.is in
     let never : ⊥ = cc in never))
 with_keeps lives site (Some (answers.Yes clock)) =
     no_grant lives (Some site) (Some (answers.Yes clock))
-    (λ s life g. (let is : Some (answers.Yes clock) ≡ Some (answers.Granted life g.clock g.log) = g.is in
+    (λ s life g. (let is : Some (answers.Yes clock) ≡ Some (answers.Granted (grant_with life g.clock g.log)) = g.is in
     let never : ⊥ = cc in never))
-with_keeps lives site (Some (answers.Shut clock log prepared)) =
-    no_grant lives (Some site) (Some (answers.Shut clock log prepared))
-    (λ s life g. (let is : Some (answers.Shut clock log prepared) ≡ Some (answers.Granted life g.clock g.log) = g.is in
+with_keeps lives site (Some (answers.Shut snapshot)) =
+    no_grant lives (Some site) (Some (answers.Shut snapshot))
+    (λ s life g. (let is : Some (answers.Shut snapshot) ≡ Some (answers.Granted (grant_with life g.clock g.log)) = g.is in
     let never : ⊥ = cc in never))
 with_keeps lives site (Some answers.Installed) =
     no_grant lives (Some site) (Some answers.Installed)
-    (λ s life g. (let is : Some answers.Installed ≡ Some (answers.Granted life g.clock g.log) = g.is in
+    (λ s life g. (let is : Some answers.Installed ≡ Some (answers.Granted (grant_with life g.clock g.log)) = g.is in
     let never : ⊥ = cc in never))
 with_keeps lives site (Some (answers.Answered told)) =
     no_grant lives (Some site) (Some (answers.Answered told))
-    (λ s life g. (let is : Some (answers.Answered told) ≡ Some (answers.Granted life g.clock g.log) = g.is in
+    (λ s life g. (let is : Some (answers.Answered told) ≡ Some (answers.Granted (grant_with life g.clock g.log)) = g.is in
     let never : ⊥ = cc in never))
 
 -- nothing else changes them

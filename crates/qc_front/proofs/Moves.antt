@@ -58,7 +58,7 @@ append_asked decl front d inv event calls round (Err e) has waits asked = tt
 append_asked decl front d inv event calls round (Ok next) has waits asked =
     ap (λ (v : Verdict). append_by decl front (drafted (views_of front.transaction) d) d.object inv event calls round v)
     waits
-    ∙ ap (λ (w : Want). goes_on front (drafted (views_of front.transaction) d)
+    ∙ ap (λ (w : ℕ → Want). goes_on front (drafted (views_of front.transaction) d)
     (Appending d.object inv event calls) w round) (want_drafted decl (views_of front.transaction) d event has)
     ∙ ap (becomes front) (sym asked)
 

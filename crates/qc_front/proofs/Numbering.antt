@@ -156,7 +156,7 @@ no_request front number to (messages.Decision tx verdict) is = refl
 no_request front number to (messages.Inquiry tx) is = refl
 no_request front number to (messages.Ask tx) is = refl
 no_request front number to (messages.Close epoch) is = refl
-no_request front number to (messages.Install epoch clock log) is = refl
+no_request front number to (messages.Install start) is = refl
 
 nobody_asked : (front : Front) (first : ℕ) (sends : List Posting) → AsksNobody sends
     → numbered_all front first sends ≡ front
@@ -169,7 +169,7 @@ nobody_asked front first (p ∷ ps) none =
 
 all_asked : (make : List Call → Doing) →
     ((cs : List Call) (number site : ℕ) → requested_in (make cs) number site ≡ make (with_call cs number site))
-    → (b : Begun) (want : Want) (front : Front) (first : ℕ) (calls : List Call) (xs : List ℕ) → front.doing ≡ make calls
+    → (b : Begun) (want : ℕ → Want) (front : Front) (first : ℕ) (calls : List Call) (xs : List ℕ) → front.doing ≡ make calls
     → numbered_all front first (map (request_of b want) xs)
     ≡ record front { doing = make (calls ++ calls_from first xs) }
 all_asked make more b want front first calls [] is =
@@ -201,7 +201,7 @@ module _ (make : List Call → Doing) (round : RoundState)
     (more : (cs : List Call) (number site : ℕ) → requested_in (make cs) number site ≡ make (with_call cs number site))
     (numbers : (cs : List Call) (first : ℕ) → numbered (make cs) first ≡ make (numbered_from cs (awaited round) first))
   where
-    told_by : (b : Begun) (want : Want) (front : Front) (first : ℕ) (calls : List Call) (sends : List Posting)
+    told_by : (b : Begun) (want : ℕ → Want) (front : Front) (first : ℕ) (calls : List Call) (sends : List Posting)
         → front.doing ≡ make calls → IsAwaiting round → AsksAll b want calls round sends
         → numbered_all front first sends ≡ sent front first
     told_by b want front first calls sends is awaits (inl quiet) =
@@ -214,7 +214,7 @@ module _ (make : List Call → Doing) (round : RoundState)
         ∙ ap (λ (d : Doing). record front { doing = d })
         (sym (ap (λ (d : Doing). numbered d first) (is ∙ ap make asks.0) ∙ numbers [] first))
 
-full_by : (b : Begun) (want : Want) (calls : List Call) (round : RoundState) (sends : List Posting) (first : ℕ)
+full_by : (b : Begun) (want : ℕ → Want) (calls : List Call) (round : RoundState) (sends : List Posting) (first : ℕ)
     → IsAwaiting round → AsksAll b want calls round sends
     → sites_called (numbered_from calls (awaited round) first) ≡ awaited round
 full_by b want calls round sends first awaits (inl quiet) =

@@ -238,8 +238,8 @@ pub read_recorded : (decl : Declaration) (t : Transaction) (site object : ℕ) (
     → RecordsHold decl (read_with t site object answer).views (read_with t site object answer).own
     (read_with t site object answer).begun.ops
 read_recorded decl t site object None h = h
-read_recorded decl t site object (Some (answers.Granted life clock log)) h =
-    granted_recorded decl (lived t site life) object log h
+read_recorded decl t site object (Some (answers.Granted grant)) h =
+    granted_recorded decl (lived t site grant.life) object grant.log h
 read_recorded decl t site object (Some (answers.Clash holder inv event)) h = h
 read_recorded decl t site object (Some (answers.Closed epoch)) h = h
 read_recorded decl t site object (Some (answers.Behind epoch)) h = h
@@ -247,7 +247,7 @@ read_recorded decl t site object (Some (answers.Restarted life)) h = h
 read_recorded decl t site object (Some answers.Stale) h = h
 read_recorded decl t site object (Some answers.Fault) h = h
 read_recorded decl t site object (Some (answers.Yes clock)) h = h
-read_recorded decl t site object (Some (answers.Shut clock log prepared)) h = h
+read_recorded decl t site object (Some (answers.Shut snapshot)) h = h
 read_recorded decl t site object (Some answers.Installed) h = h
 read_recorded decl t site object (Some (answers.Answered verdict)) h = h
 

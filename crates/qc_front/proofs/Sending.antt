@@ -34,13 +34,13 @@ module _ (decl : Declaration) (before : Front) where
   none_sent after p among = absurd among
 
   -- requests of the running `do`
-  requests_sent : (after : Front) (t : Transaction) (want : Want) (sites : List ℕ) → after.transaction ≡ Some t
-      → IsFor decl t after.doing want
+  requests_sent : (after : Front) (t : Transaction) (want : ℕ → Want) (sites : List ℕ) → after.transaction ≡ Some t
+      → ((site : ℕ) → IsFor decl t after.doing site (want site))
       → (p : Posting) → In p (map (request_of t.begun want) sites) → IsSent decl before after p.to p.message
   requests_sent after t want [] begun wants p among = absurd among
   requests_sent after t want (site ∷ sites) begun wants p (inl same) =
       subst (λ (q : Posting). IsSent decl before after q.to q.message) (sym same)
-      (record { t = t; begun = begun; tx_is = refl; epoch_is = refl; life_is = refl; wants = wants })
+      (record { t = t; begun = begun; tx_is = refl; epoch_is = refl; life_is = refl; wants = wants site })
   requests_sent after t want (site ∷ sites) begun wants p (inr later) =
       requests_sent after t want sites begun wants p later
 
@@ -48,7 +48,7 @@ module _ (decl : Declaration) (before : Front) where
       (v : Verdict) → AreSent decl before (append_by decl front t object inv event calls r v)
   append_by_sent front t object inv event calls r verdicts.Waiting =
       requests_sent (goes_on front t (Appending object inv event calls) (append_want decl t object event) r).front
-      (with_asked t (wanted r)) (append_want decl t object event) (wanted r) refl refl
+      (with_asked t (wanted r)) (append_want decl t object event) (wanted r) refl (λ site. refl)
   append_by_sent front t object inv event calls r verdicts.Met = none_sent _
   append_by_sent front t object inv event calls r (verdicts.Closed epoch site) = none_sent _
   append_by_sent front t object inv event calls r (verdicts.Clash tx site) = none_sent _
@@ -66,7 +66,7 @@ module _ (decl : Declaration) (before : Front) where
       → AreSent decl before (read_by decl front t object inv calls r v)
   read_by_sent front t object inv calls r verdicts.Waiting =
       requests_sent (goes_on front t (Reading object inv calls) (read_want object inv) r).front
-      (with_asked t (wanted r)) (read_want object inv) (wanted r) refl refl
+      (with_asked t (wanted r)) (read_want object inv) (wanted r) refl (λ site. refl)
   read_by_sent front t object inv calls r verdicts.Met = answered_sent front t object inv (answer_of decl t object inv)
   read_by_sent front t object inv calls r (verdicts.Closed epoch site) = none_sent _
   read_by_sent front t object inv calls r (verdicts.Clash tx site) = none_sent _

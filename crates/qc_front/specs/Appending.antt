@@ -12,6 +12,7 @@ use Rattle.qc_msg.specs.declared.message.Want.{Want}
 use Rattle.qc_msg.specs.declared.message.Want.TheVariants.{Read, Append}
 use Rattle.qc_msg.specs.declared.turn.Posting.{Posting}
 use Rattle.qc_msg.specs.Vocabulary.{life_of}
+use Rattle.qc_msg.specs.Vocabulary.{read_of}
 use Rattle.qc_front.specs.declared.front.Front.{Front}
 use Rattle.qc_front.specs.declared.transaction.Transaction.{Transaction}
 use Rattle.qc_front.specs.Answering.{next_own, view_log}
@@ -24,16 +25,18 @@ weighs decl epoch object l = (l.object == object) && nat_lt 0 (append_need_of de
 abbrev pub own_appended : Declaration → Transaction → ℕ → ℕ → List OwnLine
 own_appended decl t object event = filter (weighs decl t.begun.epoch object) t.own ++ next_own t object event ∷ []
 
-abbrev pub read_want : ℕ → ℕ → Want
-read_want object inv = Read object inv
+-- what a round wants of a site: the same of each
 
-abbrev pub append_want : Declaration → Transaction → ℕ → ℕ → Want
-append_want decl t object event = Append object (view_log t object) (own_appended decl t object event)
+abbrev pub read_want : ℕ → ℕ → ℕ → Want
+read_want object inv site = Read (read_of object inv)
+
+abbrev pub append_want : Declaration → Transaction → ℕ → ℕ → ℕ → Want
+append_want decl t object event site = Append object (view_log t object) (own_appended decl t object event)
 
 -- a request names the life of the site's first grant, or 0
-abbrev pub request_of : Begun → Want → ℕ → Posting
+abbrev pub request_of : Begun → (ℕ → Want) → ℕ → Posting
 request_of b want site =
-    record { to = site; message = messages.Request b.tx b.epoch (life_of b.lives site) want }
+    record { to = site; message = messages.Request b.tx b.epoch (life_of b.lives site) (want site) }
 
 -- the weights of an epoch's plan; no transaction runs in an epoch that isn't declared
 abbrev pub weights_of : Declaration → ℕ → List ℕ

@@ -5,6 +5,7 @@ use Rattle.qc_msg.specs.declared.begun.LifeAt.{LifeAt}
 use Rattle.qc_msg.specs.declared.message.Answer.{Answer}
 use Rattle.qc_msg.specs.declared.message.Answer.TheVariants.{Granted, Closed}
 use Rattle.qc_msg.specs.Vocabulary.{has_granted, life_of, site_called}
+use Rattle.qc_msg.specs.Vocabulary.{grant_with}
 use Rattle.qc_front.specs.declared.doing.Doing.{Doing}
 use Rattle.qc_front.specs.declared.doing.Doing.TheVariants.{Idle, Reading, Appending}
 use Rattle.qc_front.specs.declared.front.Front.{Front}
@@ -29,7 +30,7 @@ lives_of (Some t) = t.begun.lives
 pub record IsGrant (asked : Option ℕ) (answer : Option Answer) (site life : ℕ) : Type 0 where
   pub clock : ℕ
   pub log : List Line
-  pub is : answer ≡ Some (Granted life clock log)
+  pub is : answer ≡ Some (Granted (grant_with life clock log))
   pub counts : asked ≡ Some site
 
 -- a site becomes a participant with its first grant that counts, in the life of that, which stays
@@ -45,5 +46,5 @@ pub record Learns (before after : Front) (asked : Option ℕ) (answer : Option A
   pub clock : before.clock.value ≤ after.clock.value
   pub epoch : before.epoch ≤ after.epoch
   pub granted : (site life told : ℕ) (log : List Line) → asked ≡ Some site
-      → answer ≡ Some (Granted life told log) → told ≤ after.clock.value
+      → answer ≡ Some (Granted (grant_with life told log)) → told ≤ after.clock.value
   pub closed : (site told : ℕ) → asked ≡ Some site → answer ≡ Some (Closed told) → told ≤ after.epoch

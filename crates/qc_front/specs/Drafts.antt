@@ -10,7 +10,8 @@ use Rattle.qc_msg.specs.declared.call.Call.{Call}
 use Rattle.qc_msg.specs.declared.message.Answer.{Answer}
 use Rattle.qc_msg.specs.declared.message.Want.{Want}
 use Rattle.qc_msg.specs.declared.message.Want.TheVariants.{Append}
-use Rattle.qc_msg.specs.Vocabulary.{quiet, sending, site_called, with_life, with_site, without_call, Granting}
+use Rattle.qc_msg.specs.Vocabulary.{quiet, sending, site_called, with_life, with_site, without_call}
+use Rattle.qc_msg.specs.declared.payload.Grant.{Grant}
 use Rattle.qc_msg.specs.Vocabulary.{granted_in}
 use Rattle.qc_view.specs.declared.view.View.{View}
 use Rattle.qc_table.specs.Vocabulary.{Rules}
@@ -74,12 +75,12 @@ doomed_draft d = record d { begun = record d.begun { doomed = true } }
 
 abbrev pub read_draft : Draft → ℕ → Option Answer → Draft
 read_draft d site answer =
-    option_map_or (λ (g : Granting). granted_draft (lived_draft d site g.life) g.log)
+    option_map_or (λ (g : Grant). granted_draft (lived_draft d site g.life) g.log)
     (option_and_then granted_in answer) d
 
 abbrev pub appended_draft : Draft → ℕ → Option Answer → Draft
 appended_draft d site answer =
-    option_map_or (λ (g : Granting). lived_draft d site g.life) (option_and_then granted_in answer) d
+    option_map_or (λ (g : Grant). lived_draft d site g.life) (option_and_then granted_in answer) d
 
 -- the view's answer, and its lines
 
@@ -91,12 +92,12 @@ answer_in_draft decl d inv =
 abbrev pub log_in_draft : Draft → List Line
 log_in_draft d = option_map_or (λ (v : View). v.log) d.view []
 
--- what an append of an event carries
-abbrev pub append_want_of : Declaration → Draft → ℕ → Want
-append_want_of decl d event = Append d.object (log_in_draft d) (own_appended decl (drafted [] d) d.object event)
+-- what an append of an event carries to a site
+abbrev pub append_want_of : Declaration → Draft → ℕ → ℕ → Want
+append_want_of decl d event site = Append d.object (log_in_draft d) (own_appended decl (drafted [] d) d.object event)
 
 -- all sites that the round wants are asked at once, and the round goes on
-abbrev pub asking : Draft → (RoundState → Doing) → Want → RoundState → Next
+abbrev pub asking : Draft → (RoundState → Doing) → (ℕ → Want) → RoundState → Next
 asking d doing want round =
     let sites : List ℕ = wanted round in
     record {

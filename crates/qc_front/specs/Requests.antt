@@ -23,12 +23,12 @@ use Rattle.qc_front.specs.Conduct.{awaited, requested, sent}
 use Rattle.qc_front.specs.Front.{FrontMove}
 use Rattle.qc_front.specs.Holds.{IsNumbered, sites_called}
 
--- what the running `do` wants of sites: a Read names its object and invocation; an Append carries the object's view and
+-- what the running `do` wants of a site: a Read names its object and invocation; an Append carries the object's view and
 -- all own lines of the object that weigh, the new one last
-abbrev pub IsFor : Declaration → Transaction → Doing → Want → Type 0
-IsFor decl t Idle want = ⊥
-IsFor decl t (Reading object inv calls round) want = want ≡ read_want object inv
-IsFor decl t (Appending object inv event calls round) want = want ≡ append_want decl t object event
+abbrev pub IsFor : Declaration → Transaction → Doing → ℕ → Want → Type 0
+IsFor decl t Idle site want = ⊥
+IsFor decl t (Reading object inv calls round) site want = want ≡ read_want object inv site
+IsFor decl t (Appending object inv event calls round) site want = want ≡ append_want decl t object event site
 
 -- a request is the running `do`'s. It names its transaction, the transaction's epoch, and the life of the receiver's
 -- first grant
@@ -39,7 +39,7 @@ pub record IsRequestOf (decl : Declaration) (front : Front) (to : ℕ) (tx : TxI
   pub tx_is : tx ≡ t.begun.tx
   pub epoch_is : epoch ≡ t.begun.epoch
   pub life_is : life ≡ life_of t.begun.lives to
-  pub wants : IsFor decl t front.doing want
+  pub wants : IsFor decl t front.doing to want
 
 -- a verdict is that of the transaction that was given up, to a site that it asked
 pub record IsVerdictOf (front : Front) (to : ℕ) (tx : TxId) (verdict : Outcome) : Type 0 where
@@ -67,7 +67,7 @@ is_request message = is_some (request_in message)
 abbrev pub AsksNobody : List Posting → Type 0
 AsksNobody sends = (p : Posting) → In p sends → is_request p.message ≡ false
 
-abbrev pub AsksAll : Begun → Want → List Call → RoundState → List Posting → Type 0
+abbrev pub AsksAll : Begun → (ℕ → Want) → List Call → RoundState → List Posting → Type 0
 AsksAll b want calls round sends =
     ((sends ≡ []) × (sites_called calls ≡ awaited round))
     ⊎ ((calls ≡ []) × (sends ≡ map (request_of b want) (awaited round)))

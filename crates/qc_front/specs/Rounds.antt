@@ -24,7 +24,7 @@ abbrev pub with_asked : Transaction → List ℕ → Transaction
 with_asked t sites = record t { begun = record t.begun { asked = fold with_site t.begun.asked sites } }
 
 -- all sites that the round wants are asked at once, and the round goes on
-abbrev pub goes_on : Front → Transaction → (RoundState → Doing) → Want → RoundState → FrontMove
+abbrev pub goes_on : Front → Transaction → (RoundState → Doing) → (ℕ → Want) → RoundState → FrontMove
 goes_on front t doing want round =
     let sites : List ℕ = wanted round in
     moved (turned front (Some (with_asked t sites)) (doing (asking_all round sites)))

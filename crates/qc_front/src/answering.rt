@@ -17,7 +17,7 @@ impl Draft {
     /// The event with the invocation's first response that is legal after the
     /// object's view, or none where there is no such response or no such
     /// object.
-    pub(crate) fn answer(&self, decl: &Declaration, inv: u8) -> Option<u8>
+    pub(crate) fn event_for(&self, decl: &Declaration, inv: u8) -> Option<u8>
         ensures { result ≡ answer_in_draft decl.now self.now inv }
     {
         let table = decl.table(self.object)?;

@@ -1,7 +1,7 @@
 //! An append round, as far as it has come, and what its requests carry: the
 //! object's view and own lines (Herlihy 1986).
 
-ghost use Rattle.std.specs.Prelude.{◌≡◌, ◌<◌, [], IfOk, filter, length};
+ghost use Rattle.std.specs.Prelude.{◌≡◌, ◌<◌, ℕ, [], IfOk, filter, length};
 ghost use Rattle.qc_decl.specs.Limits.{most_transaction_operations};
 ghost use Rattle.qc_front.specs.Appending.{own_appended, weighs};
 ghost use Rattle.qc_front.specs.Drafts.{IsDraft, append_want_of, asking, becomes, drafted, views_of};
@@ -104,7 +104,7 @@ impl Draft {
     /// What an append of an event carries.
     fn append_want(&self, alloc: Global, decl: &Declaration, event: u8) -> Result<Want, OutOfMemory>
         requires { length self.now.begun.ops < most_transaction_operations }
-        ensures { IfOk result (λ want. want ≡ append_want_of decl.now self.now event) }
+        ensures { IfOk result (λ want. (site : ℕ) → want ≡ append_want_of decl.now self.now event site) }
     {
         Ok(Want::Append {
             object: self.object,

@@ -1,6 +1,6 @@
 //! How sites are asked: all that a round wants at once.
 
-ghost use Rattle.std.specs.Prelude.{◌≡◌, ◌<◌, IfOk, OnOk, fold, map};
+ghost use Rattle.std.specs.Prelude.{◌≡◌, ◌<◌, ℕ, IfOk, OnOk, fold, map};
 ghost use Rattle.qc_decl.specs.Accepted.{IsAccepted};
 ghost use Rattle.qc_decl.specs.Actors.{first_site};
 ghost use Rattle.qc_front.specs.Appending.{request_of, weights_of};
@@ -57,7 +57,7 @@ impl Draft {
         ensures draft { OnOk result (self.new ≡ asked_draft self.old (wanted round.old)) }
         ensures round { OnOk result (round.new ≡ asking_all round.old (wanted round.old)) }
         ensures turn { IfOk result
-            (λ turn. turn ≡ sending (map (request_of self.old.begun want.now) (wanted round.old))) }
+            (λ turn. turn ≡ sending (map (request_of self.old.begun (λ (site : ℕ). want.now)) (wanted round.old))) }
     {
         let sites = ask_all(alloc, round)?;
         let sends = requests(alloc, &self.begun, want, &sites)?;
@@ -82,7 +82,7 @@ fn ask_all(alloc: Global, round: &mut Round) -> Result<Sites, OutOfMemory>
 /// A request for the same to each of the sites; each names the life of the
 /// site's first grant, or 0.
 fn requests(alloc: Global, begun: &Begun, want: &Want, sites: &Sites) -> Result<Sends, OutOfMemory>
-    ensures { IfOk result (λ sends. sends ≡ map (request_of begun.now want.now) sites.now) }
+    ensures { IfOk result (λ sends. sends ≡ map (request_of begun.now (λ (site : ℕ). want.now)) sites.now) }
 {
     let mut sends = List::new(alloc);
     for site in sites.items() {
@@ -93,7 +93,7 @@ fn requests(alloc: Global, begun: &Begun, want: &Want, sites: &Sites) -> Result<
 
 /// The request to a site.
 fn request(begun: &Begun, want: Want, site: u8) -> Posting
-    ensures { result ≡ request_of begun.now want site }
+    ensures { result ≡ request_of begun.now (λ (site : ℕ). want) site }
 {
     Posting {
         to: site,

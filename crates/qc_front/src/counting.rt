@@ -20,7 +20,7 @@ impl Front {
         ensures { self.new ≡ learns self.old (option_copied answer.entry) }
     {
         match answer {
-            Some(Answer::Granted { clock, .. }) => self.clock.pass(*clock),
+            Some(Answer::Granted(grant)) => self.clock.pass(grant.clock),
             Some(Answer::Closed { epoch }) => self.epoch = self.epoch.max(*epoch),
             _ => {}
         }
@@ -39,9 +39,9 @@ impl Transaction {
         ensures { IfOk result (λ d. d ≡ read_draft (draft_of self.now object) site (option_copied answer.entry)) }
     {
         let mut draft = self.draft(object)?;
-        if let Some(Answer::Granted { life, log, .. }) = answer {
-            draft.live(site, *life)?;
-            draft.join(log)?;
+        if let Some(Answer::Granted(grant)) = answer {
+            draft.live(site, grant.life)?;
+            draft.join(&grant.log)?;
         }
         Ok(draft)
     }
@@ -56,8 +56,8 @@ impl Transaction {
         ensures { IfOk result (λ d. d ≡ appended_draft (draft_of self.now object) site (option_copied answer.entry)) }
     {
         let mut draft = self.draft(object)?;
-        if let Some(Answer::Granted { life, .. }) = answer {
-            draft.live(site, *life)?;
+        if let Some(Answer::Granted(grant)) = answer {
+            draft.live(site, grant.life)?;
         }
         Ok(draft)
     }
@@ -110,7 +110,7 @@ fn standing_of(answer: Option<&Answer>) -> Standing
     ensures { result ≡ standing_of (option_copied answer.entry) }
 {
     match answer {
-        Some(Answer::Granted { .. }) => Standing::Granted,
+        Some(Answer::Granted(_)) => Standing::Granted,
         Some(Answer::Clash { holder, .. }) => Standing::Clash { tx: *holder },
         Some(Answer::Closed { epoch }) => Standing::Closed { epoch: *epoch },
         _ => Standing::Missing,

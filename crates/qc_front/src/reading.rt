@@ -17,7 +17,7 @@ use crate::next::Next;
 use crate::transaction::Transaction;
 use qc_decl::{Declaration, MOST_TRANSACTION_OPERATIONS};
 use qc_list::OutOfMemory;
-use qc_msg::{Calls, Half, Reply, Turn, Want};
+use qc_msg::{Calls, Half, ReadRequest, Reply, Turn, Want};
 use qc_plan::Verdict;
 use std::alloc::Global;
 
@@ -117,7 +117,7 @@ impl Front {
         ensures { IfOk result (λ next. answered decl.now self.now (drafted (views_of self.now.transaction) draft)
             draft.object inv (answer_in_draft decl.now draft inv) ≡ becomes self.now next) }
     {
-        let Some(event) = draft.answer(decl, inv) else {
+        let Some(event) = draft.event_for(decl, inv) else {
             draft.add_op(inv, None)?;
             return Ok(Next::telling(alloc, draft, Reply::Absent));
         };
@@ -140,7 +140,8 @@ fn ask_to_read(
 {
     let OpenRound { calls, mut round } = open;
     let object = draft.object;
-    let turn = draft.ask(alloc, &Want::Read { object, inv }, &mut round)?;
+    let want = Want::Read(ReadRequest { object, inv });
+    let turn = draft.ask(alloc, &want, &mut round)?;
     let doing = Doing::Reading {
         object,
         inv,

@@ -21,7 +21,7 @@ use std::alloc::Global;
 impl Front {
     /// What the front end does for the answer to its request of this number,
     /// or where that is lost. After want of memory it is as it was.
-    pub fn answer(
+    pub fn hear_answer(
         &mut self,
         alloc: Global,
         decl: &Declaration,
@@ -34,7 +34,7 @@ impl Front {
             ≡ moved self.new turn) }
         ensures err { OnErr result (self.new ≡ self.old) }
     {
-        let Some(next) = self.next(alloc, decl, number, answer)? else {
+        let Some(next) = self.becomes(alloc, decl, number, answer)? else {
             return Ok(Turn::quiet(alloc));
         };
         let turn = self.turn_to(alloc, next);
@@ -43,7 +43,7 @@ impl Front {
     }
 
     /// What the front end becomes, where this counts.
-    fn next(
+    fn becomes(
         &self,
         alloc: Global,
         decl: &Declaration,

@@ -76,7 +76,7 @@ answers_wait i (messages.Decision tx verdict) f = same_waits i
 answers_wait i (messages.Inquiry tx) f = same_waits i
 answers_wait i (messages.Ask tx) f = same_waits i
 answers_wait i (messages.Close epoch) f = same_waits i
-answers_wait i (messages.Install epoch clock log) f = same_waits i
+answers_wait i (messages.Install start) f = same_waits i
 
 every_copy : (P : Envelope → Type 0) (f : Fate) (e : Envelope) → P e → Every P (copies_at_once f e)
 every_copy P fates.Pass e is = (is, tt)

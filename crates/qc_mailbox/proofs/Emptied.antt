@@ -44,7 +44,7 @@ answers_emptied i (messages.Decision tx verdict) f e = e
 answers_emptied i (messages.Inquiry tx) f e = e
 answers_emptied i (messages.Ask tx) f e = e
 answers_emptied i (messages.Close epoch) f e = e
-answers_emptied i (messages.Install epoch clock log) f e = e
+answers_emptied i (messages.Install start) f e = e
 
 copies_emptied : (up : Bool) (i : Inbox) (e : Envelope) (f : Fate) → up ≡ false → IsEmptied i
     → IsEmptied (with_copies up i e f)

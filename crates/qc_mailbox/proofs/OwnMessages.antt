@@ -112,7 +112,7 @@ module _ (ms : List Envelope) (a : ℕ) where
   owns_answers i (messages.Inquiry tx) f o = o
   owns_answers i (messages.Ask tx) f o = o
   owns_answers i (messages.Close epoch) f o = o
-  owns_answers i (messages.Install epoch clock log) f o = o
+  owns_answers i (messages.Install start) f o = o
 
   owns_comes : (links : List Link) (i : Inbox) (e : Envelope) → Owns ms a i → Owns ms a (comes links a i e)
   owns_comes links i e o =

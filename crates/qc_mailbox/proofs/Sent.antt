@@ -39,7 +39,7 @@ answers_keep i (messages.Decision tx verdict) f = same i
 answers_keep i (messages.Inquiry tx) f = same i
 answers_keep i (messages.Ask tx) f = same i
 answers_keep i (messages.Close epoch) f = same i
-answers_keep i (messages.Install epoch clock log) f = same i
+answers_keep i (messages.Install start) f = same i
 
 sent_keeps : (i : Inbox) (number to : ℕ) (f : Fate) → Keeps i (request_sent i number to f)
 sent_keeps i number to f =

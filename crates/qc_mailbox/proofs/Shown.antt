@@ -79,7 +79,7 @@ answers_shown calls i (messages.Decision tx verdict) f = refl
 answers_shown calls i (messages.Inquiry tx) f = refl
 answers_shown calls i (messages.Ask tx) f = refl
 answers_shown calls i (messages.Close epoch) f = refl
-answers_shown calls i (messages.Install epoch clock log) f = refl
+answers_shown calls i (messages.Install start) f = refl
 
 pub comes_shown : (calls : ℕ) (up : Bool) (i : Inbox) (e : Envelope) (f : Fate)
     → tray_of calls (comes_with up i e f) ≡ tray_comes up (tray_of calls i) e.number e.message f

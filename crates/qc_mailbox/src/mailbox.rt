@@ -58,7 +58,7 @@ impl Mailbox {
     }
 
     /// What is ready next, for an actor that takes commands or doesn't.
-    pub(crate) fn next(&self, takes_commands: bool) -> Option<ReadyInput>
+    pub(crate) fn ready_input(&self, takes_commands: bool) -> Option<ReadyInput>
         ensures { result ≡ next_in takes_commands (tray self.now) }
     {
         if let Some(number) = self.copies.first() {
@@ -175,7 +175,7 @@ impl Mailbox {
             | Message::Inquiry { .. }
             | Message::Ask { .. }
             | Message::Close { .. }
-            | Message::Install { .. } => {}
+            | Message::Install(_) => {}
         }
     }
 
@@ -280,7 +280,7 @@ fn is_request(message: &Message) -> bool
         Message::Request { .. }
         | Message::Ask { .. }
         | Message::Close { .. }
-        | Message::Install { .. } => true,
+        | Message::Install(_) => true,
         Message::Answer { .. } | Message::Decision { .. } | Message::Inquiry { .. } => false,
     }
 }

@@ -88,11 +88,11 @@ impl Mailboxes {
 
     /// What is ready next for an actor that takes commands or doesn't, where the
     /// phase's control lines have acted.
-    pub(crate) fn next(&self, actor: u8, takes_commands: bool) -> Option<ReadyInput>
+    pub(crate) fn ready_for(&self, actor: u8, takes_commands: bool) -> Option<ReadyInput>
         requires { actor < most_actors }
         ensures { result ≡ next_in takes_commands (tray_at self.now.inboxes.trays actor) }
     {
-        self.boxes[actor as usize].next(takes_commands)
+        self.boxes[actor as usize].ready_input(takes_commands)
     }
 
     /// The first control line left of the phase.

@@ -84,7 +84,7 @@ impl Mailboxes {
     {
         match self.next_control() {
             Some(_) => None,
-            None => self.next(actor, takes_commands(decl, actor)),
+            None => self.ready_for(actor, takes_commands(decl, actor)),
         }
     }
 

@@ -14,7 +14,10 @@ use Rattle.qc_msg.specs.declared.record.Record.{Record}
 use Rattle.qc_msg.specs.declared.record.Record.TheVariants as records
 use Rattle.qc_msg.specs.declared.step.Step.{Step}
 use Rattle.qc_msg.specs.Steps.{Entry}
-use Rattle.qc_msg.specs.Readings.{Answered, Granting, Installing, Requested, Shutting, answer_in, decide_in, granted_in}
+use Rattle.qc_msg.specs.Readings.{Answered, Requested, answer_in, decide_in, granted_in}
+use Rattle.qc_msg.specs.declared.payload.EpochStart.{EpochStart}
+use Rattle.qc_msg.specs.declared.payload.Snapshot.{Snapshot}
+use Rattle.qc_msg.specs.declared.payload.Grant.{Grant}
 use Rattle.qc_msg.specs.Readings.{install_in, installing_in, prepare_in, request_in, shut_in}
 use Rattle.qc_msg.specs.StepReadings.{Mailed, mailed_in, rose_in, wrote_in}
 
@@ -29,9 +32,9 @@ commit_of records.Life = None
 commit_of (records.Prepare prepared) = None
 commit_of (records.Done tx clock) = None
 commit_of (records.Close epoch) = None
-commit_of (records.Install epoch clock lines) = None
+commit_of (records.Install start) = None
 commit_of (records.Commit commit) = Some commit
-commit_of (records.Decide epoch clock lines) = None
+commit_of (records.Decide start) = None
 
 abbrev pub commit_in : Step → Option Commit
 commit_in step = option_and_then (λ (written : Record). commit_of written) (wrote_in step)
@@ -90,7 +93,7 @@ IsNoRise step = MatchOption (rose_in step) (Unit {0}) (λ (x : List Record). ⊥
 -- the lines that a message carries in its logs, and in the promises of a closed site; own lines aren't counted
 
 abbrev pub lines_wanted : Want → ℕ
-lines_wanted (wants.Read object inv) = 0
+lines_wanted (wants.Read read) = 0
 lines_wanted (wants.Append object view own) = length view
 lines_wanted wants.Prepare = 0
 
@@ -99,21 +102,21 @@ lines_promised prepared = sum_by (λ p. length p.lines) prepared
 
 abbrev pub lines_answered : Answer → ℕ
 lines_answered answer =
-    option_map_or (λ (g : Granting). length g.log) (granted_in answer)
-    (option_map_or (λ (z : Shutting). length z.log + lines_promised z.prepared) (shut_in answer) 0)
+    option_map_or (λ (g : Grant). length g.log) (granted_in answer)
+    (option_map_or (λ (z : Snapshot). length z.log + lines_promised z.prepared) (shut_in answer) 0)
 
 abbrev pub lines_in : Message → ℕ
 lines_in message =
     option_map_or (λ (q : Requested). lines_wanted q.want) (request_in message)
     (option_map_or (λ (a : Answered). lines_answered a.answer) (answer_in message)
-    (option_map_or (λ (i : Installing). length i.lines) (installing_in message) 0))
+    (option_map_or (λ (i : EpochStart). length i.lines) (installing_in message) 0))
 
 -- the lines that a record has
 abbrev pub lines_recorded : Record → ℕ
 lines_recorded written =
     option_map_or (λ (prepared : Prepared). length prepared.lines) (prepare_in written)
-    (option_map_or (λ (i : Installing). length i.lines) (install_in written)
-    (option_map_or (λ (i : Installing). length i.lines) (decide_in written) 0))
+    (option_map_or (λ (i : EpochStart). length i.lines) (install_in written)
+    (option_map_or (λ (i : EpochStart). length i.lines) (decide_in written) 0))
 
 -- what a record counts in a rise: about the room of four lines, and its lines
 abbrev pub carried_in : Record → ℕ

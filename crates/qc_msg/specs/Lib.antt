@@ -6,6 +6,7 @@ pub mod Counts
 pub mod Fallen
 pub mod Calls
 pub mod Begun
+pub mod Payloads
 pub mod Readings
 pub mod InputReadings
 pub mod StepReadings

@@ -11,6 +11,9 @@ use Rattle.qc_msg.specs.declared.message.Message.{Message}
 use Rattle.qc_msg.specs.declared.message.Message.TheVariants as messages
 use Rattle.qc_msg.specs.declared.message.Outcome.{Outcome}
 use Rattle.qc_msg.specs.declared.message.Want.{Want}
+use Rattle.qc_msg.specs.declared.payload.EpochStart.{EpochStart}
+use Rattle.qc_msg.specs.declared.payload.Grant.{Grant}
+use Rattle.qc_msg.specs.declared.payload.Snapshot.{Snapshot}
 use Rattle.qc_msg.specs.declared.record.Record.{Record}
 use Rattle.qc_msg.specs.declared.record.Record.TheVariants as journals
 use Rattle.qc_msg.specs.declared.step.Command.{Command}
@@ -35,7 +38,7 @@ request_in (messages.Decision tx verdict) = None
 request_in (messages.Inquiry tx) = None
 request_in (messages.Ask tx) = None
 request_in (messages.Close epoch) = None
-request_in (messages.Install epoch clock log) = None
+request_in (messages.Install start) = None
 
 pub record Answered : Type 0 where
   pub to : ℕ
@@ -48,7 +51,7 @@ answer_in (messages.Decision tx verdict) = None
 answer_in (messages.Inquiry tx) = None
 answer_in (messages.Ask tx) = None
 answer_in (messages.Close epoch) = None
-answer_in (messages.Install epoch clock log) = None
+answer_in (messages.Install start) = None
 
 pub record Decided : Type 0 where
   pub tx : TxId
@@ -61,7 +64,7 @@ decision_in (messages.Decision tx verdict) = Some (record { tx = tx; verdict = v
 decision_in (messages.Inquiry tx) = None
 decision_in (messages.Ask tx) = None
 decision_in (messages.Close epoch) = None
-decision_in (messages.Install epoch clock log) = None
+decision_in (messages.Install start) = None
 
 abbrev pub closing_in : Message → Option ℕ
 closing_in (messages.Request tx epoch life want) = None
@@ -70,32 +73,22 @@ closing_in (messages.Decision tx verdict) = None
 closing_in (messages.Inquiry tx) = None
 closing_in (messages.Ask tx) = None
 closing_in (messages.Close epoch) = Some epoch
-closing_in (messages.Install epoch clock log) = None
+closing_in (messages.Install start) = None
 
-pub record Installing : Type 0 where
-  pub epoch : ℕ
-  pub clock : ℕ
-  pub lines : List Line
-
-abbrev pub installing_in : Message → Option Installing
+abbrev pub installing_in : Message → Option EpochStart
 installing_in (messages.Request tx epoch life want) = None
 installing_in (messages.Answer to answer) = None
 installing_in (messages.Decision tx verdict) = None
 installing_in (messages.Inquiry tx) = None
 installing_in (messages.Ask tx) = None
 installing_in (messages.Close epoch) = None
-installing_in (messages.Install epoch clock log) = Some (record { epoch = epoch; clock = clock; lines = log })
+installing_in (messages.Install start) = Some start
 
 -- of an answer: a grant, a promise with its clock, the epoch that another one closed, who holds what conflicts, what a
 -- closed site tells, that an epoch is installed, how a transaction stands
 
-pub record Granting : Type 0 where
-  pub life : ℕ
-  pub clock : ℕ
-  pub log : List Line
-
-abbrev pub granted_in : Answer → Option Granting
-granted_in (answers.Granted life clock log) = Some (record { life = life; clock = clock; log = log })
+abbrev pub granted_in : Answer → Option Grant
+granted_in (answers.Granted grant) = Some grant
 granted_in (answers.Clash holder inv event) = None
 granted_in (answers.Closed epoch) = None
 granted_in (answers.Behind epoch) = None
@@ -103,12 +96,12 @@ granted_in (answers.Restarted life) = None
 granted_in answers.Stale = None
 granted_in answers.Fault = None
 granted_in (answers.Yes clock) = None
-granted_in (answers.Shut clock log prepared) = None
+granted_in (answers.Shut snapshot) = None
 granted_in answers.Installed = None
 granted_in (answers.Answered verdict) = None
 
 abbrev pub promised_in : Answer → Option ℕ
-promised_in (answers.Granted life clock log) = None
+promised_in (answers.Granted grant) = None
 promised_in (answers.Clash holder inv event) = None
 promised_in (answers.Closed epoch) = None
 promised_in (answers.Behind epoch) = None
@@ -116,12 +109,12 @@ promised_in (answers.Restarted life) = None
 promised_in answers.Stale = None
 promised_in answers.Fault = None
 promised_in (answers.Yes clock) = Some clock
-promised_in (answers.Shut clock log prepared) = None
+promised_in (answers.Shut snapshot) = None
 promised_in answers.Installed = None
 promised_in (answers.Answered verdict) = None
 
 abbrev pub closed_in : Answer → Option ℕ
-closed_in (answers.Granted life clock log) = None
+closed_in (answers.Granted grant) = None
 closed_in (answers.Clash holder inv event) = None
 closed_in (answers.Closed epoch) = Some epoch
 closed_in (answers.Behind epoch) = None
@@ -129,7 +122,7 @@ closed_in (answers.Restarted life) = None
 closed_in answers.Stale = None
 closed_in answers.Fault = None
 closed_in (answers.Yes clock) = None
-closed_in (answers.Shut clock log prepared) = None
+closed_in (answers.Shut snapshot) = None
 closed_in answers.Installed = None
 closed_in (answers.Answered verdict) = None
 
@@ -139,7 +132,7 @@ pub record Clashing : Type 0 where
   pub event : ℕ
 
 abbrev pub clash_in : Answer → Option Clashing
-clash_in (answers.Granted life clock log) = None
+clash_in (answers.Granted grant) = None
 clash_in (answers.Clash holder inv event) = Some (record { holder = holder; inv = inv; event = event })
 clash_in (answers.Closed epoch) = None
 clash_in (answers.Behind epoch) = None
@@ -147,17 +140,12 @@ clash_in (answers.Restarted life) = None
 clash_in answers.Stale = None
 clash_in answers.Fault = None
 clash_in (answers.Yes clock) = None
-clash_in (answers.Shut clock log prepared) = None
+clash_in (answers.Shut snapshot) = None
 clash_in answers.Installed = None
 clash_in (answers.Answered verdict) = None
 
-pub record Shutting : Type 0 where
-  pub clock : ℕ
-  pub log : List Line
-  pub prepared : List Prepared
-
-abbrev pub shut_in : Answer → Option Shutting
-shut_in (answers.Granted life clock log) = None
+abbrev pub shut_in : Answer → Option Snapshot
+shut_in (answers.Granted grant) = None
 shut_in (answers.Clash holder inv event) = None
 shut_in (answers.Closed epoch) = None
 shut_in (answers.Behind epoch) = None
@@ -165,12 +153,12 @@ shut_in (answers.Restarted life) = None
 shut_in answers.Stale = None
 shut_in answers.Fault = None
 shut_in (answers.Yes clock) = None
-shut_in (answers.Shut clock log prepared) = Some (record { clock = clock; log = log; prepared = prepared })
+shut_in (answers.Shut snapshot) = Some snapshot
 shut_in answers.Installed = None
 shut_in (answers.Answered verdict) = None
 
 abbrev pub has_installed : Answer → Bool
-has_installed (answers.Granted life clock log) = false
+has_installed (answers.Granted grant) = false
 has_installed (answers.Clash holder inv event) = false
 has_installed (answers.Closed epoch) = false
 has_installed (answers.Behind epoch) = false
@@ -178,12 +166,12 @@ has_installed (answers.Restarted life) = false
 has_installed answers.Stale = false
 has_installed answers.Fault = false
 has_installed (answers.Yes clock) = false
-has_installed (answers.Shut clock log prepared) = false
+has_installed (answers.Shut snapshot) = false
 has_installed answers.Installed = true
 has_installed (answers.Answered verdict) = false
 
 abbrev pub verdict_in : Answer → Option Outcome
-verdict_in (answers.Granted life clock log) = None
+verdict_in (answers.Granted grant) = None
 verdict_in (answers.Clash holder inv event) = None
 verdict_in (answers.Closed epoch) = None
 verdict_in (answers.Behind epoch) = None
@@ -191,7 +179,7 @@ verdict_in (answers.Restarted life) = None
 verdict_in answers.Stale = None
 verdict_in answers.Fault = None
 verdict_in (answers.Yes clock) = None
-verdict_in (answers.Shut clock log prepared) = None
+verdict_in (answers.Shut snapshot) = None
 verdict_in answers.Installed = None
 verdict_in (answers.Answered verdict) = Some verdict
 
@@ -203,18 +191,18 @@ is_life journals.Life = true
 is_life (journals.Prepare prepared) = false
 is_life (journals.Done tx clock) = false
 is_life (journals.Close epoch) = false
-is_life (journals.Install epoch clock lines) = false
+is_life (journals.Install start) = false
 is_life (journals.Commit commit) = false
-is_life (journals.Decide epoch clock lines) = false
+is_life (journals.Decide start) = false
 
 abbrev pub prepare_in : Record → Option Prepared
 prepare_in journals.Life = None
 prepare_in (journals.Prepare prepared) = Some prepared
 prepare_in (journals.Done tx clock) = None
 prepare_in (journals.Close epoch) = None
-prepare_in (journals.Install epoch clock lines) = None
+prepare_in (journals.Install start) = None
 prepare_in (journals.Commit commit) = None
-prepare_in (journals.Decide epoch clock lines) = None
+prepare_in (journals.Decide start) = None
 
 pub record Finished : Type 0 where
   pub tx : TxId
@@ -225,36 +213,36 @@ done_in journals.Life = None
 done_in (journals.Prepare prepared) = None
 done_in (journals.Done tx clock) = Some (record { tx = tx; clock = clock })
 done_in (journals.Close epoch) = None
-done_in (journals.Install epoch clock lines) = None
+done_in (journals.Install start) = None
 done_in (journals.Commit commit) = None
-done_in (journals.Decide epoch clock lines) = None
+done_in (journals.Decide start) = None
 
 abbrev pub close_in : Record → Option ℕ
 close_in journals.Life = None
 close_in (journals.Prepare prepared) = None
 close_in (journals.Done tx clock) = None
 close_in (journals.Close epoch) = Some epoch
-close_in (journals.Install epoch clock lines) = None
+close_in (journals.Install start) = None
 close_in (journals.Commit commit) = None
-close_in (journals.Decide epoch clock lines) = None
+close_in (journals.Decide start) = None
 
-abbrev pub install_in : Record → Option Installing
+abbrev pub install_in : Record → Option EpochStart
 install_in journals.Life = None
 install_in (journals.Prepare prepared) = None
 install_in (journals.Done tx clock) = None
 install_in (journals.Close epoch) = None
-install_in (journals.Install epoch clock lines) = Some (record { epoch = epoch; clock = clock; lines = lines })
+install_in (journals.Install start) = Some start
 install_in (journals.Commit commit) = None
-install_in (journals.Decide epoch clock lines) = None
+install_in (journals.Decide start) = None
 
-abbrev pub decide_in : Record → Option Installing
+abbrev pub decide_in : Record → Option EpochStart
 decide_in journals.Life = None
 decide_in (journals.Prepare prepared) = None
 decide_in (journals.Done tx clock) = None
 decide_in (journals.Close epoch) = None
-decide_in (journals.Install epoch clock lines) = None
+decide_in (journals.Install start) = None
 decide_in (journals.Commit commit) = None
-decide_in (journals.Decide epoch clock lines) = Some (record { epoch = epoch; clock = clock; lines = lines })
+decide_in (journals.Decide start) = Some start
 
 -- of a message of the administrator: the transaction that is asked about
 
@@ -265,7 +253,7 @@ asking_in (messages.Decision tx verdict) = None
 asking_in (messages.Inquiry tx) = None
 asking_in (messages.Ask tx) = Some tx
 asking_in (messages.Close epoch) = None
-asking_in (messages.Install epoch clock log) = None
+asking_in (messages.Install start) = None
 
 -- and of a site's: the transaction that is inquired about
 
@@ -276,7 +264,7 @@ inquiry_in (messages.Decision tx verdict) = None
 inquiry_in (messages.Inquiry tx) = Some tx
 inquiry_in (messages.Ask tx) = None
 inquiry_in (messages.Close epoch) = None
-inquiry_in (messages.Install epoch clock log) = None
+inquiry_in (messages.Install start) = None
 
 -- whether who sends it waits for an answer
 
@@ -287,4 +275,4 @@ wants_answer (messages.Decision tx verdict) = false
 wants_answer (messages.Inquiry tx) = false
 wants_answer (messages.Ask tx) = true
 wants_answer (messages.Close epoch) = true
-wants_answer (messages.Install epoch clock log) = true
+wants_answer (messages.Install start) = true

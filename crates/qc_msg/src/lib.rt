@@ -27,6 +27,7 @@ mod call;
 mod history;
 mod laws;
 mod message;
+mod payload;
 mod record;
 mod reply;
 mod step;
@@ -40,7 +41,8 @@ pub use history::History;
 pub use laws::{
     deeds_go_on, operations_are_those_of_records, operations_go_on, records_that_rise_count_once,
 };
-pub use message::{Answer, Envelope, Message, Outcome, PreparedList, Want};
+pub use message::{Answer, Envelope, Message, Outcome, Want};
+pub use payload::{EpochStart, Grant, PreparedList, ReadRequest, Snapshot};
 pub use record::{Record, Records};
 pub use reply::{AbortCause, Half, Reply};
 pub use step::{Command, Control, Entry, Fall, Input, Quantity, Step};

@@ -4,10 +4,11 @@
 //! answered in another, so that a request's epoch and life are tested in one
 //! place, and a refusal is one case.
 
-ghost use Rattle.std.specs.Prelude.{◌≡◌, ◌++◌, ◌∷◌, [], IfOk};
+ghost use Rattle.std.specs.Prelude.{◌≡◌, IfOk};
 
-use qc_entry::{Log, Owns, Prepared};
-use qc_list::{List, OutOfMemory};
+use crate::payload::{EpochStart, Grant, ReadRequest, Snapshot};
+use qc_entry::{Log, Owns};
+use qc_list::OutOfMemory;
 use qc_stamp::{Stamp, TxId};
 use std::alloc::Global;
 
@@ -27,7 +28,7 @@ pub enum Outcome {
 pub enum Want {
     /// The site's lines of an object, and a lock for what the invocation
     /// reads.
-    Read { object: u8, inv: u8 },
+    Read(ReadRequest),
     /// That the site keeps the client's view of an object, and holds these own
     /// lines of it.
     Append { object: u8, view: Log, own: Owns },
@@ -41,10 +42,7 @@ impl Want {
         ensures { IfOk result (λ w. w ≡ self.now) }
     {
         match self {
-            Want::Read { object, inv } => Ok(Want::Read {
-                object: *object,
-                inv: *inv,
-            }),
+            Want::Read(read) => Ok(Want::Read(*read)),
             Want::Append { object, view, own } => Ok(Want::Append {
                 object: *object,
                 view: view.copy()?,
@@ -55,61 +53,34 @@ impl Want {
     }
 }
 
-/// The transactions that a site has promised to keep, in the order of its
-/// promises.
-pub type PreparedList = List<Prepared>;
-
 /// What a request is answered.
 #[derive(Drop)]
 pub enum Answer {
-    /// A Read is granted, with the site's lines of its object, or an Append,
-    /// with none. It tells the site's life and clock.
-    Granted {
-        life: u32,
-        clock: u64,
-        log: Log,
-    },
+    /// A Read or an Append is granted.
+    Granted(Grant),
     /// Another transaction holds what conflicts: this invocation depends on
     /// this event.
-    Clash {
-        holder: TxId,
-        inv: u8,
-        event: u8,
-    },
+    Clash { holder: TxId, inv: u8, event: u8 },
     /// The request's epoch is closed, and the site is in this one or closed
     /// for it.
-    Closed {
-        epoch: u8,
-    },
+    Closed { epoch: u8 },
     /// The site is in this epoch, an earlier one than the request's.
-    Behind {
-        epoch: u8,
-    },
+    Behind { epoch: u8 },
     /// The site isn't in the life that the request names, but in this one.
-    Restarted {
-        life: u32,
-    },
+    Restarted { life: u32 },
     /// The site holds nothing of the transaction that it is to prepare, or
     /// more than a record can keep.
     Stale,
     /// The site couldn't write its record.
     Fault,
     /// The site promises. It tells its clock.
-    Yes {
-        clock: u64,
-    },
-    /// The site has closed its epoch, with this clock, log and promises.
-    Shut {
-        clock: u64,
-        log: Log,
-        prepared: PreparedList,
-    },
+    Yes { clock: u64 },
+    /// The site has closed its epoch.
+    Shut(Snapshot),
     /// The site is in the epoch that it was to install, or in a later one.
     Installed,
     /// How the transaction stands.
-    Answered {
-        verdict: Outcome,
-    },
+    Answered { verdict: Outcome },
 }
 
 impl Answer {
@@ -118,11 +89,7 @@ impl Answer {
         ensures { IfOk result (λ a. a ≡ self.now) }
     {
         match self {
-            Answer::Granted { life, clock, log } => Ok(Answer::Granted {
-                life: *life,
-                clock: *clock,
-                log: log.copy()?,
-            }),
+            Answer::Granted(grant) => Ok(Answer::Granted(grant.copy()?)),
             Answer::Clash { holder, inv, event } => Ok(Answer::Clash {
                 holder: *holder,
                 inv: *inv,
@@ -134,30 +101,11 @@ impl Answer {
             Answer::Stale => Ok(Answer::Stale),
             Answer::Fault => Ok(Answer::Fault),
             Answer::Yes { clock } => Ok(Answer::Yes { clock: *clock }),
-            Answer::Shut {
-                clock,
-                log,
-                prepared,
-            } => Ok(Answer::Shut {
-                clock: *clock,
-                log: log.copy()?,
-                prepared: copy_prepared(alloc, prepared)?,
-            }),
+            Answer::Shut(snapshot) => Ok(Answer::Shut(snapshot.copy(alloc)?)),
             Answer::Installed => Ok(Answer::Installed),
             Answer::Answered { verdict } => Ok(Answer::Answered { verdict: *verdict }),
         }
     }
-}
-
-/// The same promises, in memory of their own.
-fn copy_prepared(alloc: Global, prepared: &PreparedList) -> Result<PreparedList, OutOfMemory>
-    ensures { IfOk result (λ p. p ≡ prepared.now) }
-{
-    let mut copy = List::new(alloc);
-    for promise in prepared.items() {
-        copy.push(promise.copy()?)?;
-    }
-    Ok(copy)
 }
 
 /// A message.
@@ -193,13 +141,8 @@ pub enum Message {
     Close {
         epoch: u8,
     },
-    /// The administrator asks a site to begin this epoch with this clock and
-    /// log.
-    Install {
-        epoch: u8,
-        clock: u64,
-        log: Log,
-    },
+    /// The administrator asks a site to begin an epoch.
+    Install(EpochStart),
 }
 
 impl Message {
@@ -230,11 +173,7 @@ impl Message {
             Message::Inquiry { tx } => Ok(Message::Inquiry { tx: *tx }),
             Message::Ask { tx } => Ok(Message::Ask { tx: *tx }),
             Message::Close { epoch } => Ok(Message::Close { epoch: *epoch }),
-            Message::Install { epoch, clock, log } => Ok(Message::Install {
-                epoch: *epoch,
-                clock: *clock,
-                log: log.copy()?,
-            }),
+            Message::Install(start) => Ok(Message::Install(start.copy()?)),
         }
     }
 }

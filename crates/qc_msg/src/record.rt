@@ -1,7 +1,8 @@
 //! Records of an actor's journal (presumed abort: each is forced before the
 //! message that it stands for).
 
-use qc_entry::{Commit, Log, Prepared};
+use crate::payload::EpochStart;
+use qc_entry::{Commit, Prepared};
 use qc_list::List;
 use qc_stamp::TxId;
 
@@ -17,13 +18,12 @@ pub enum Record {
     Done { tx: TxId, clock: u64 },
     /// A site closed its epoch for this one, and begins a new life.
     Close { epoch: u8 },
-    /// A site began this epoch, with this clock and these lines.
-    Install { epoch: u8, clock: u64, lines: Log },
+    /// A site began an epoch.
+    Install(EpochStart),
     /// A client's transaction committed.
     Commit(Commit),
-    /// The administrator decided that this epoch begins with this clock and
-    /// these lines.
-    Decide { epoch: u8, clock: u64, lines: Log },
+    /// The administrator decided what an epoch begins with.
+    Decide(EpochStart),
 }
 
 /// Records in the order of a journal.

@@ -5,19 +5,17 @@ ghost use Rattle.qc_decl.specs.Actors.{actors};
 ghost use Rattle.qc_pass.specs.Made.{IsNew};
 ghost use Rattle.qc_pass.specs.Tokens.{number};
 ghost use Rattle.qc_process.specs.Stored.{IsProcess};
-ghost use Rattle.qc_node.specs.Runnable.{IsRunnable};
 ghost use Rattle.qc_node.specs.Cells.{IsTurn};
 
 use crate::ends::TurnEnd;
-use crate::rules::Rules;
-use qc_decl::Declaration;
-use qc_fabric::{Fabric, RunName, Taken};
+use crate::worker::Worker;
+use qc_fabric::{RunName, Taken};
 use qc_list::OutOfMemory;
 use qc_msg::Step;
 use qc_outside::{Disk, Gate};
 use qc_pass::Pass;
 use qc_process::Process;
-use std::alloc::{AllocError, Global};
+use std::alloc::AllocError;
 use std::marker::{Model, PhantomData};
 use std::sync::Wait;
 use std::thread::Threads;
@@ -81,9 +79,9 @@ impl<D: Disk, N: RunName> Cell<D, N> {
         ensures number { self.new.number ≡ self.old.number }
         ensures ok { IfOk result (λ end. IsTurn N.declaration N.script self.old self.new end) }
     {
-        let end = self.try_turn(rt, alloc, decl, fabric, gate);
+        let end = self.try_turn(worker);
         if end.is_err() {
-            fabric.leave(rt, &mut self.pass);
+            worker.fabric.leave(worker.rt, &mut self.pass);
         }
         end
     }
@@ -93,17 +91,14 @@ impl<D: Disk, N: RunName> Cell<D, N> {
     /// leaves it so. All memory is taken before the disk is called.
     fn try_turn<G: Gate, R: Threads + Wait + Sync>(
         &mut self,
-        rt: &R,
-        alloc: Global,
-        decl: &Declaration,
-        fabric: &Fabric<Rules, N>,
-        gate: &G,
+        worker: &Worker<'_, D, N, G, R>,
     ) -> Result<TurnEnd, OutOfMemory>
-        requires declaration { decl.now ≡ N.declaration }
-        requires runnable { IsRunnable N.declaration N.script }
         ensures number { self.new.number ≡ self.old.number }
         ensures ok { IfOk result (λ end. IsTurn N.declaration N.script self.old self.new end) }
     {
+        let Worker {
+            rt, alloc, decl, fabric, gate, ..
+        } = *worker;
         let Some(Taken { given, steps }) = fabric.take(rt, alloc, decl, &mut self.pass)? else {
             return Ok(TurnEnd::NothingReady);
         };

@@ -9,38 +9,35 @@ ghost use Rattle.qc_decl.specs.Accepted.{IsAccepted};
 ghost use Rattle.qc_process.specs.Opens.{OpensAs, StaysOnDisk};
 ghost use Rattle.qc_process.specs.Views.{HasFewRecords};
 ghost use Rattle.qc_fabric.specs.Risings.{size_of_rising};
-ghost use Rattle.qc_node.specs.Runnable.{IsRunnable};
 ghost use Rattle.qc_node.specs.Restarts.{IsClosed, IsRecorded, opened_of};
 
 use crate::cell::Cell;
 use crate::controller::Controller;
 use crate::rules::Rules;
+use crate::worker::Worker;
 use qc_decl::Declaration;
-use qc_fabric::{Fabric, FabricState, Rising, RunName};
+use qc_fabric::{FabricState, Rising, RunName};
 use qc_list::OutOfMemory;
 use qc_msg::Control;
-use qc_outside::Disk;
+use qc_outside::{Disk, Gate};
 use qc_process::{Opened, Process};
 use std::alloc::{AllocError, Global};
 use std::sync::Wait;
+use std::thread::Threads;
 
 impl<D: Disk, N: RunName> Cell<D, N> {
     /// A fault is armed for the actor's disk, where the next control line says so.
     /// Whether something is left: always.
-    pub(crate) fn arm<R: Wait>(
+    pub(crate) fn arm<G: Gate, R: Threads + Wait + Sync>(
         &mut self,
-        rt: &R,
-        decl: &Declaration,
-        fabric: &Fabric<Rules, N>,
+        worker: &Worker<'_, D, N, G, R>,
         controller: &mut Controller<N>,
         last: u32,
     ) -> Result<bool, OutOfMemory>
-        requires declaration { decl.now ≡ N.declaration }
-        requires runnable { IsRunnable N.declaration N.script }
         ensures number { self.new.number ≡ self.old.number }
     {
-        let mut held = fabric.hold(rt);
-        let Some(Control::Armed { actor, kind, at }) = held.state.next_order(decl, last) else {
+        let mut held = worker.fabric.hold(worker.rt);
+        let Some(Control::Armed { actor, kind, at }) = held.state.next_order(worker.decl, last) else {
             return Ok(true);
         };
         if actor != self.pass.number() {
@@ -55,19 +52,15 @@ impl<D: Disk, N: RunName> Cell<D, N> {
     }
 
     /// The actor falls, where the next control line crashes it.
-    pub(crate) fn crash<R: Wait>(
+    pub(crate) fn crash<G: Gate, R: Threads + Wait + Sync>(
         &mut self,
-        rt: &R,
-        decl: &Declaration,
-        fabric: &Fabric<Rules, N>,
+        worker: &Worker<'_, D, N, G, R>,
         last: u32,
     ) -> Result<bool, OutOfMemory>
-        requires declaration { decl.now ≡ N.declaration }
-        requires runnable { IsRunnable N.declaration N.script }
         ensures number { self.new.number ≡ self.old.number }
     {
-        let mut held = fabric.hold(rt);
-        let Some(Control::Crash(actor)) = held.state.next_order(decl, last) else {
+        let mut held = worker.fabric.hold(worker.rt);
+        let Some(Control::Crash(actor)) = held.state.next_order(worker.decl, last) else {
             return Ok(true);
         };
         if actor != self.pass.number() {
@@ -85,20 +78,15 @@ impl<D: Disk, N: RunName> Cell<D, N> {
     /// The actor rises from its records, where the next control line restarts it, or
     /// stays down. It is tried once: after want of memory the process is given up,
     /// since its disk was called and no step shows it.
-    pub(crate) fn restart<R: Wait>(
+    pub(crate) fn restart<G: Gate, R: Threads + Wait + Sync>(
         &mut self,
-        rt: &R,
-        alloc: Global,
-        decl: &Declaration,
-        fabric: &Fabric<Rules, N>,
+        worker: &Worker<'_, D, N, G, R>,
         last: u32,
     ) -> Result<bool, OutOfMemory>
-        requires declaration { decl.now ≡ N.declaration }
-        requires runnable { IsRunnable N.declaration N.script }
         ensures number { self.new.number ≡ self.old.number }
     {
-        let mut held = fabric.hold(rt);
-        let Some(Control::Restart(actor)) = held.state.next_order(decl, last) else {
+        let mut held = worker.fabric.hold(worker.rt);
+        let Some(Control::Restart(actor)) = held.state.next_order(worker.decl, last) else {
             return Ok(true);
         };
         if actor != self.pass.number() {
@@ -110,7 +98,7 @@ impl<D: Disk, N: RunName> Cell<D, N> {
         held.state.look(&mut self.pass);
         held.state.room(&Rising::Damaged { offset: 0 })?;
         self.given_up = true;
-        let rising = open(alloc, decl, &mut self.process, &mut held.state)?;
+        let rising = open(worker.alloc, worker.decl, &mut self.process, &mut held.state)?;
         let rising = with_record(&mut self.process, rising);
         let first = held.state.rise(&mut self.pass, rising);
         self.process.sent(first);

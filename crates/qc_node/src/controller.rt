@@ -52,7 +52,7 @@ impl<N: RunName> Controller<N> {
 
     /// It does what it may do next, in phases up to the last one that is given: a
     /// phase begins, or a line of its own acts. Whether something is left.
-    pub(crate) fn advance<R: Wait>(
+    pub(crate) fn act<R: Wait>(
         &mut self,
         rt: &R,
         decl: &Declaration,

@@ -45,4 +45,3 @@ pub use laws::begun_journals_have_no_records;
 pub use rules::Rules;
 pub use runs::{RunResult, run_script};
 pub use scripts::{Job, drive_script, phase};
-pub use worker::drive;

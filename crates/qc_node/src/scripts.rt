@@ -7,7 +7,7 @@ ghost use Rattle.qc_node.specs.Ends.{IsPhaseEnd, IsScriptEnd};
 use crate::cells::Cells;
 use crate::ends::DriveEnd;
 use crate::rules::Rules;
-use crate::worker::drive;
+use crate::worker::Worker;
 use qc_decl::Declaration;
 use qc_fabric::{Fabric, FabricState, RunName};
 use qc_outside::{Disk, Gate};
@@ -83,20 +83,21 @@ fn drive_all<D: Disk, N: RunName + Send + Sync, G: Gate + Sync, R: Threads + Wai
     requires declaration { job.now.decl.now ≡ N.declaration }
     requires runnable { IsRunnable N.declaration N.script }
 {
-    let (decl, gate) = (job.decl, job.gate);
-    if job.workers <= 1 {
-        drive(rt, alloc, decl, fabric, cells, gate, last);
-        return;
-    }
-    let ends = map_indices(
+    let worker = Worker {
         rt,
         alloc,
-        usize::from(job.workers),
-        &|_|
-            requires declaration { decl.now ≡ N.declaration }
-            requires runnable { IsRunnable N.declaration N.script }
-        { drive(rt, alloc, decl, fabric, cells, gate, last) },
-    );
+        decl: job.decl,
+        fabric,
+        cells,
+        gate: job.gate,
+    };
+    if job.workers <= 1 {
+        worker.drive(last);
+        return;
+    }
+    let ends = map_indices(rt, alloc, usize::from(job.workers), &|_| {
+        worker.drive(last)
+    });
     drop(ends);
 }
 

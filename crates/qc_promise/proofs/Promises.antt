@@ -21,9 +21,9 @@ promises_with ps journals.Life = ps
 promises_with ps (journals.Prepare p) = other_promises ps p.tx ++ p ∷ []
 promises_with ps (journals.Done tx clock) = other_promises ps tx
 promises_with ps (journals.Close epoch) = ps
-promises_with ps (journals.Install epoch clock lines) = []
+promises_with ps (journals.Install start) = []
 promises_with ps (journals.Commit commit) = ps
-promises_with ps (journals.Decide epoch clock lines) = ps
+promises_with ps (journals.Decide start) = ps
 
 -- promises that none of the records redeems
 abbrev pub still : List Record → List Prepared → List Prepared
@@ -97,16 +97,16 @@ promises_left ps (journals.Done tx clock ∷ rs) =
 promises_left ps (journals.Close epoch ∷ rs) =
     ap (λ (l : List Prepared). l ++ promises_of rs) (redeems_none (journals.Close epoch) rs (λ tx. refl) ps)
     ∙ promises_left ps rs
-promises_left ps (journals.Install epoch clock lines ∷ rs) =
+promises_left ps (journals.Install start ∷ rs) =
     ap (λ (l : List Prepared). l ++ promises_of rs)
-    (redeems_all (journals.Install epoch clock lines) rs (λ tx. refl) ps)
+    (redeems_all (journals.Install start) rs (λ tx. refl) ps)
     ∙ promises_left [] rs
 promises_left ps (journals.Commit c ∷ rs) =
     ap (λ (l : List Prepared). l ++ promises_of rs) (redeems_none (journals.Commit c) rs (λ tx. refl) ps)
     ∙ promises_left ps rs
-promises_left ps (journals.Decide epoch clock lines ∷ rs) =
+promises_left ps (journals.Decide start ∷ rs) =
     ap (λ (l : List Prepared). l ++ promises_of rs)
-    (redeems_none (journals.Decide epoch clock lines) rs (λ tx. refl) ps)
+    (redeems_none (journals.Decide start) rs (λ tx. refl) ps)
     ∙ promises_left ps rs
 
 pub promises_by_record : (rs : List Record) → promises_of rs ≡ fold promises_with [] rs

@@ -97,17 +97,17 @@ new_current tx epoch =
 -- the halves of a `do`, and a commit
 
 abbrev pub is_read : Want → Bool
-is_read (Read object inv) = true
+is_read (Read read) = true
 is_read (Append object view own) = false
 is_read Prepare = false
 
 abbrev pub is_append : Want → Bool
-is_append (Read object inv) = false
+is_append (Read read) = false
 is_append (Append object view own) = true
 is_append Prepare = false
 
 abbrev pub is_prepare : Want → Bool
-is_prepare (Read object inv) = false
+is_prepare (Read read) = false
 is_prepare (Append object view own) = false
 is_prepare Prepare = true
 

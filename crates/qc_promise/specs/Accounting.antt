@@ -20,7 +20,8 @@ use Rattle.qc_msg.specs.declared.step.Command.{Command}
 use Rattle.qc_msg.specs.declared.step.Input.{Input}
 use Rattle.qc_msg.specs.declared.step.Input.TheVariants as inputs
 use Rattle.qc_msg.specs.Vocabulary.{Deed, Entry, Falls, Rises, Sends, Takes, Tells, Writes, deeds, with_life, Answered}
-use Rattle.qc_msg.specs.Vocabulary.{Granting, Invocation, Requested, answer_in, closed_in, commit_of, do_in, granted_in}
+use Rattle.qc_msg.specs.Vocabulary.{Invocation, Requested, answer_in, closed_in, commit_of, do_in, granted_in}
+use Rattle.qc_msg.specs.declared.payload.Grant.{Grant}
 use Rattle.qc_msg.specs.Vocabulary.{is_life, promised_in, request_in, began_in, committed_in, short_in, response_in}
 use Rattle.qc_msg.specs.Vocabulary.{is_end, is_refused}
 use Rattle.qc_promise.specs.Account.{Account, Current, ClientRequest, account_with, is_append, new_account, new_current}
@@ -45,21 +46,21 @@ with_read t object log =
     record t { read_grants = t.read_grants ++ record { object = object; log = log } ∷ [] }
 
 abbrev pub granted : Account → ℕ → ℕ → ℕ → List Line → Want → Account
-granted d site life clock log (Read object inv) =
+granted d site life clock log (Read read) =
     with_current (record d { clock = max d.clock clock })
-    (λ (t : Current). with_read (lived t site life) object log)
+    (λ (t : Current). with_read (lived t site life) read.object log)
 granted d site life clock log (Append object view own) =
     with_current (record d { clock = max d.clock clock }) (λ (t : Current). lived t site life)
 granted d site life clock log Prepare = d
 
 abbrev pub promised : Account → ℕ → Want → Account
-promised d clock (Read object inv) = d
+promised d clock (Read read) = d
 promised d clock (Append object view own) = d
 promised d clock Prepare = record d { clock = max d.clock clock }
 
 abbrev pub told_by : Account → ClientRequest → Option Answer → Account
 told_by d q answer =
-    option_map_or (λ (g : Granting). granted d q.site g.life g.clock g.log q.want) (option_and_then granted_in answer)
+    option_map_or (λ (g : Grant). granted d q.site g.life g.clock g.log q.want) (option_and_then granted_in answer)
     (option_map_or (λ (epoch : ℕ). record d { known = max d.known epoch }) (option_and_then closed_in answer)
     (option_map_or (λ (clock : ℕ). promised d clock q.want) (option_and_then promised_in answer) d))
 

@@ -8,7 +8,8 @@ use Rattle.qc_stamp.specs.declared.stamp.TxId.{TxId}
 use Rattle.qc_stamp.specs.Vocabulary.{same_tx}
 use Rattle.qc_msg.specs.declared.message.Answer.{Answer}
 use Rattle.qc_msg.specs.declared.step.Command.{Command}
-use Rattle.qc_msg.specs.Vocabulary.{Installing, first_epoch}
+use Rattle.qc_msg.specs.Vocabulary.{first_epoch}
+use Rattle.qc_msg.specs.declared.payload.EpochStart.{EpochStart}
 
 -- what a request is: a Close, an Ask about a transaction, an Install
 pub data AdminWant : Type 0 where
@@ -26,18 +27,18 @@ pub record AdminRequest : Type 0 where
 pub record AdminAccount : Type 0 where
   pub up : Bool
   -- what the last epoch that he decided before the running command begins with: none for the first epoch
-  pub decided : Option Installing
+  pub decided : Option EpochStart
   pub command : Option Command
   pub requests : List AdminRequest
   -- what he decided since the command
-  pub written : Option Installing
+  pub written : Option EpochStart
 
 abbrev pub new_admin_account : AdminAccount
 new_admin_account = record { up = true; decided = None; command = None; requests = []; written = None }
 
 -- the epoch that is decided
 abbrev pub decided_epoch : AdminAccount → ℕ
-decided_epoch d = option_map_or (λ (i : Installing). i.epoch) d.decided first_epoch
+decided_epoch d = option_map_or (λ (i : EpochStart). i.epoch) d.decided first_epoch
 
 -- the requests of a kind
 

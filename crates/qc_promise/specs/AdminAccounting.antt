@@ -14,7 +14,8 @@ use Rattle.qc_msg.specs.declared.message.Message.{Message}
 use Rattle.qc_msg.specs.declared.record.Record.{Record}
 use Rattle.qc_msg.specs.declared.step.Input.{Input}
 use Rattle.qc_msg.specs.declared.step.Input.TheVariants as inputs
-use Rattle.qc_msg.specs.Vocabulary.{Answered, Deed, Falls, Installing, Rises, Sends, Takes, Tells, Writes, answer_in}
+use Rattle.qc_msg.specs.Vocabulary.{Answered, Deed, Falls, Rises, Sends, Takes, Tells, Writes, answer_in}
+use Rattle.qc_msg.specs.declared.payload.EpochStart.{EpochStart}
 use Rattle.qc_msg.specs.Vocabulary.{asking_in, closing_in, decide_in, epoch_in, installing_in}
 use Rattle.qc_promise.specs.AdminAccount.{AdminAccount, AdminRequest, AdminWant, Ask, Close, Install, asks}
 use Rattle.qc_promise.specs.AdminAccount.{decided_epoch, installs, new_admin_account}
@@ -40,7 +41,7 @@ admin_taken d (inputs.Got envelope) = admin_heard d envelope.message
 admin_taken d (inputs.Lost number) = admin_counted d number None
 
 abbrev pub admin_written : AdminAccount → Record → AdminAccount
-admin_written d r = option_map_or (λ (i : Installing). record d { written = Some i }) (decide_in r) d
+admin_written d r = option_map_or (λ (i : EpochStart). record d { written = Some i }) (decide_in r) d
 
 -- A request counts where the command calls for it next: a Close for the next epoch, of the site that the round asks
 -- next; an Ask about the next of the promised transactions, of its client, once the round is met; an Install of what is
@@ -68,14 +69,14 @@ calls_ask decl d to tx =
     && (nat_lt (length (asks d)) most_questions && is_next_question decl d to tx))
 
 -- what is decided: in this command, or before it
-abbrev pub decided_now : AdminAccount → Option Installing
+abbrev pub decided_now : AdminAccount → Option EpochStart
 decided_now d = option_or d.written d.decided
 
-abbrev pub is_same_start : Installing → Installing → Bool
+abbrev pub is_same_start : EpochStart → EpochStart → Bool
 is_same_start a b =
     (a.epoch == b.epoch) && ((a.clock == b.clock) && pointwise same_line a.lines b.lines)
 
-abbrev pub calls_install : AdminAccount → ℕ → Installing → Bool
+abbrev pub calls_install : AdminAccount → ℕ → EpochStart → Bool
 calls_install d to i =
     is_this i.epoch (commanded d)
     && ((to == length (installs d)) && option_map_or (is_same_start i) (decided_now d) false)
@@ -91,7 +92,7 @@ abbrev pub admin_sent : Declaration → AdminAccount → ℕ → ℕ → Message
 admin_sent decl d number to message =
     option_map_or (λ (k : ℕ). if_called_for (calls_close decl d to k) d number to Close) (closing_in message)
     (option_map_or (λ (tx : TxId). if_called_for (calls_ask decl d to tx) d number to (Ask tx)) (asking_in message)
-    (option_map_or (λ (i : Installing). if_called_for (calls_install d to i) d number to Install)
+    (option_map_or (λ (i : EpochStart). if_called_for (calls_install d to i) d number to Install)
     (installing_in message) d))
 
 -- a reply ends its command, and a fall ends it without one: what was written stands
@@ -101,8 +102,8 @@ admin_ended d = record d { decided = decided_now d; command = None; requests = [
 
 -- as he rises the account begins anew with the last decision of his records
 
-abbrev pub last_decided : List Record → Option Installing
-last_decided rs = fold (λ (last : Option Installing) (r : Record). option_or (decide_in r) last) None rs
+abbrev pub last_decided : List Record → Option EpochStart
+last_decided rs = fold (λ (last : Option EpochStart) (r : Record). option_or (decide_in r) last) None rs
 
 abbrev pub admin_account_with : List Record → AdminAccount
 admin_account_with rs = record new_admin_account { decided = last_decided rs }

@@ -10,7 +10,8 @@ use Rattle.qc_msg.specs.declared.record.Record.TheVariants as records
 use Rattle.qc_msg.specs.declared.reply.Reply.{Reply}
 use Rattle.qc_msg.specs.declared.step.Input.{Input}
 use Rattle.qc_msg.specs.declared.step.Input.TheVariants as inputs
-use Rattle.qc_msg.specs.Vocabulary.{Deed, Falls, Installing, Rises, Sends, Takes, Tells, Writes, asking_in, closing_in}
+use Rattle.qc_msg.specs.Vocabulary.{Deed, Falls, Rises, Sends, Takes, Tells, Writes, asking_in, closing_in}
+use Rattle.qc_msg.specs.declared.payload.EpochStart.{EpochStart}
 use Rattle.qc_msg.specs.Vocabulary.{installing_in}
 use Rattle.qc_promise.specs.AdminAccount.{AdminAccount, new_admin_account}
 use Rattle.qc_promise.specs.AdminAccounting.{admin_account_at, calls_ask, calls_close, calls_install}
@@ -18,8 +19,8 @@ use Rattle.qc_promise.specs.AdminRows.{admin_due, decide_due}
 use Rattle.qc_promise.specs.Replies.{rising_turn}
 use Rattle.qc_promise.specs.Posts.{IsPostOf, pending_next}
 
-abbrev pub decide_record : Installing → Record
-decide_record i = records.Decide i.epoch i.clock i.lines
+abbrev pub decide_record : EpochStart → Record
+decide_record i = records.Decide i
 
 -- a command is called once the one before has its reply; and no input is taken while a reply is due that isn't told, or
 -- a decision that isn't written
@@ -39,10 +40,10 @@ IsAdminRecordDue decl d records.Life = Unit {0}
 IsAdminRecordDue decl d (records.Prepare prepared) = ⊥
 IsAdminRecordDue decl d (records.Done tx clock) = ⊥
 IsAdminRecordDue decl d (records.Close epoch) = ⊥
-IsAdminRecordDue decl d (records.Install epoch clock lines) = ⊥
+IsAdminRecordDue decl d (records.Install start) = ⊥
 IsAdminRecordDue decl d (records.Commit commit) = ⊥
-IsAdminRecordDue decl d (records.Decide epoch clock lines) =
-    (decide_due decl d ≡ Some (record { epoch = epoch; clock = clock; lines = lines })) × (d.written ≡ None)
+IsAdminRecordDue decl d (records.Decide start) =
+    (decide_due decl d ≡ Some start) × (d.written ≡ None)
 
 -- a reply is that of the row: with the decision written before it where one is due, or pending at the fall behind it
 
@@ -59,7 +60,7 @@ abbrev pub is_called_for : Declaration → AdminAccount → ℕ → Message → 
 is_called_for decl d to message =
     option_map_or (λ (k : ℕ). calls_close decl d to k) (closing_in message)
     (option_map_or (λ (tx : TxId). calls_ask decl d to tx) (asking_in message)
-    (option_map_or (λ (i : Installing). calls_install d to i) (installing_in message) false))
+    (option_map_or (λ (i : EpochStart). calls_install d to i) (installing_in message) false))
 
 abbrev pub IsAdminDeedDue : Declaration → AdminAccount → Deed → List Deed → Type 0
 IsAdminDeedDue decl d (Takes given) after = IsAdminInputDue decl d given

@@ -20,7 +20,9 @@ use Rattle.qc_decl.specs.Vocabulary.{plan_in}
 use Rattle.qc_msg.specs.declared.message.Answer.{Answer}
 use Rattle.qc_msg.specs.declared.message.Outcome.{Outcome}
 use Rattle.qc_msg.specs.declared.message.Outcome.TheVariants.{Committed, Aborted, Active}
-use Rattle.qc_msg.specs.Vocabulary.{Installing, Shutting, shut_in, verdict_in}
+use Rattle.qc_msg.specs.Vocabulary.{shut_in, verdict_in}
+use Rattle.qc_msg.specs.declared.payload.EpochStart.{EpochStart}
+use Rattle.qc_msg.specs.declared.payload.Snapshot.{Snapshot}
 use Rattle.qc_promise.specs.AdminAccount.{AdminAccount, AdminRequest, answer_to, closes, decided_epoch, is_ask_of}
 use Rattle.qc_promise.specs.SiteLogs.{lines_of}
 
@@ -37,7 +39,7 @@ fresh_round decl epoch =
 
 abbrev pub standing_for : Option Answer → Standing
 standing_for answer =
-    option_map_or (λ (s : Shutting). standings.Granted) (option_and_then shut_in answer) standings.Missing
+    option_map_or (λ (s : Snapshot). standings.Granted) (option_and_then shut_in answer) standings.Missing
 
 abbrev pub close_asked : AdminRequest → Asked
 close_asked q = record { site = q.to; standing = option_map standing_for q.taken }
@@ -51,11 +53,11 @@ close_round decl d =
 
 pub record ToldShut : Type 0 where
   pub site : ℕ
-  pub told : Shutting
+  pub told : Snapshot
 
 abbrev pub told_shut : AdminRequest → Option ToldShut
 told_shut q =
-    option_map (λ (s : Shutting). record { site = q.to; told = s }) (option_and_then shut_in (answer_to q))
+    option_map (λ (s : Snapshot). record { site = q.to; told = s }) (option_and_then shut_in (answer_to q))
 
 abbrev pub shuts_told : AdminAccount → List ToldShut
 shuts_told d = filter_map told_shut (closes d)
@@ -141,6 +143,6 @@ merged_clock d =
     fold max 0
     (map (λ (s : ToldShut). s.told.clock) (shuts_told d) ++ map (λ (s : Stamp). s.clock) (stamps_of d))
 
-abbrev pub decision_due : AdminAccount → Installing
+abbrev pub decision_due : AdminAccount → EpochStart
 decision_due d =
     record { epoch = decided_epoch d + 1; clock = merged_clock d; lines = merged_lines d }

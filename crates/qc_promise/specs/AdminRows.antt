@@ -13,7 +13,8 @@ use Rattle.qc_msg.specs.declared.reply.Half.TheVariants as halves
 use Rattle.qc_msg.specs.declared.reply.Reply.{Reply}
 use Rattle.qc_msg.specs.declared.reply.Reply.TheVariants as replies
 use Rattle.qc_msg.specs.declared.step.Command.{Command}
-use Rattle.qc_msg.specs.Vocabulary.{Installing, epoch_in, epoch_length, has_installed}
+use Rattle.qc_msg.specs.Vocabulary.{epoch_in, epoch_length, has_installed}
+use Rattle.qc_msg.specs.declared.payload.EpochStart.{EpochStart}
 use Rattle.qc_promise.specs.AdminAccount.{AdminAccount, AdminRequest, answer_to, decided_epoch, installs}
 use Rattle.qc_promise.specs.AdminRounds.{Promised, ToldShut, all_answered, close_round, decision_due, first_doubt}
 use Rattle.qc_promise.specs.AdminRounds.{shuts_told}
@@ -41,7 +42,7 @@ closed_sites d = map (λ (s : ToldShut). s.site) (shuts_told d)
 -- the next epoch: who is in doubt is told; what is decided has to fit a record, and is told once it is installed. Where
 -- its record isn't written, that is told
 
-abbrev pub fits_record : Installing → Bool
+abbrev pub fits_record : EpochStart → Bool
 fits_record i = nat_le (epoch_length i.lines) most_record_bytes
 
 abbrev pub decided_row : Declaration → AdminAccount → Bool → Option Reply
@@ -82,21 +83,21 @@ admin_due decl d unwritten = option_and_then (admin_row decl d unwritten) d.comm
 
 -- the decision of the running command: nothing is awaited, and nobody in doubt
 
-abbrev pub decided_of : AdminAccount → Option Promised → Option Installing
+abbrev pub decided_of : AdminAccount → Option Promised → Option EpochStart
 decided_of d (Some p) = None
 decided_of d None = if fits_record (decision_due d) then Some (decision_due d) else None
 
-abbrev pub decided_met : AdminAccount → Verdict → Option Installing
+abbrev pub decided_met : AdminAccount → Verdict → Option EpochStart
 decided_met d verdicts.Waiting = None
 decided_met d verdicts.Met = if all_answered d then decided_of d (first_doubt d) else None
 decided_met d (verdicts.Closed epoch site) = None
 decided_met d (verdicts.Clash tx site) = None
 decided_met d (verdicts.Short got need) = None
 
-abbrev pub decided_for : Declaration → AdminAccount → ℕ → Option Installing
+abbrev pub decided_for : Declaration → AdminAccount → ℕ → Option EpochStart
 decided_for decl d k =
     if k == decided_epoch d + 1 then decided_met d (verdict (close_round decl d)) else None
 
-abbrev pub decide_due : Declaration → AdminAccount → Option Installing
+abbrev pub decide_due : Declaration → AdminAccount → Option EpochStart
 decide_due decl d =
     if d.up then option_and_then (decided_for decl d) (option_and_then epoch_in d.command) else None

@@ -75,8 +75,8 @@ append_need decl t object inv = option_map_or (append_need_of decl t.epoch objec
 -- whether a `do` of this invocation asks this of this site: Reads of the invocation; once they are met, Appends
 
 abbrev pub do_asks : Declaration → Account → Current → ℕ → ℕ → ℕ → Want → Bool
-do_asks decl d t object inv site (Read o i) =
-    ((o == object) && (i == inv))
+do_asks decl d t object inv site (Read read) =
+    ((read.object == object) && (read.inv == inv))
     && (is_next_voter decl d t is_read (read_need_of decl t.epoch object inv) site
     && (length (requests_for is_append d) == 0))
 do_asks decl d t object inv site (Append o view own) =
@@ -87,7 +87,7 @@ do_asks decl d t object inv site Prepare = false
 -- whether a commit does: for the promises of the participants
 
 abbrev pub commit_asks : Declaration → Account → Current → ℕ → Want → Bool
-commit_asks decl d t site (Read object inv) = false
+commit_asks decl d t site (Read read) = false
 commit_asks decl d t site (Append object view own) = false
 commit_asks decl d t site Prepare = is_next_participant decl d t site
 

@@ -33,12 +33,12 @@ IsRecordDue d row records.Life = Unit {0}
 IsRecordDue d row (records.Prepare prepared) = ⊥
 IsRecordDue d row (records.Done tx clock) = ⊥
 IsRecordDue d row (records.Close epoch) = ⊥
-IsRecordDue d row (records.Install epoch clock lines) = ⊥
+IsRecordDue d row (records.Install start) = ⊥
 IsRecordDue d row (records.Commit commit) =
     (row ≡ Some (replies.Committed commit.stamp))
     × (commit_of d commit.stamp ≡ Some commit)
     × (d.written ≡ None)
-IsRecordDue d row (records.Decide epoch clock lines) = ⊥
+IsRecordDue d row (records.Decide start) = ⊥
 
 -- a reply is that of the row, with its record where it has one: written before it, or pending at the fall behind it
 abbrev pub IsReplyDue : Account → Option Reply → List Deed → Reply → Type 0

@@ -20,13 +20,14 @@ use Rattle.qc_msg.specs.declared.message.Answer.TheVariants as answers
 use Rattle.qc_msg.specs.declared.message.Want.{Want}
 use Rattle.qc_msg.specs.declared.reply.AbortCause.{AbortCause}
 use Rattle.qc_msg.specs.declared.reply.AbortCause.TheVariants as causes
-use Rattle.qc_msg.specs.Vocabulary.{has_granted, Answered, Clashing, Granting, clash_in, closed_in, granted_in}
+use Rattle.qc_msg.specs.Vocabulary.{has_granted, Answered, Clashing, clash_in, closed_in, granted_in}
+use Rattle.qc_msg.specs.declared.payload.Grant.{Grant}
 use Rattle.qc_promise.specs.Account.{Account, Current, ClientRequest, is_prepare, requests_for, view_of}
 
 -- what came of a request, for a round: a site that neither grants, nor clashes, nor is closed, is missing
 abbrev pub standing_of : Option Answer → Standing
 standing_of answer =
-    option_map_or (λ (x : Granting). standings.Granted) (option_and_then granted_in answer)
+    option_map_or (λ (x : Grant). standings.Granted) (option_and_then granted_in answer)
     (option_map_or (λ (c : Clashing). standings.Clash c.holder) (option_and_then clash_in answer)
     (option_map_or standings.Closed (option_and_then closed_in answer) standings.Missing))
 
@@ -87,7 +88,7 @@ are_votes_in decl d t =
 abbrev pub against : ClientRequest → Option (Option Answer) → Option AbortCause
 against q None = None
 against q (Some None) = Some (causes.NoAnswer q.site)
-against q (Some (Some (answers.Granted life clock log))) = Some (causes.Forgot q.site)
+against q (Some (Some (answers.Granted grant))) = Some (causes.Forgot q.site)
 against q (Some (Some (answers.Clash holder inv event))) = Some (causes.Forgot q.site)
 against q (Some (Some (answers.Closed epoch))) = Some (causes.Closed epoch q.site)
 against q (Some (Some (answers.Behind epoch))) = Some (causes.Forgot q.site)
@@ -95,7 +96,7 @@ against q (Some (Some (answers.Restarted life))) = Some (causes.Restarted q.site
 against q (Some (Some answers.Stale)) = Some (causes.Forgot q.site)
 against q (Some (Some answers.Fault)) = Some (causes.Fault q.site)
 against q (Some (Some (answers.Yes clock))) = None
-against q (Some (Some (answers.Shut clock log prepared))) = Some (causes.Forgot q.site)
+against q (Some (Some (answers.Shut snapshot))) = Some (causes.Forgot q.site)
 against q (Some (Some answers.Installed)) = Some (causes.Forgot q.site)
 against q (Some (Some (answers.Answered verdict))) = Some (causes.Forgot q.site)
 

@@ -6,7 +6,8 @@ use Rattle.std.specs.List.{list_any}
 use Rattle.qc_decl.specs.Vocabulary.{client_actor}
 use Rattle.qc_decl.specs.declared.declaration.Declaration.{Declaration}
 use Rattle.qc_entry.specs.declared.line.Line.{Line}
-use Rattle.qc_msg.specs.Vocabulary.{Deed, Entry, Falls, Rises, Sends, Takes, Tells, Writes, deeds, Answered, Granting}
+use Rattle.qc_msg.specs.Vocabulary.{Deed, Entry, Falls, Rises, Sends, Takes, Tells, Writes, deeds, Answered}
+use Rattle.qc_msg.specs.declared.payload.Grant.{Grant}
 use Rattle.qc_msg.specs.Vocabulary.{Requested, answer_in, granted_in, request_in, began_in, committed_in, is_end}
 use Rattle.qc_msg.specs.declared.message.Answer.{Answer}
 use Rattle.qc_msg.specs.declared.message.Message.{Message}
@@ -49,7 +50,7 @@ answered s number = record s { waiting = filter (λ n. not (n == number)) s.wait
 
 -- the lines that an answer grants
 abbrev pub granted : Answer → List Line
-granted answer = option_map_or (λ (g : Granting). g.log) (granted_in answer) []
+granted answer = option_map_or (λ (g : Grant). g.log) (granted_in answer) []
 
 abbrev pub sight_heard : TxId → Sight → Message → Sight
 sight_heard tx s message =

@@ -13,7 +13,8 @@ use Rattle.qc_msg.specs.declared.message.Outcome.TheVariants.{Committed, Aborted
 use Rattle.qc_msg.specs.declared.message.Want.{Want}
 use Rattle.qc_msg.specs.declared.message.Want.TheVariants.{Read, Append, Prepare}
 use Rattle.qc_msg.specs.declared.record.Record.{Record}
-use Rattle.qc_msg.specs.Vocabulary.{Decided, Deed, Finished, Installing, Requested, decision_in, done_in, got_in}
+use Rattle.qc_msg.specs.Vocabulary.{Decided, Deed, Finished, Requested, decision_in, done_in, got_in}
+use Rattle.qc_msg.specs.declared.payload.EpochStart.{EpochStart}
 use Rattle.qc_msg.specs.Vocabulary.{install_in, installing_in, prepare_in, request_in, written_in}
 use Rattle.qc_promise.specs.Lifetimes.{lifetime}
 
@@ -23,7 +24,7 @@ clocks_of lines = map (λ (l : Line). l.stamp.clock) lines
 -- what was taken
 
 abbrev pub clocks_in_want : Want → List ℕ
-clocks_in_want (Read object inv) = []
+clocks_in_want (Read read) = []
 clocks_in_want (Append object view own) = clocks_of view
 clocks_in_want Prepare = []
 
@@ -36,12 +37,12 @@ abbrev pub clocks_in : Message → List ℕ
 clocks_in m =
     option_map_or (λ (q : Requested). clocks_in_want q.want) (request_in m)
     (option_map_or (λ (x : Decided). clocks_in_outcome x.verdict) (decision_in m)
-    (option_map_or (λ (i : Installing). clocks_of i.lines) (installing_in m) []))
+    (option_map_or (λ (i : EpochStart). clocks_of i.lines) (installing_in m) []))
 
 -- what was written: an Install's own clock
 
 abbrev pub clocks_written : Record → List ℕ
-clocks_written r = option_map_or (λ (i : Installing). i.clock ∷ []) (install_in r) []
+clocks_written r = option_map_or (λ (i : EpochStart). i.clock ∷ []) (install_in r) []
 
 abbrev pub clocks_at : Deed → List ℕ
 clocks_at d =
@@ -53,7 +54,7 @@ abbrev pub clocks_in_record : Record → List ℕ
 clocks_in_record r =
     option_map_or (λ (p : Prepared). clocks_of p.lines) (prepare_in r)
     (option_map_or (λ (f : Finished). f.clock ∷ []) (done_in r)
-    (option_map_or (λ (i : Installing). clocks_of i.lines ++ i.clock ∷ []) (install_in r) []))
+    (option_map_or (λ (i : EpochStart). clocks_of i.lines ++ i.clock ∷ []) (install_in r) []))
 
 abbrev pub clock_shown : List Deed → ℕ
 clock_shown ds =

@@ -28,9 +28,11 @@ use Rattle.qc_msg.specs.declared.record.Record.TheVariants as records
 use Rattle.qc_msg.specs.declared.message.Envelope.{Envelope}
 use Rattle.qc_msg.specs.declared.step.Input.{Input}
 use Rattle.qc_msg.specs.declared.turn.Posting.{Posting}
-use Rattle.qc_msg.specs.Vocabulary.{Decided, Deed, Falls, Installing, Requested, Rises, Sends, Takes, Tells, Writes}
+use Rattle.qc_msg.specs.Vocabulary.{Decided, Deed, Falls, Requested, Rises, Sends, Takes, Tells, Writes}
+use Rattle.qc_msg.specs.declared.payload.EpochStart.{EpochStart}
 use Rattle.qc_msg.specs.Vocabulary.{closing_in, decision_in, epoch_length, heard_in, installing_in, prepare_length}
 use Rattle.qc_msg.specs.Vocabulary.{request_in, Clashing, clash_in}
+use Rattle.qc_msg.specs.Vocabulary.{grant_with, snapshot_with}
 use Rattle.qc_promise.specs.Posts.{IsPostOf, TurnDue, quiet_turn, sending}
 use Rattle.qc_promise.specs.SiteClocks.{clock_shown}
 use Rattle.qc_promise.specs.SiteHeld.{held_shown}
@@ -80,8 +82,8 @@ abbrev pub clash_told : Conflict → Answer
 clash_told c = answers.Clash c.holder c.inv c.event
 
 abbrev pub want_refusal : Declaration → List Deed → TxId → Want → Option Answer
-want_refusal decl ds tx (Read object inv) =
-    option_map clash_told (read_clash (relation_at decl object) (held_shown ds) tx object inv)
+want_refusal decl ds tx (Read read) =
+    option_map clash_told (read_clash (relation_at decl read.object) (held_shown ds) tx read.object read.inv)
 want_refusal decl ds tx (Append object view own) =
     option_map clash_told (append_clash (relation_at decl object) (held_shown ds) tx own)
 want_refusal decl ds tx Prepare =
@@ -95,8 +97,8 @@ refusal_due decl ds tx epoch life want = option_or (epoch_refusal ds epoch life)
 -- the answer to a request that nothing refuses
 
 abbrev pub grant_due : List Deed → Want → Answer
-grant_due ds (Read object inv) = answers.Granted (life_shown ds) (clock_shown ds) (of_object (log_shown ds) object)
-grant_due ds (Append object view own) = answers.Granted (life_shown ds) (clock_shown ds) []
+grant_due ds (Read read) = answers.Granted (grant_with (life_shown ds) (clock_shown ds) (of_object (log_shown ds) read.object))
+grant_due ds (Append object view own) = answers.Granted (grant_with (life_shown ds) (clock_shown ds) [])
 grant_due ds Prepare = answers.Yes (clock_shown ds)
 
 -- the client of a transaction is asked how it stands
@@ -110,7 +112,7 @@ inquiries_due decl answer = option_map_or (λ (c : Clashing). inquiry decl c.hol
 -- whether what a request names is declared; no run gives another one
 
 abbrev pub names_object : Declaration → Want → Bool
-names_object decl (Read object inv) = is_some (kind_at decl object)
+names_object decl (Read read) = is_some (kind_at decl read.object)
 names_object decl (Append object view own) = is_some (kind_at decl object)
 names_object decl Prepare = true
 
@@ -133,7 +135,7 @@ promise_turn ds from number tx =
     }
 
 abbrev pub is_new_promise : List Deed → TxId → Want → Bool
-is_new_promise ds tx (Read object inv) = false
+is_new_promise ds tx (Read read) = false
 is_new_promise ds tx (Append object view own) = false
 is_new_promise ds tx Prepare = not (is_promised ds tx)
 
@@ -180,7 +182,7 @@ abbrev pub promises_told : List Prepared → List Prepared
 promises_told ps = fold (inserted promise_cmp) [] ps
 
 abbrev pub shut_due : List Deed → Answer
-shut_due ds = answers.Shut (clock_shown ds) (log_shown ds) (promises_told (prepared_shown ds))
+shut_due ds = answers.Shut (snapshot_with (clock_shown ds) (log_shown ds) (promises_told (prepared_shown ds)))
 
 abbrev pub is_epoch : ℕ → Option ℕ → Bool
 is_epoch k closed = option_map_or (λ (n : ℕ). n == k) closed false
@@ -194,11 +196,11 @@ close_turn ds e k =
 
 -- that of an Install: it is written, where the site's epoch is an earlier one and the record isn't too long
 
-abbrev pub install_turn : List Deed → Envelope → Installing → TurnDue
+abbrev pub install_turn : List Deed → Envelope → EpochStart → TurnDue
 install_turn ds e i =
     if nat_le i.epoch (epoch_shown ds) then telling_turn e answers.Installed
     else (if nat_le (epoch_length i.lines) most_record_bytes
-    then recording_turn e (records.Install i.epoch i.clock i.lines) answers.Installed
+    then recording_turn e (records.Install i) answers.Installed
     else telling_turn e (answers.Behind (epoch_shown ds)))
 
 -- nothing else has one

@@ -53,7 +53,7 @@ standing (d ∷ ds) = option_map_or (standing_by ds) (got_in d) [] ++ standing d
 -- promised one all that its promise names
 
 abbrev pub holding : List Held → TxId → Want → List Held
-holding held tx (Read object inv) = with_held held tx (record { object = object; inv = inv } ∷ []) []
+holding held tx (Read read) = with_held held tx (record { object = read.object; inv = read.inv } ∷ []) []
 holding held tx (Append object view own) = with_held held tx [] own
 holding held tx Prepare = held
 

@@ -12,7 +12,8 @@ use Rattle.qc_msg.specs.declared.message.Envelope.{Envelope}
 use Rattle.qc_msg.specs.declared.message.Want.{Want}
 use Rattle.qc_msg.specs.declared.message.Want.TheVariants.{Read, Append, Prepare}
 use Rattle.qc_msg.specs.declared.record.Record.{Record}
-use Rattle.qc_msg.specs.Vocabulary.{Deed, Finished, Installing, Requested, done_in, got_in, install_in, prepare_in}
+use Rattle.qc_msg.specs.Vocabulary.{Deed, Finished, Requested, done_in, got_in, install_in, prepare_in}
+use Rattle.qc_msg.specs.declared.payload.EpochStart.{EpochStart}
 use Rattle.qc_msg.specs.Vocabulary.{request_in, written_in}
 use Rattle.qc_promise.specs.Lifetimes.{lifetime, records_in}
 use Rattle.qc_promise.specs.SiteHeld.{is_granted}
@@ -59,7 +60,7 @@ given_since l before r =
 
 abbrev pub with_given : Lines → List Record → Record → Lines
 with_given l before r =
-    option_map_or (λ (i : Installing). begun_with_lines i.lines) (install_in r) (given_since l before r)
+    option_map_or (λ (i : EpochStart). begun_with_lines i.lines) (install_in r) (given_since l before r)
 
 abbrev pub recorded_from : Lines → List Record → List Record → Lines
 recorded_from l before [] = l
@@ -78,7 +79,7 @@ recorded_shown ds = (recorded_by (records_in ds)).since
 -- records give, until an Install. What came with grants is lost at a rise.
 
 abbrev pub view_in : Want → List Line
-view_in (Read object inv) = []
+view_in (Read read) = []
 view_in (Append object view own) = view
 view_in Prepare = []
 
@@ -96,7 +97,7 @@ with_written rs d = option_map_or (λ (r : Record). rs ++ r ∷ []) (written_in 
 
 abbrev pub with_joined : Lines → List Record → Deed → List Deed → Lines
 with_joined l before d after =
-    option_map_or (λ (i : Installing). begun_with_lines i.lines) (option_and_then install_in (written_in d))
+    option_map_or (λ (i : EpochStart). begun_with_lines i.lines) (option_and_then install_in (written_in d))
     (learning l (joining before d after))
 
 abbrev pub lines_from : Lines → List Record → List Deed → Lines

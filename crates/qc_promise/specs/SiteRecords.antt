@@ -6,7 +6,8 @@ use Rattle.qc_stamp.specs.declared.stamp.TxId.{TxId}
 use Rattle.qc_stamp.specs.Vocabulary.{first_life, same_tx}
 use Rattle.qc_entry.specs.declared.record.Prepared.{Prepared}
 use Rattle.qc_msg.specs.declared.record.Record.{Record}
-use Rattle.qc_msg.specs.Vocabulary.{Deed, Installing, close_in, first_epoch, install_in, is_life, prepare_in}
+use Rattle.qc_msg.specs.Vocabulary.{Deed, close_in, first_epoch, install_in, is_life, prepare_in}
+use Rattle.qc_msg.specs.declared.payload.EpochStart.{EpochStart}
 use Rattle.qc_promise.specs.Lifetimes.{records_in}
 
 -- Life: 1, and 1 more for each record of a rise and of a closed epoch.
@@ -20,7 +21,7 @@ life_shown ds = fold life_by first_life (records_in ds)
 -- Epoch: that of the last Install.
 
 abbrev pub epoch_by : ℕ → Record → ℕ
-epoch_by before r = option_map_or (λ (i : Installing). i.epoch) (install_in r) before
+epoch_by before r = option_map_or (λ (i : EpochStart). i.epoch) (install_in r) before
 
 abbrev pub epoch_shown : List Deed → ℕ
 epoch_shown ds = fold epoch_by first_epoch (records_in ds)

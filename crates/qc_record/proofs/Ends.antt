@@ -56,12 +56,12 @@ cut (records.Done tx clock) (suc n) legal inside =
     whole_cut done_of done_form done_exact (tx, clock) n legal (omega (arith, inside))
 cut (records.Close epoch) (suc n) legal inside =
     whole_cut records.Close epoch_form epoch_exact epoch n legal (omega (arith, inside))
-cut (records.Install epoch clock lines) (suc n) legal inside =
-    whole_cut install_of start_form start_exact (epoch, (clock, lines)) n legal (omega (arith, inside))
+cut (records.Install start) (suc n) legal inside =
+    whole_cut install_of start_form start_exact (start.epoch, (start.clock, start.lines)) n legal (omega (arith, inside))
 cut (records.Commit c) (suc n) legal inside =
     whole_cut records.Commit commit_form commit_exact c n legal (omega (arith, inside))
-cut (records.Decide epoch clock lines) (suc n) legal inside =
-    whole_cut decide_of start_form start_exact (epoch, (clock, lines)) n legal (omega (arith, inside))
+cut (records.Decide start) (suc n) legal inside =
+    whole_cut decide_of start_form start_exact (start.epoch, (start.clock, start.lines)) n legal (omega (arith, inside))
 
 pub behind : (rec : Record) (b : ℕ) (rest : List ℕ) → is_legal rec ≡ true
     → record_at (spelled rec ++ b ∷ rest) ≡ torn (length (spelled rec))
@@ -69,11 +69,11 @@ behind records.Life b rest legal = whole_behind (λ _. records.Life) nothing not
 behind (records.Prepare p) b rest legal = whole_behind records.Prepare prepared_form prepared_exact p b rest legal
 behind (records.Done tx clock) b rest legal = whole_behind done_of done_form done_exact (tx, clock) b rest legal
 behind (records.Close epoch) b rest legal = whole_behind records.Close epoch_form epoch_exact epoch b rest legal
-behind (records.Install epoch clock lines) b rest legal =
-    whole_behind install_of start_form start_exact (epoch, (clock, lines)) b rest legal
+behind (records.Install start) b rest legal =
+    whole_behind install_of start_form start_exact (start.epoch, (start.clock, start.lines)) b rest legal
 behind (records.Commit c) b rest legal = whole_behind records.Commit commit_form commit_exact c b rest legal
-behind (records.Decide epoch clock lines) b rest legal =
-    whole_behind decide_of start_form start_exact (epoch, (clock, lines)) b rest legal
+behind (records.Decide start) b rest legal =
+    whole_behind decide_of start_form start_exact (start.epoch, (start.clock, start.lines)) b rest legal
 
 pub no_prefix : (a b : Record) (rest : List ℕ) → is_legal a ≡ true → is_legal b ≡ true → spelled a ++ rest ≡ spelled b
     → a ≡ b

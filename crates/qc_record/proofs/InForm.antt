@@ -186,7 +186,7 @@ form_of (records.Prepare p) e =
     }
 form_of (records.Done tx clock) e = let b = both_true _ _ e in (tx_of tx b.0, ranged 1 greatest_clock clock b.1)
 form_of (records.Close epoch) e = ranged 1 8 epoch e
-form_of (records.Install epoch clock lines) e = start_of epoch clock lines e
+form_of (records.Install start) e = start_of start.epoch start.clock start.lines e
 form_of (records.Commit c) e =
     let s = both_true _ _ e in
     let t = both_true _ _ s.1 in
@@ -197,7 +197,7 @@ form_of (records.Commit c) e =
       clock = ranged 1 greatest_clock c.stamp.clock k.0;
       ops = ops_of c.ops k.1;
     }
-form_of (records.Decide epoch clock lines) e = start_of epoch clock lines e
+form_of (records.Decide start) e = start_of start.epoch start.clock start.lines e
 
 of_form : (rec : Record) → IsInForm rec → is_legal rec ≡ true
 of_form records.Life h = refl
@@ -207,14 +207,14 @@ of_form (records.Prepare p) h =
     (true_both _ _ (of_locks p.locks h.locks) (true_both _ _ (of_owns p.own h.own) (of_lines p.lines h.lines))))
 of_form (records.Done tx clock) h = true_both _ _ (of_tx tx h.0) (in_range 1 greatest_clock clock h.1)
 of_form (records.Close epoch) h = in_range 1 8 epoch h
-of_form (records.Install epoch clock lines) h = of_start epoch clock lines h
+of_form (records.Install start) h = of_start start.epoch start.clock start.lines h
 of_form (records.Commit c) h =
     let same = h.stamp in
     let own : (c.stamp.client == c.tx.client) ≡ true = grind (arith, nat_tests, same) in
     true_both _ _ own
     (true_both _ _ (of_tx c.tx h.tx)
     (true_both _ _ (in_range 1 greatest_clock c.stamp.clock h.clock) (ops_are c.ops h.ops)))
-of_form (records.Decide epoch clock lines) h = of_start epoch clock lines h
+of_form (records.Decide start) h = of_start start.epoch start.clock start.lines h
 
 pub legal_is : (rec : Record) → (is_legal rec ≡ true) ↔ IsInForm rec
 legal_is rec = (form_of rec, of_form rec)

@@ -67,11 +67,11 @@ again records.Life legal = refl
 again (records.Prepare p) legal = whole_again records.Prepare prepared_form prepared_exact p legal
 again (records.Done tx clock) legal = whole_again done_of done_form done_exact (tx, clock) legal
 again (records.Close epoch) legal = whole_again records.Close epoch_form epoch_exact epoch legal
-again (records.Install epoch clock lines) legal =
-    whole_again install_of start_form start_exact (epoch, (clock, lines)) legal
+again (records.Install start) legal =
+    whole_again install_of start_form start_exact (start.epoch, (start.clock, start.lines)) legal
 again (records.Commit c) legal = whole_again records.Commit commit_form commit_exact c legal
-again (records.Decide epoch clock lines) legal =
-    whole_again decide_of start_form start_exact (epoch, (clock, lines)) legal
+again (records.Decide start) legal =
+    whole_again decide_of start_form start_exact (start.epoch, (start.clock, start.lines)) legal
 
 abbrev IsSpelled : List ℕ → Record → Type 0
 IsSpelled bytes rec = (bytes ≡ spelled rec) × (is_legal rec ≡ true)

@@ -10,6 +10,7 @@ use Rattle.qc_entry.specs.declared.record.Commit.{Commit}
 use Rattle.qc_entry.specs.declared.record.Prepared.{Prepared}
 use Rattle.qc_msg.specs.declared.record.Record.{Record}
 use Rattle.qc_msg.specs.declared.record.Record.TheVariants as records
+use Rattle.qc_msg.specs.Vocabulary.{start_with}
 use Rattle.qc_record.specs.declared.fault.RecordFault.{RecordFault}
 use Rattle.qc_record.specs.declared.fault.RecordFault.TheVariants as faults
 use Rattle.qc_record.specs.Form.{Form, ◌>>=◌, field, nothing, both, shaped, counted, within, climb, top, all_of}
@@ -237,9 +238,9 @@ is_legal records.Life = true
 is_legal (records.Prepare p) = prepared_form.is_legal p
 is_legal (records.Done tx clock) = done_form.is_legal (tx, clock)
 is_legal (records.Close epoch) = epoch_form.is_legal epoch
-is_legal (records.Install epoch clock lines) = start_form.is_legal (epoch, (clock, lines))
+is_legal (records.Install start) = start_form.is_legal (start.epoch, (start.clock, start.lines))
 is_legal (records.Commit c) = commit_form.is_legal c
-is_legal (records.Decide epoch clock lines) = start_form.is_legal (epoch, (clock, lines))
+is_legal (records.Decide start) = start_form.is_legal (start.epoch, (start.clock, start.lines))
 
 -- a record's one spelling
 abbrev pub spelled : Record → List ℕ
@@ -247,18 +248,18 @@ spelled records.Life = 1 ∷ []
 spelled (records.Prepare p) = 2 ∷ prepared_form.spelled p
 spelled (records.Done tx clock) = 3 ∷ done_form.spelled (tx, clock)
 spelled (records.Close epoch) = 4 ∷ epoch_form.spelled epoch
-spelled (records.Install epoch clock lines) = 5 ∷ start_form.spelled (epoch, (clock, lines))
+spelled (records.Install start) = 5 ∷ start_form.spelled (start.epoch, (start.clock, start.lines))
 spelled (records.Commit c) = 6 ∷ commit_form.spelled c
-spelled (records.Decide epoch clock lines) = 7 ∷ start_form.spelled (epoch, (clock, lines))
+spelled (records.Decide start) = 7 ∷ start_form.spelled (start.epoch, (start.clock, start.lines))
 
 abbrev pub done_of : TxId × ℕ → Record
 done_of (tx, clock) = records.Done tx clock
 
 abbrev pub install_of : ℕ × (ℕ × List Line) → Record
-install_of (epoch, (clock, lines)) = records.Install epoch clock lines
+install_of (epoch, (clock, lines)) = records.Install (start_with epoch clock lines)
 
 abbrev pub decide_of : ℕ × (ℕ × List Line) → Record
-decide_of (epoch, (clock, lines)) = records.Decide epoch clock lines
+decide_of (epoch, (clock, lines)) = records.Decide (start_with epoch clock lines)
 
 -- the record that the bytes behind its kind give, with what stands behind it
 abbrev pub body_at : {A : Type 0} → (A → Record) → Form A → List ℕ → Result (Record × List ℕ) ℕ

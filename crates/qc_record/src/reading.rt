@@ -17,7 +17,7 @@ use crate::item::list;
 use crate::line::log;
 use crate::parts::{GREATEST_CLOCK, tx};
 use qc_entry::{Commit, Log, Prepared};
-use qc_msg::Record;
+use qc_msg::{EpochStart, Record};
 use qc_stamp::Stamp;
 use std::alloc::Global;
 
@@ -57,22 +57,30 @@ fn close(bytes: &[u8]) -> Result<(Record, &[u8]), Halt>
     Ok((Record::Close { epoch: epoch as u8 }, rest))
 }
 
-/// An Install, behind its kind.
-fn install(alloc: Global, bytes: &[u8]) -> Result<(Record, &[u8]), Halt>
-    ensures { Gives (λ x. (x.0, x.1.now)) result (body_at install_of start_form bytes.now) }
+/// What an epoch begins with.
+fn start(alloc: Global, bytes: &[u8]) -> Result<(EpochStart, &[u8]), Halt>
+    ensures { Gives (λ x. ((x.0.epoch, (x.0.clock, x.0.lines)), x.1.now)) result (start_form.read bytes.now) }
 {
     let (epoch, rest) = number(bytes, 1, 1, 8)?;
     let (clock, rest) = number(rest, 8, 0, GREATEST_CLOCK)?;
     let (lines, rest) = log(alloc, rest)?;
     let epoch = epoch as u8;
     Ok((
-        Record::Install {
+        EpochStart {
             epoch,
             clock,
             lines,
         },
         rest,
     ))
+}
+
+/// An Install, behind its kind.
+fn install(alloc: Global, bytes: &[u8]) -> Result<(Record, &[u8]), Halt>
+    ensures { Gives (λ x. (x.0, x.1.now)) result (body_at install_of start_form bytes.now) }
+{
+    let (start, rest) = start(alloc, bytes)?;
+    Ok((Record::Install(start), rest))
 }
 
 /// A Commit, behind its kind.
@@ -93,18 +101,8 @@ fn commit(alloc: Global, bytes: &[u8]) -> Result<(Record, &[u8]), Halt>
 fn decide(alloc: Global, bytes: &[u8]) -> Result<(Record, &[u8]), Halt>
     ensures { Gives (λ x. (x.0, x.1.now)) result (body_at decide_of start_form bytes.now) }
 {
-    let (epoch, rest) = number(bytes, 1, 1, 8)?;
-    let (clock, rest) = number(rest, 8, 0, GREATEST_CLOCK)?;
-    let (lines, rest) = log(alloc, rest)?;
-    let epoch = epoch as u8;
-    Ok((
-        Record::Decide {
-            epoch,
-            clock,
-            lines,
-        },
-        rest,
-    ))
+    let (start, rest) = start(alloc, bytes)?;
+    Ok((Record::Decide(start), rest))
 }
 
 /// The fault with so many of the bytes left.

@@ -3,6 +3,7 @@
 
 ghost use Rattle.std.specs.Prelude.{◌≡◌, ◌<◌, ℕ, List, [], ◌∷◌, ◌^◌, Err};
 ghost use Rattle.qc_msg.specs.declared.record.Record.TheVariants.{Close, Commit, Decide, Done, Install, Life, Prepare};
+ghost use Rattle.qc_msg.specs.Payloads.{start_with};
 ghost use Rattle.qc_record.specs.declared.fault.RecordFault.TheVariants.{Unknown};
 ghost use Rattle.qc_record.specs.Records.{record_at};
 ghost use Rattle.qc_record.specs.Spellings.{IsRead, TornAt, absent, behind_line, clock_bytes, commit, commit_bytes};
@@ -21,14 +22,14 @@ pub fn spellings_are_read()
         (Done (tx 15 1 1) (2 ^ 62)) }
     ensures close { IsRead (4 ∷ 8 ∷ []) (Close 8) }
     ensures install { IsRead (install_bytes 1 (line_bytes 5 1 9 7 1 3 5 []))
-        (Install 2 9 (line 5 1 9 7 1 3 5 ∷ [])) }
+        (Install (start_with 2 9 (line 5 1 9 7 1 3 5 ∷ []))) }
     ensures later_clock { IsRead (behind_line (line_bytes 10 0 1 1 1 0 0 []))
-        (Install 2 9 (line 9 2 3 7 4 5 6 ∷ line 10 0 1 1 1 0 0 ∷ [])) }
+        (Install (start_with 2 9 (line 9 2 3 7 4 5 6 ∷ line 10 0 1 1 1 0 0 ∷ []))) }
     ensures later_event { IsRead (behind_line (line_bytes 9 2 3 7 4 5 7 []))
-        (Install 2 9 (line 9 2 3 7 4 5 6 ∷ line 9 2 3 7 4 5 7 ∷ [])) }
+        (Install (start_with 2 9 (line 9 2 3 7 4 5 6 ∷ line 9 2 3 7 4 5 7 ∷ []))) }
     ensures commit { IsRead (commit_bytes 2 (0 ∷ 2 ∷ 2 ∷ 0 ∷ 0 ∷ 1 ∷ [])) (Commit commit) }
     ensures absent { IsRead (commit_bytes 1 (0 ∷ 2 ∷ 255 ∷ [])) (Commit absent) }
-    ensures decide { IsRead (7 ∷ 2 ∷ clock_bytes 0 (four 0 [])) (Decide 2 0 []) }
+    ensures decide { IsRead (7 ∷ 2 ∷ clock_bytes 0 (four 0 [])) (Decide (start_with 2 0 [])) }
 {}
 
 /// Locks, own lines and lines that are equal or descend are refused at the first

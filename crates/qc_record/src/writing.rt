@@ -9,7 +9,7 @@ use crate::line::put_log;
 use crate::parts::put_tx;
 use qc_entry::{Commit, Log, Prepared};
 use qc_list::OutOfMemory;
-use qc_msg::Record;
+use qc_msg::{EpochStart, Record};
 use qc_stamp::TxId;
 use std::alloc::Global;
 
@@ -36,13 +36,14 @@ fn put_done(out: &mut Vec<u8>, tx: &TxId, clock: u64) -> Result<(), OutOfMemory>
 }
 
 /// Adds what stands behind the kind of an Install or a Decide.
-fn put_start(out: &mut Vec<u8>, epoch: u8, clock: u64, lines: &Log) -> Result<(), OutOfMemory>
-    requires { length lines.now < 2 ^ 32 }
-    ensures { OnOk result (out.new.items ≡ out.old.items ++ start_form.spelled (epoch, (clock, lines.now))) }
+fn put_start(out: &mut Vec<u8>, start: &EpochStart) -> Result<(), OutOfMemory>
+    requires { length start.now.lines < 2 ^ 32 }
+    ensures { OnOk result (out.new.items
+        ≡ out.old.items ++ start_form.spelled (start.now.epoch, (start.now.clock, start.now.lines))) }
 {
-    put(out, 1, u64::from(epoch))?;
-    put(out, 8, clock)?;
-    put_log(out, lines)
+    put(out, 1, u64::from(start.epoch))?;
+    put(out, 8, start.clock)?;
+    put_log(out, &start.lines)
 }
 
 /// Adds what stands behind the kind of a Commit.
@@ -74,25 +75,17 @@ fn put_record(out: &mut Vec<u8>, rec: &Record) -> Result<(), OutOfMemory>
             put(out, 1, 4)?;
             put(out, 1, u64::from(*epoch))
         }
-        Record::Install {
-            epoch,
-            clock,
-            lines,
-        } => {
+        Record::Install(start) => {
             put(out, 1, 5)?;
-            put_start(out, *epoch, *clock, lines)
+            put_start(out, start)
         }
         Record::Commit(commit) => {
             put(out, 1, 6)?;
             put_commit(out, commit)
         }
-        Record::Decide {
-            epoch,
-            clock,
-            lines,
-        } => {
+        Record::Decide(start) => {
             put(out, 1, 7)?;
-            put_start(out, *epoch, *clock, lines)
+            put_start(out, start)
         }
     }
 }

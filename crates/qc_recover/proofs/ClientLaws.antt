@@ -25,9 +25,9 @@ life_more k records.Life = omega arith
 life_more k (records.Prepare p) = omega arith
 life_more k (records.Done tx clock) = omega arith
 life_more k (records.Close epoch) = omega arith
-life_more k (records.Install epoch clock lines) = omega arith
+life_more k (records.Install start) = omega arith
 life_more k (records.Commit commit) = omega arith
-life_more k (records.Decide epoch clock lines) = omega arith
+life_more k (records.Decide start) = omega arith
 
 pub lives_from : (k : Kept) (rs : List Record) → (fold keeps k rs).life ≡ k.life + count_by is_rise rs
 lives_from k [] = omega arith
@@ -88,9 +88,9 @@ none_from k (r ∷ rs) tx none = none_from (keeps k r) rs tx (λ c later. none c
       by (records.Prepare p) here = refl
       by (records.Done t clock) here = refl
       by (records.Close epoch) here = refl
-      by (records.Install epoch clock lines) here = refl
+      by (records.Install start) here = refl
       by (records.Commit c) here = others_known k.commits c tx (here c refl)
-      by (records.Decide epoch clock lines) here = refl
+      by (records.Decide start) here = refl
 
 pub none_known : (rs : List Record) (tx : TxId) → ((c : Commit) → In (records.Commit c) rs → same_tx c.tx tx ≡ false)
     → record_of (kept_by rs).commits tx ≡ None
@@ -103,9 +103,9 @@ clock_grows k records.Life = omega arith
 clock_grows k (records.Prepare p) = omega arith
 clock_grows k (records.Done tx clock) = omega arith
 clock_grows k (records.Close epoch) = omega arith
-clock_grows k (records.Install epoch clock lines) = omega arith
+clock_grows k (records.Install start) = omega arith
 clock_grows k (records.Commit commit) = omega arith
-clock_grows k (records.Decide epoch clock lines) = omega arith
+clock_grows k (records.Decide start) = omega arith
 
 clocks_grow : (k : Kept) (rs : List Record) → k.clock ≤ (fold keeps k rs).clock
 clocks_grow k [] = omega arith
@@ -133,13 +133,13 @@ clock_reached k records.Life = inl refl
 clock_reached k (records.Prepare p) = inl refl
 clock_reached k (records.Done tx clock) = inl refl
 clock_reached k (records.Close epoch) = inl refl
-clock_reached k (records.Install epoch clock lines) = inl refl
+clock_reached k (records.Install start) = inl refl
 clock_reached k (records.Commit c) = by (max_either k.clock c.stamp.clock) where
   by : (max k.clock c.stamp.clock ≡ k.clock) ⊎ (max k.clock c.stamp.clock ≡ c.stamp.clock)
       → IsReached k.clock (records.Commit c ∷ []) (max k.clock c.stamp.clock)
   by (inl same) = inl same
   by (inr same) = inr (c, inl refl, same)
-clock_reached k (records.Decide epoch clock lines) = inl refl
+clock_reached k (records.Decide start) = inl refl
 
 pub clocks_reached : (k : Kept) (rs : List Record) → IsReached k.clock rs (fold keeps k rs).clock
 clocks_reached k [] = inl refl

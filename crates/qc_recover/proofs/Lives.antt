@@ -10,9 +10,9 @@ site_life k records.Life = omega arith
 site_life k (records.Prepare p) = omega arith
 site_life k (records.Done tx clock) = omega arith
 site_life k (records.Close epoch) = omega arith
-site_life k (records.Install epoch clock lines) = omega arith
+site_life k (records.Install start) = omega arith
 site_life k (records.Commit commit) = omega arith
-site_life k (records.Decide epoch clock lines) = omega arith
+site_life k (records.Decide start) = omega arith
 
 pub site_lives : (k : by_site.Kept) (rs : List Record) → (fold by_site.keeps k rs).life ≤ k.life + length rs
 site_lives k [] = omega arith
@@ -26,9 +26,9 @@ client_life k records.Life = omega arith
 client_life k (records.Prepare p) = omega arith
 client_life k (records.Done tx clock) = omega arith
 client_life k (records.Close epoch) = omega arith
-client_life k (records.Install epoch clock lines) = omega arith
+client_life k (records.Install start) = omega arith
 client_life k (records.Commit commit) = omega arith
-client_life k (records.Decide epoch clock lines) = omega arith
+client_life k (records.Decide start) = omega arith
 
 pub client_lives : (k : by_client.Kept) (rs : List Record) → (fold by_client.keeps k rs).life ≤ k.life + length rs
 client_lives k [] = omega arith

@@ -24,9 +24,9 @@ one_more k (records.Prepare q) p member = by (In-more p q (without_prepared k.pr
   by (inr same) = inr (ap records.Prepare (sym same))
 one_more k (records.Done tx clock) p member = inl (still k.promises tx p member)
 one_more k (records.Close epoch) p member = inl member
-one_more k (records.Install epoch clock lines) p member = absurd member
+one_more k (records.Install start) p member = absurd member
 one_more k (records.Commit commit) p member = inl member
-one_more k (records.Decide epoch clock lines) p member = inl member
+one_more k (records.Decide start) p member = inl member
 
 from_records : (rs : List Record) (k : Kept) (p : Prepared) → In p (fold keeps k rs).promises
     → In p k.promises ⊎ In (records.Prepare p) rs

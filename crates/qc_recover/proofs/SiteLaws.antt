@@ -38,9 +38,9 @@ life_more k records.Life = omega arith
 life_more k (records.Prepare p) = omega arith
 life_more k (records.Done tx clock) = omega arith
 life_more k (records.Close epoch) = omega arith
-life_more k (records.Install epoch clock lines) = omega arith
+life_more k (records.Install start) = omega arith
 life_more k (records.Commit commit) = omega arith
-life_more k (records.Decide epoch clock lines) = omega arith
+life_more k (records.Decide start) = omega arith
 
 pub lives_from : (k : Kept) (rs : List Record) → (fold keeps k rs).life ≡ k.life + count_by begins_life rs
 lives_from k [] = omega arith
@@ -86,9 +86,9 @@ once_kept k (records.Prepare p) once =
 once_kept k (records.Done tx clock) once =
     once-filter promiser (λ (q : Prepared). not (same_tx q.tx tx)) k.promises once
 once_kept k (records.Close epoch) once = once
-once_kept k (records.Install epoch clock lines) once = tt
+once_kept k (records.Install start) once = tt
 once_kept k (records.Commit commit) once = once
-once_kept k (records.Decide epoch clock lines) once = once
+once_kept k (records.Decide start) once = once
 
 once_from : (k : Kept) (rs : List Record) → IsOneForEach promiser k.promises
     → IsOneForEach promiser (fold keeps k rs).promises
@@ -176,9 +176,9 @@ clock_grows k records.Life = omega arith
 clock_grows k (records.Prepare p) = latest_grows k.clock p.lines
 clock_grows k (records.Done tx clock) = omega arith
 clock_grows k (records.Close epoch) = omega arith
-clock_grows k (records.Install epoch clock lines) = let rest = latest_grows k.clock lines in omega arith
+clock_grows k (records.Install start) = let rest = latest_grows k.clock start.lines in omega arith
 clock_grows k (records.Commit commit) = omega arith
-clock_grows k (records.Decide epoch clock lines) = omega arith
+clock_grows k (records.Decide start) = omega arith
 
 clocks_grow : (k : Kept) (rs : List Record) → k.clock ≤ (fold keeps k rs).clock
 clocks_grow k [] = omega arith
@@ -190,11 +190,11 @@ clock_passes k (records.Prepare p) clock member = latest_passes k.clock p.lines 
 clock_passes k (records.Done tx done) clock (inl same) = omega arith
 clock_passes k (records.Done tx done) clock (inr never) = absurd never
 clock_passes k (records.Close epoch) clock member = absurd member
-clock_passes k (records.Install epoch began lines) clock (inl same) = omega arith
-clock_passes k (records.Install epoch began lines) clock (inr later) = let rest =
-    latest_passes k.clock lines clock later in omega arith
+clock_passes k (records.Install start) clock (inl same) = omega arith
+clock_passes k (records.Install start) clock (inr later) = let rest =
+    latest_passes k.clock start.lines clock later in omega arith
 clock_passes k (records.Commit commit) clock member = absurd member
-clock_passes k (records.Decide epoch began lines) clock member = absurd member
+clock_passes k (records.Decide start) clock member = absurd member
 
 pub clocks_passed : (k : Kept) (rs : List Record) (r : Record) (clock : ℕ) → In r rs → In clock (clocks_in r)
     → clock ≤ (fold keeps k rs).clock

@@ -46,9 +46,9 @@ one_more k (records.Done tx clock) w sorted = record {
   promises = left_sorted k.promises tx w.promises;
 }
 one_more k (records.Close epoch) w sorted = record { began = w.began; lines = w.lines; promises = w.promises }
-one_more k (records.Install epoch clock lines) w sorted = record { began = sorted; lines = tt; promises = tt }
+one_more k (records.Install start) w sorted = record { began = sorted; lines = tt; promises = tt }
 one_more k (records.Commit commit) w sorted = w
-one_more k (records.Decide epoch clock lines) w sorted = w
+one_more k (records.Decide start) w sorted = w
 
 from : (k : Kept) (rs : List Record) → IsKeptSorted k → ((r : Record) → In r rs → IsRecordSorted r)
     → IsKeptSorted (fold keeps k rs)

@@ -7,7 +7,8 @@ use Rattle.qc_list.specs.Vocabulary.{Ascends}
 use Rattle.qc_lock.specs.Vocabulary.{lock_cmp, own_cmp}
 use Rattle.qc_msg.specs.declared.record.Record.{Record}
 use Rattle.qc_msg.specs.declared.record.Record.TheVariants as records
-use Rattle.qc_msg.specs.Vocabulary.{Finished, Installing, done_in, install_in, prepare_in, is_life, close_in}
+use Rattle.qc_msg.specs.Vocabulary.{Finished, done_in, install_in, prepare_in, is_life, close_in}
+use Rattle.qc_msg.specs.declared.payload.EpochStart.{EpochStart}
 use Rattle.qc_entry.specs.declared.record.Prepared.{Prepared}
 use Rattle.qc_entry.specs.declared.record.Commit.{Commit}
 
@@ -27,11 +28,11 @@ abbrev pub clocks_in : Record → List ℕ
 clocks_in written =
     option_map_or (λ (p : Prepared). clocks_of p.lines) (prepare_in written)
     (option_map_or (λ (f : Finished). f.clock ∷ []) (done_in written)
-    (option_map_or (λ (i : Installing). i.clock ∷ clocks_of i.lines) (install_in written) []))
+    (option_map_or (λ (i : EpochStart). i.clock ∷ clocks_of i.lines) (install_in written) []))
 
 -- the locks, own lines and lines of a site's record
 abbrev pub IsRecordSorted : Record → Type 0
 IsRecordSorted written =
     MatchOption (prepare_in written)
-    (MatchOption (install_in written) (Unit {0}) (λ (i : Installing). IsAscending i.lines))
+    (MatchOption (install_in written) (Unit {0}) (λ (i : EpochStart). IsAscending i.lines))
     (λ (p : Prepared). Ascends lock_cmp p.locks × Ascends own_cmp p.own × IsAscending p.lines)

@@ -81,8 +81,8 @@ impl ClientRecords {
             Record::Prepare(_)
             | Record::Done { .. }
             | Record::Close { .. }
-            | Record::Install { .. }
-            | Record::Decide { .. } => {}
+            | Record::Install(_)
+            | Record::Decide(_) => {}
         }
         Ok(())
     }

@@ -17,6 +17,7 @@ ghost use Rattle.qc_lock.specs.Held.{held_of, is_held, with_locks, with_owns};
 ghost use Rattle.qc_msg.specs.declared.message.Outcome.TheVariants.{Aborted, Committed};
 ghost use Rattle.qc_msg.specs.declared.record.Record.{Record};
 ghost use Rattle.qc_msg.specs.declared.record.Record.TheVariants.{Close, Commit, Done, Install, Life, Prepare};
+ghost use Rattle.qc_msg.specs.Payloads.{start_with};
 ghost use Rattle.qc_recover.specs.Clients.{client_of, client_rises};
 ghost use Rattle.qc_recover.specs.Sites.{site_of, site_rises};
 ghost use Rattle.qc_site.specs.Epochs.{in_order};
@@ -65,14 +66,14 @@ pub fn closes_add_a_life()
 /// prepared before, gives no lines.
 pub fn installs_begin_anew()
     ensures anew { (number : ℕ) (rs : List Record) (epoch clock : ℕ) (lines : List Line)
-        → site_of number (rs ++ Install epoch clock lines ∷ []) ≡ record (new_site number) {
+        → site_of number (rs ++ Install (start_with epoch clock lines) ∷ []) ≡ record (new_site number) {
           life = (site_of number rs).life;
           epoch = epoch;
           began = lines;
           clock = max (latest (site_of number rs).clock lines) clock;
         } }
     ensures late { (number : ℕ) (rs : List Record) (epoch clock done : ℕ) (lines : List Line) (tx : TxId)
-        → (site_of number (rs ++ Install epoch clock lines ∷ Done tx done ∷ [])).log ≡ [] }
+        → (site_of number (rs ++ Install (start_with epoch clock lines) ∷ Done tx done ∷ [])).log ≡ [] }
 {}
 
 /// The last Prepare of a transaction is its promise, until it is done. Those of

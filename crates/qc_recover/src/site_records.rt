@@ -7,7 +7,7 @@ ghost use Rattle.qc_recover.specs.Sites.{done_lines, keeps, nothing_kept, with_p
 use crate::lines::LineSet;
 use qc_entry::{Log, Prepared};
 use qc_list::OutOfMemory;
-use qc_msg::{FIRST_EPOCH, Record};
+use qc_msg::{EpochStart, FIRST_EPOCH, Record};
 use qc_site::{Promises, latest, lines_of};
 use qc_stamp::{Clock, FIRST_LIFE, Stamp, TxId};
 use std::alloc::Global;
@@ -81,12 +81,8 @@ impl SiteRecords {
                 self.life += 1;
                 self.closed_for = Some(*epoch);
             }
-            Record::Install {
-                epoch,
-                clock,
-                lines,
-            } => self.install(alloc, *epoch, *clock, lines)?,
-            Record::Commit(_) | Record::Decide { .. } => {}
+            Record::Install(start) => self.install(alloc, start)?,
+            Record::Commit(_) | Record::Decide(_) => {}
         }
         Ok(())
     }
@@ -116,23 +112,17 @@ impl SiteRecords {
     }
 
     /// An epoch began, with this clock and these lines, and without promises.
-    fn install(
-        &mut self,
-        alloc: Global,
-        epoch: u8,
-        clock: u64,
-        lines: &Log,
-    ) -> Result<(), OutOfMemory>
-        ensures { OnOk result (self.new ≡ keeps self.old (Install epoch clock lines.now)) }
+    fn install(&mut self, alloc: Global, start: &EpochStart) -> Result<(), OutOfMemory>
+        ensures { OnOk result (self.new ≡ keeps self.old (Install start.now)) }
     {
-        self.epoch = epoch;
+        self.epoch = start.epoch;
         self.closed_for = None;
-        self.began = lines.copy()?;
+        self.began = start.lines.copy()?;
         self.lines = LineSet::new(alloc);
         self.prepares = Promises::new(alloc);
         self.promises = Promises::new(alloc);
-        self.clock = latest(self.clock, lines.lines());
-        self.clock.pass(clock);
+        self.clock = latest(self.clock, start.lines.lines());
+        self.clock.pass(start.clock);
         Ok(())
     }
 }

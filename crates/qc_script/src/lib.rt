@@ -8,7 +8,7 @@
 //! far (`specs/Places.antt`). What holds:
 //!
 //! 1. The reader gives exactly the script that the grammar gives, or names the
-//!    first line that is refused, with what is wrong with it (`read`).
+//!    first line that is refused, with what is wrong with it (`read_script`).
 //! 2. Each form of a line is read as just that line, and a script that is
 //!    written line by line as its lines in a row (`lines_are_read_as_written`,
 //!    `scripts_are_read_as_written`).
@@ -45,7 +45,7 @@ pub use laws::{
     scripts_are_read_as_written, scripts_name_what_is_declared,
 };
 pub use range::MOST_NUMBER;
-pub use reader::read;
+pub use reader::read_script;
 pub use runs::{nobody_is_down_without_falls, runs_without_falls_are_runs};
 pub use script::{
     CommandLine, CommandLines, Controls, LineKind, LinkLines, PhaseLines, PhaseList, Script,

@@ -21,7 +21,7 @@ use std::alloc::Global;
 /// # Errors
 /// `ScriptLine` where the grammar refuses a line: the first such line, and what is
 /// wrong with it.
-pub fn read(alloc: Global, bytes: &[u8], decl: &Declaration) -> Result<Script, ScriptFault>
+pub fn read_script(alloc: Global, bytes: &[u8], decl: &Declaration) -> Result<Script, ScriptFault>
     requires few { length bytes.now ≤ most_script_bytes }
     requires actors { decl.now.sites + decl.now.clients < 256 }
     requires epochs { length decl.now.plans < 256 }

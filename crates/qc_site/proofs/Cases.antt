@@ -17,6 +17,7 @@ use Rattle.qc_msg.specs.declared.message.Want.TheVariants.{Read, Append, Prepare
 use Rattle.qc_msg.specs.declared.record.Record.TheVariants as records
 use Rattle.qc_msg.specs.declared.turn.Turn.{Turn}
 use Rattle.qc_msg.specs.Vocabulary.{epoch_length}
+use Rattle.qc_msg.specs.Vocabulary.{read_of, start_with}
 use Rattle.qc_site.specs.Vocabulary.{SiteMove, SiteState, answers, appends, closed, closes_in, dropped, installed}
 use Rattle.qc_site.specs.Vocabulary.{installs, installs_in, is_final, joins, moved, promise_of, promised, reads}
 use Rattle.qc_site.specs.Vocabulary.{recording, site_at}
@@ -27,7 +28,7 @@ use Rattle.qc_site.proofs.RequestCases.{join_cases, close_cases}
 pub install_cases : (P : SiteMove → Type 0) (s : SiteState) (from number k clock : ℕ) (lines : List Line)
     → ((answer : Answer) → P (moved s (answers from number answer)))
     → (nat_le k s.epoch ≡ false → nat_le (epoch_length lines) most_record_bytes ≡ true
-    → P (moved (installed s k clock lines) (recording from number (records.Install k clock lines) says.Installed)))
+    → P (moved (installed s k clock lines) (recording from number (records.Install (start_with k clock lines)) says.Installed)))
     → P (installs s from number k clock lines)
 install_cases P s from number k clock lines told made =
     choose P (nat_le k s.epoch) _ _ (λ is. told says.Installed)
@@ -37,7 +38,7 @@ install_cases P s from number k clock lines told made =
 -- the state alone: as it was, or changed by a grant, a promise or a decision, or as an epoch is closed or begun
 pub state_cases : (P : SiteState → Type 0) (decl : Declaration) (s : SiteState) (from number : ℕ) (message : Message)
     → P s
-    → ((tx : TxId) (epoch life object inv : ℕ) → message ≡ messages.Request tx epoch life (Read object inv)
+    → ((tx : TxId) (epoch life object inv : ℕ) → message ≡ messages.Request tx epoch life (Read (read_of object inv))
     → P (reads s from number tx object inv).site)
     →
     ((tx : TxId) (epoch life object : ℕ) (view : List Line) (own : List OwnLine)
@@ -49,13 +50,13 @@ pub state_cases : (P : SiteState → Type 0) (decl : Declaration) (s : SiteState
     → ((tx : TxId) (stamp : Stamp) (p : Prepared) → message ≡ messages.Decision tx (Committed stamp)
     → P (joins s tx stamp (Some p)).site)
     → ((k : ℕ) → message ≡ messages.Close k → P (closed s k))
-    → ((k clock : ℕ) (lines : List Line) → message ≡ messages.Install k clock lines → nat_le k s.epoch ≡ false
+    → ((k clock : ℕ) (lines : List Line) → message ≡ messages.Install (start_with k clock lines) → nat_le k s.epoch ≡ false
     → P (installed s k clock lines))
     → P (site_at decl s from number message).site
-state_cases P decl s from number (messages.Request tx epoch life (Read object inv)) same read append promise drop join
+state_cases P decl s from number (messages.Request tx epoch life (Read read_here)) same read append promise drop join
     close install =
-    request_cases (λ m. P m.site) decl s from number tx epoch life (Read object inv) same (λ fault is. same)
-    (λ is. read_cases (λ m. P m.site) decl s from number tx object inv (λ free. read tx epoch life object inv refl)
+    request_cases (λ m. P m.site) decl s from number tx epoch life (Read read_here) same (λ fault is. same)
+    (λ is. read_cases (λ m. P m.site) decl s from number tx read_here.object read_here.inv (λ free. read tx epoch life read_here.object read_here.inv refl)
     (λ c clash. same))
 state_cases P decl s from number (messages.Request tx epoch life (Append object view own)) same read append promise drop
     join close install =
@@ -77,14 +78,14 @@ state_cases P decl s from number (messages.Inquiry tx) same read append promise 
 state_cases P decl s from number (messages.Ask tx) same read append promise drop join close install = same
 state_cases P decl s from number (messages.Close k) same read append promise drop join close install =
     close_cases (λ m. P m.site) s from number k (λ answer. same) (λ near later. close k refl)
-state_cases P decl s from number (messages.Install k clock lines) same read append promise drop join close install =
-    install_cases (λ m. P m.site) s from number k clock lines (λ answer. same)
-    (λ later fits. install k clock lines refl later)
+state_cases P decl s from number (messages.Install start) same read append promise drop join close install =
+    install_cases (λ m. P m.site) s from number start.epoch start.clock start.lines (λ answer. same)
+    (λ later fits. install start.epoch start.clock start.lines refl later)
 
 -- the same where the turn begins no epoch
 pub lasting_cases : (P : SiteState → Type 0) (decl : Declaration) (s : SiteState) (from number : ℕ) (message : Message)
     → P s
-    → ((tx : TxId) (epoch life object inv : ℕ) → message ≡ messages.Request tx epoch life (Read object inv)
+    → ((tx : TxId) (epoch life object inv : ℕ) → message ≡ messages.Request tx epoch life (Read (read_of object inv))
     → P (reads s from number tx object inv).site)
     →
     ((tx : TxId) (epoch life object : ℕ) (view : List Line) (own : List OwnLine)
@@ -100,7 +101,7 @@ pub lasting_cases : (P : SiteState → Type 0) (decl : Declaration) (s : SiteSta
     → P (site_at decl s from number message).site
 lasting_cases P decl s from number message same read append promise drop join close = by message refl
   where
-    others : (m : Message) → message ≡ m → ((k clock : ℕ) (lines : List Line) → m ≡ messages.Install k clock lines → ⊥)
+    others : (m : Message) → message ≡ m → ((k clock : ℕ) (lines : List Line) → m ≡ messages.Install (start_with k clock lines) → ⊥)
         → P (site_at decl s from number m).site
     others m is never =
         state_cases P decl s from number m same
@@ -119,8 +120,8 @@ lasting_cases P decl s from number message same read append promise drop join cl
     by (messages.Inquiry tx) is lasts = same
     by (messages.Ask tx) is lasts = same
     by (messages.Close k) is lasts = others (messages.Close k) is (λ n clock lines this. let none : ⊥ = cc in none)
-    by (messages.Install k clock lines) is lasts =
-        install_cases (λ m. installs_in m.turn ≡ false → P m.site) s from number k clock lines (λ answer none. same)
+    by (messages.Install start) is lasts =
+        install_cases (λ m. installs_in m.turn ≡ false → P m.site) s from number start.epoch start.clock start.lines (λ answer none. same)
         (λ later fits none. absurd (let clash : ⊥ = cc in clash)) lasts
 
 -- and where it closes none either
@@ -130,7 +131,7 @@ IsSteady turn = (closes_in turn ≡ false) × (installs_in turn ≡ false)
 
 pub steady_cases : (P : SiteState → Type 0) (decl : Declaration) (s : SiteState) (from number : ℕ) (message : Message)
     → P s
-    → ((tx : TxId) (epoch life object inv : ℕ) → message ≡ messages.Request tx epoch life (Read object inv)
+    → ((tx : TxId) (epoch life object inv : ℕ) → message ≡ messages.Request tx epoch life (Read (read_of object inv))
     → P (reads s from number tx object inv).site)
     →
     ((tx : TxId) (epoch life object : ℕ) (view : List Line) (own : List OwnLine)
@@ -166,5 +167,5 @@ steady_cases P decl s from number message same read append promise drop join = b
     by (messages.Close k) is steady =
         close_cases (λ m. closes_in m.turn ≡ false → P m.site) s from number k (λ answer none. same)
         (λ near later none. absurd (let clash : ⊥ = cc in clash)) steady.0
-    by (messages.Install k clock lines) is steady =
-        others (messages.Install k clock lines) is (λ n this. let none : ⊥ = cc in none) steady
+    by (messages.Install start) is steady =
+        others (messages.Install start) is (λ n this. let none : ⊥ = cc in none) steady

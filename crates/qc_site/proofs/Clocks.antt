@@ -49,7 +49,7 @@ latest_passes clock (l ∷ ls) stamp (inr member) = latest_passes (max clock l.s
 -- the clock as a message comes
 
 asked_later : (clock : ℕ) (want : Want) → clock ≤ clock_asked clock want
-asked_later clock (Read object inv) = omega arith
+asked_later clock (Read read) = omega arith
 asked_later clock (Append object view own) = latest_later clock view
 asked_later clock Prepare = omega arith
 
@@ -65,11 +65,11 @@ after_later clock (messages.Decision tx verdict) = told_later clock verdict
 after_later clock (messages.Inquiry tx) = omega arith
 after_later clock (messages.Ask tx) = omega arith
 after_later clock (messages.Close epoch) = omega arith
-after_later clock (messages.Install epoch installed lines) = latest_later clock lines
+after_later clock (messages.Install start) = latest_later clock start.lines
 
 asked_passes : (clock : ℕ) (want : Want) (stamp : Stamp) → In stamp (stamps_of (view_in want))
     → stamp.clock ≤ clock_asked clock want
-asked_passes clock (Read object inv) stamp member = absurd member
+asked_passes clock (Read read) stamp member = absurd member
 asked_passes clock (Append object view own) stamp member = latest_passes clock view stamp member
 asked_passes clock Prepare stamp member = absurd member
 
@@ -89,7 +89,7 @@ after_passes clock (messages.Decision tx verdict) stamp member = told_passes clo
 after_passes clock (messages.Inquiry tx) stamp member = absurd member
 after_passes clock (messages.Ask tx) stamp member = absurd member
 after_passes clock (messages.Close epoch) stamp member = absurd member
-after_passes clock (messages.Install epoch installed lines) stamp member = latest_passes clock lines stamp member
+after_passes clock (messages.Install start) stamp member = latest_passes clock start.lines stamp member
 
 pub never_falls : (decl : Declaration) (s : SiteState) (from number : ℕ) (message : Message)
     → s.clock ≤ (site_on decl s from number message).site.clock

@@ -23,6 +23,7 @@ use Rattle.qc_msg.specs.declared.message.Message.TheVariants as messages
 use Rattle.qc_msg.specs.declared.message.Outcome.{Outcome}
 use Rattle.qc_msg.specs.declared.message.Outcome.TheVariants.{Committed, Aborted, Active}
 use Rattle.qc_msg.specs.declared.message.Want.TheVariants.{Read, Append}
+use Rattle.qc_msg.specs.Vocabulary.{read_of}
 use Rattle.qc_site.specs.Vocabulary.{HasOperation, SiteMove, SiteState, ends, finishes, grants_in, is_final, passed}
 use Rattle.qc_site.specs.Vocabulary.{prepared_of, site_at, site_on, without_prepared}
 use Rattle.qc_site.proofs.RequestCases.{append_cases, fault_grants_not, never, join_cases, read_cases, request_cases}
@@ -147,19 +148,19 @@ Locks s tx lock m = grants_in m.turn ≡ true
 
 read_holds_at : (decl : Declaration) (s : SiteState) (from number : ℕ) (tx : TxId) (epoch life object inv : ℕ)
     → Locks s tx (record { object = object; inv = inv })
-    (site_at decl s from number (messages.Request tx epoch life (Read object inv)))
+    (site_at decl s from number (messages.Request tx epoch life (Read (read_of object inv))))
 read_holds_at decl s from number tx epoch life object inv =
     request_cases (Locks s tx (record { object = object; inv = inv })) decl s from number tx epoch life
-    (Read object inv) never
+    (Read (read_of object inv)) never
     (λ fault is. fault_grants_not _ s epoch life fault is)
     (λ is. read_cases (Locks s tx (record { object = object; inv = inv })) decl s from number tx object inv
     (λ free granted. locks_given s.held tx (record { object = object; inv = inv } ∷ []) []) (λ c clash. never))
 
 pub read_holds : (decl : Declaration) (s : SiteState) (from number : ℕ) (tx : TxId) (epoch life object inv : ℕ)
     → Locks s tx (record { object = object; inv = inv })
-    (site_on decl s from number (messages.Request tx epoch life (Read object inv)))
+    (site_on decl s from number (messages.Request tx epoch life (Read (read_of object inv))))
 read_holds decl s from number tx epoch life object inv =
-    read_holds_at decl (passed s (messages.Request tx epoch life (Read object inv))) from number tx epoch life object
+    read_holds_at decl (passed s (messages.Request tx epoch life (Read (read_of object inv)))) from number tx epoch life object
     inv
 
 abbrev Owns : SiteState → TxId → List OwnLine → SiteMove → Type 0

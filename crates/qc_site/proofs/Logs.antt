@@ -32,8 +32,8 @@ fault_gains s from number epoch life lines =
 
 want_gains : (decl : Declaration) (s : SiteState) (from number : ℕ) (tx : TxId) (want : Want)
     → Gains s (view_in want) (grants decl s from number tx want)
-want_gains decl s from number tx (Read object inv) =
-    read_cases (Gains s []) decl s from number tx object inv (λ free. nothing s) (λ c clash. nothing s)
+want_gains decl s from number tx (Read read) =
+    read_cases (Gains s []) decl s from number tx read.object read.inv (λ free. nothing s) (λ c clash. nothing s)
 want_gains decl s from number tx (Append object view own) =
     append_cases (Gains s view) decl s from number tx object view own (λ free. refl) (λ c clash. nothing s)
 want_gains decl s from number tx Prepare =
@@ -59,8 +59,8 @@ gains_at decl s from number (messages.Ask tx) stays = nothing s
 gains_at decl s from number (messages.Close k) stays =
     close_cases (λ (m : SiteMove). m.site.log ≡ learned s []) s from number k (λ answer. nothing s)
     (λ near later. nothing s)
-gains_at decl s from number (messages.Install k clock lines) stays =
-    install_cases (λ (m : SiteMove). installs_in m.turn ≡ false → m.site.log ≡ learned s []) s from number k clock lines
+gains_at decl s from number (messages.Install start) stays =
+    install_cases (λ (m : SiteMove). installs_in m.turn ≡ false → m.site.log ≡ learned s []) s from number start.epoch start.clock start.lines
     (λ answer none. nothing s)
     (λ later fits none. absurd (let clash : ⊥ = cc in clash)) stays
 

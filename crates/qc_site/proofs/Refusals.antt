@@ -19,6 +19,7 @@ use Rattle.qc_msg.specs.declared.message.Outcome.TheVariants.{Committed, Aborted
 use Rattle.qc_msg.specs.declared.message.Want.{Want}
 use Rattle.qc_msg.specs.declared.message.Want.TheVariants.{Read, Append, Prepare}
 use Rattle.qc_msg.specs.declared.turn.Turn.{Turn}
+use Rattle.qc_msg.specs.Vocabulary.{read_of}
 use Rattle.qc_site.specs.Vocabulary.{SiteMove, SiteState, answer_of, answers, clashing, fault_of, grants, grants_in}
 use Rattle.qc_site.specs.Vocabulary.{passed, refuses_in, relation_at, site_at, site_on}
 use Rattle.qc_site.proofs.RequestCases.{append_cases, close_cases, fault_grants_not, fault_is, never, join_cases}
@@ -30,11 +31,11 @@ use Rattle.qc_site.proofs.Cases.{install_cases}
 read_free_at : (decl : Declaration) (s : SiteState) (from number : ℕ) (tx : TxId) (epoch life object inv : ℕ)
     (holder : Held) (line : OwnLine)
     → In holder s.held → same_tx holder.tx tx ≡ false → In line holder.own → line.object ≡ object
-    → grants_in (site_at decl s from number (messages.Request tx epoch life (Read object inv))).turn ≡ true
+    → grants_in (site_at decl s from number (messages.Request tx epoch life (Read (read_of object inv)))).turn ≡ true
     → depends (relation_at decl object) inv line.event ≡ false
 read_free_at decl s from number tx epoch life object inv holder line holds another own here =
     request_cases (λ (m : SiteMove). grants_in m.turn ≡ true → depends (relation_at decl object) inv line.event ≡ false)
-    decl s from number tx epoch life (Read object inv)
+    decl s from number tx epoch life (Read (read_of object inv))
     never (λ fault is. fault_grants_not (depends (relation_at decl object) inv line.event ≡ false) s epoch life fault
     is)
     (λ is. read_cases (λ (m : SiteMove). grants_in m.turn ≡ true
@@ -44,11 +45,11 @@ read_free_at decl s from number tx epoch life object inv holder line holds anoth
 
 pub read_conflicts_not : (decl : Declaration) (s : SiteState) (from number : ℕ) (tx : TxId) (epoch life object inv : ℕ)
     (holder : Held) (line : OwnLine)
-    → grants_in (site_on decl s from number (messages.Request tx epoch life (Read object inv))).turn ≡ true
+    → grants_in (site_on decl s from number (messages.Request tx epoch life (Read (read_of object inv)))).turn ≡ true
     → In holder s.held → same_tx holder.tx tx ≡ false → In line holder.own → line.object ≡ object
     → depends (relation_at decl object) inv line.event ≡ false
 read_conflicts_not decl s from number tx epoch life object inv holder line granted holds another own here =
-    read_free_at decl (passed s (messages.Request tx epoch life (Read object inv))) from number tx epoch life object inv
+    read_free_at decl (passed s (messages.Request tx epoch life (Read (read_of object inv)))) from number tx epoch life object inv
     holder line holds another own here granted
 
 append_free_at : (decl : Declaration) (s : SiteState) (from number : ℕ) (tx : TxId) (epoch life object : ℕ)
@@ -87,8 +88,8 @@ Unchanged s m = refuses_in m.turn ≡ true → (m.site ≡ s) × (m.turn.write �
 
 refused_want : (decl : Declaration) (s : SiteState) (from number : ℕ) (tx : TxId) (want : Want)
     → Unchanged s (grants decl s from number tx want)
-refused_want decl s from number tx (Read object inv) =
-    read_cases (Unchanged s) decl s from number tx object inv (λ free. never) (λ c clash yes. (refl, refl))
+refused_want decl s from number tx (Read read) =
+    read_cases (Unchanged s) decl s from number tx read.object read.inv (λ free. never) (λ c clash yes. (refl, refl))
 refused_want decl s from number tx (Append object view own) =
     append_cases (Unchanged s) decl s from number tx object view own (λ free. never) (λ c clash yes. (refl, refl))
 refused_want decl s from number tx Prepare =
@@ -108,8 +109,8 @@ refused_at decl s from number (messages.Inquiry tx) = never
 refused_at decl s from number (messages.Ask tx) = never
 refused_at decl s from number (messages.Close k) =
     close_cases (Unchanged s) s from number k (λ answer yes. (refl, refl)) (λ near later. never)
-refused_at decl s from number (messages.Install k clock lines) =
-    install_cases (Unchanged s) s from number k clock lines (λ answer yes. (refl, refl)) (λ later fits. never)
+refused_at decl s from number (messages.Install start) =
+    install_cases (Unchanged s) s from number start.epoch start.clock start.lines (λ answer yes. (refl, refl)) (λ later fits. never)
 
 pub refusal_changes_nothing : (decl : Declaration) (s : SiteState) (from number : ℕ) (message : Message)
     → refuses_in (site_on decl s from number message).turn ≡ true
@@ -149,10 +150,10 @@ ToldRead decl s from number tx object inv d turn =
 read_clash_at : (decl : Declaration) (s : SiteState) (from number : ℕ) (tx : TxId) (epoch life object inv : ℕ)
     (d : Conflict)
     → ToldRead decl s from number tx object inv d
-    (site_at decl s from number (messages.Request tx epoch life (Read object inv))).turn
+    (site_at decl s from number (messages.Request tx epoch life (Read (read_of object inv)))).turn
 read_clash_at decl s from number tx epoch life object inv d =
     request_cases (λ (m : SiteMove). ToldRead decl s from number tx object inv d m.turn) decl s from number tx epoch
-    life (Read object inv)
+    life (Read (read_of object inv))
     (λ is. absurd (let none : ⊥ = cc in none))
     (λ fault is. fault_clashes_not (IsSmallest (IsReadConflict (relation_at decl object) s.held tx object inv) (Some d)
     × (answers from number fault ≡ clashing decl from number d)) s epoch life d fault is)
@@ -166,9 +167,9 @@ read_clash_at decl s from number tx epoch life object inv d =
 pub read_clash_is_smallest : (decl : Declaration) (s : SiteState) (from number : ℕ) (tx : TxId)
     (epoch life object inv : ℕ) (d : Conflict)
     → ToldRead decl s from number tx object inv d
-    (site_on decl s from number (messages.Request tx epoch life (Read object inv))).turn
+    (site_on decl s from number (messages.Request tx epoch life (Read (read_of object inv)))).turn
 read_clash_is_smallest decl s from number tx epoch life object inv d =
-    read_clash_at decl (passed s (messages.Request tx epoch life (Read object inv))) from number tx epoch life object
+    read_clash_at decl (passed s (messages.Request tx epoch life (Read (read_of object inv)))) from number tx epoch life object
     inv d
 
 abbrev ToldAppend : Declaration → SiteState → ℕ → ℕ → TxId → ℕ → List OwnLine → Conflict → Turn → Type 0

@@ -18,6 +18,7 @@ use Rattle.qc_msg.specs.declared.message.Want.{Want}
 use Rattle.qc_msg.specs.declared.message.Want.TheVariants.{Read, Append}
 use Rattle.qc_msg.specs.declared.record.Record.TheVariants as records
 use Rattle.qc_msg.specs.Vocabulary.{epoch_length, quiet}
+use Rattle.qc_msg.specs.Vocabulary.{read_of, start_with}
 use Rattle.qc_site.specs.Vocabulary.{SiteMove, SiteState, answers, appends, appends_by, clashing, closed, closed_fault}
 use Rattle.qc_site.specs.Vocabulary.{closes, dropped, fault_of, finishes, grants, installed, installs, is_closed_for}
 use Rattle.qc_site.specs.Vocabulary.{is_grant, is_prepared, joins, moved, names_declared, prepare_length, prepared_of}
@@ -82,7 +83,7 @@ pub read_cases : (P : SiteMove → Type 0) (decl : Declaration) (s : SiteState) 
     → (read_clash (relation_at decl object) s.held tx object inv ≡ None → P (reads s from number tx object inv))
     → ((c : Conflict) → read_clash (relation_at decl object) s.held tx object inv ≡ Some c
     → P (moved s (clashing decl from number c)))
-    → P (grants decl s from number tx (Read object inv))
+    → P (grants decl s from number tx (Read (read_of object inv)))
 read_cases P decl s from number tx object inv free clash =
     by (read_clash (relation_at decl object) s.held tx object inv) refl
   where
@@ -148,7 +149,7 @@ close_rows P s from number k behind closed again made =
 pub install_rows : (P : SiteMove → Type 0) (s : SiteState) (from number k clock : ℕ) (lines : List Line)
     → P (moved s (answers from number says.Installed))
     → P (moved s (answers from number (says.Behind s.epoch)))
-    → P (moved (installed s k clock lines) (recording from number (records.Install k clock lines) says.Installed))
+    → P (moved (installed s k clock lines) (recording from number (records.Install (start_with k clock lines)) says.Installed))
     → P (installs s from number k clock lines)
 install_rows P s from number k clock lines known long made =
     choose P (nat_le k s.epoch) _ _ (λ is. known)

@@ -15,6 +15,7 @@ use Rattle.qc_msg.specs.declared.message.Message.TheVariants as messages
 use Rattle.qc_msg.specs.declared.message.Want.{Want}
 use Rattle.qc_msg.specs.declared.record.Record.TheVariants as records
 use Rattle.qc_msg.specs.Vocabulary.{epoch_length, quiet}
+use Rattle.qc_msg.specs.Vocabulary.{start_with}
 use Rattle.qc_site.specs.Vocabulary.{SiteMove, SiteState, answers, clock_after, closed, closed_fault, fault_of, grants}
 use Rattle.qc_site.specs.Vocabulary.{installed, is_closed_for, life_fault, moved, names_declared, passed, recording}
 use Rattle.qc_site.specs.Vocabulary.{requested, shut_answer, site_at, site_on}
@@ -172,19 +173,19 @@ module _ (decl : Declaration) (s : SiteState) (from number k : ℕ) where
 
 module _ (decl : Declaration) (s : SiteState) (from number k clock : ℕ) (lines : List Line) where
   pub install_known : k ≤ s.epoch
-      → site_on decl s from number (messages.Install k clock lines) ≡ moved (passed s (messages.Install k clock lines))
+      → site_on decl s from number (messages.Install (start_with k clock lines)) ≡ moved (passed s (messages.Install (start_with k clock lines)))
       (answers from number says.Installed)
   install_known low = rw (le-leb k s.epoch low) refl
 
   pub install_long : s.epoch < k → most_record_bytes < epoch_length lines
-      → site_on decl s from number (messages.Install k clock lines) ≡ moved (passed s (messages.Install k clock lines))
+      → site_on decl s from number (messages.Install (start_with k clock lines)) ≡ moved (passed s (messages.Install (start_with k clock lines)))
       (answers from number (says.Behind s.epoch))
   install_long later long = rw (later_not s.epoch k later, later_not most_record_bytes (epoch_length lines) long) refl
 
   pub install_begins : s.epoch < k → epoch_length lines ≤ most_record_bytes
-      → site_on decl s from number (messages.Install k clock lines)
-      ≡ moved (installed (passed s (messages.Install k clock lines)) k clock lines)
-      (recording from number (records.Install k clock lines) says.Installed)
+      → site_on decl s from number (messages.Install (start_with k clock lines))
+      ≡ moved (installed (passed s (messages.Install (start_with k clock lines))) k clock lines)
+      (recording from number (records.Install (start_with k clock lines)) says.Installed)
   install_begins later fits = rw (later_not s.epoch k later, le-leb (epoch_length lines) most_record_bytes fits) refl
 
 -- the number stays; lives and epochs rise, and stay where the turn neither closes nor begins one

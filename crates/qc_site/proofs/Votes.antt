@@ -97,8 +97,8 @@ prepare_backs s from number tx =
 
 want_backs : (decl : Declaration) (s : SiteState) (from number : ℕ) (tx : TxId) (want : Want)
     → Backs s from number tx (grants decl s from number tx want)
-want_backs decl s from number tx (Read object inv) =
-    read_cases (Backs s from number tx) decl s from number tx object inv (λ free. never) (λ c clash. never)
+want_backs decl s from number tx (Read read) =
+    read_cases (Backs s from number tx) decl s from number tx read.object read.inv (λ free. never) (λ c clash. never)
 want_backs decl s from number tx (Append object view own) =
     append_cases (Backs s from number tx) decl s from number tx object view own (λ free. never) (λ c clash. never)
 want_backs decl s from number tx Prepare = prepare_backs s from number tx

@@ -13,13 +13,14 @@ use Rattle.qc_msg.specs.declared.message.Want.{Want}
 use Rattle.qc_msg.specs.declared.message.Want.TheVariants.{Read, Append, Prepare}
 use Rattle.qc_msg.specs.declared.step.Input.{Input}
 use Rattle.qc_msg.specs.declared.step.Input.TheVariants as inputs
-use Rattle.qc_msg.specs.Vocabulary.{Deed, Falls, Rises, Sends, Takes, Tells, Writes, Decided, Installing, Requested}
+use Rattle.qc_msg.specs.Vocabulary.{Deed, Falls, Rises, Sends, Takes, Tells, Writes, Decided, Requested}
+use Rattle.qc_msg.specs.declared.payload.EpochStart.{EpochStart}
 use Rattle.qc_msg.specs.Vocabulary.{decision_in, installing_in, request_in}
 use Rattle.qc_site.specs.Promise.{lines_of, prepared_of}
 
 -- the view that a request carries
 abbrev pub view_in : Want → List Line
-view_in (Read object inv) = []
+view_in (Read read) = []
 view_in (Append object view own) = view
 view_in Prepare = []
 
@@ -37,7 +38,7 @@ abbrev pub stamps_in : Message → List Stamp
 stamps_in message =
     option_map_or (λ (q : Requested). stamps_of (view_in q.want)) (request_in message)
     (option_map_or (λ (v : Decided). stamps_told v.verdict) (decision_in message)
-    (option_map_or (λ (i : Installing). stamps_of i.lines) (installing_in message) []))
+    (option_map_or (λ (i : EpochStart). stamps_of i.lines) (installing_in message) []))
 
 abbrev pub stamps_given : Input → List Stamp
 stamps_given (inputs.Called command) = []

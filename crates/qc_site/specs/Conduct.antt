@@ -12,7 +12,8 @@ use Rattle.qc_msg.specs.declared.message.Want.{Want}
 use Rattle.qc_msg.specs.declared.message.Want.TheVariants.{Read, Append, Prepare}
 use Rattle.qc_msg.specs.declared.step.Input.{Input}
 use Rattle.qc_msg.specs.declared.step.Input.TheVariants as inputs
-use Rattle.qc_msg.specs.Vocabulary.{Deed, Falls, Rises, Sends, Takes, Tells, Writes, quiet, Decided, Installing}
+use Rattle.qc_msg.specs.Vocabulary.{Deed, Falls, Rises, Sends, Takes, Tells, Writes, quiet, Decided}
+use Rattle.qc_msg.specs.declared.payload.EpochStart.{EpochStart}
 use Rattle.qc_msg.specs.Vocabulary.{Requested, decision_in, installing_in, request_in}
 use Rattle.qc_site.specs.Site.{SiteState, SiteMove, moved, new_site}
 use Rattle.qc_site.specs.Epochs.{closes, installs}
@@ -25,7 +26,7 @@ abbrev pub latest : ℕ → List Line → ℕ
 latest clock lines = fold (λ c l. max c l.stamp.clock) clock lines
 
 abbrev pub clock_asked : ℕ → Want → ℕ
-clock_asked clock (Read object inv) = clock
+clock_asked clock (Read read) = clock
 clock_asked clock (Append object view own) = latest clock view
 clock_asked clock Prepare = clock
 
@@ -38,7 +39,7 @@ abbrev pub clock_after : ℕ → Message → ℕ
 clock_after clock message =
     option_map_or (λ (q : Requested). clock_asked clock q.want) (request_in message)
     (option_map_or (λ (v : Decided). clock_told clock v.verdict) (decision_in message)
-    (option_map_or (λ (i : Installing). latest clock i.lines) (installing_in message) clock))
+    (option_map_or (λ (i : EpochStart). latest clock i.lines) (installing_in message) clock))
 
 -- what the site does for a message once its clock has passed. Nobody sends it an answer, an Inquiry or an Ask
 abbrev pub site_at : Declaration → SiteState → ℕ → ℕ → Message → SiteMove
@@ -51,7 +52,7 @@ site_at decl s from number (messages.Decision tx verdict) = finishes s tx verdic
 site_at decl s from number (messages.Inquiry tx) = moved s quiet
 site_at decl s from number (messages.Ask tx) = moved s quiet
 site_at decl s from number (messages.Close epoch) = closes s from number epoch
-site_at decl s from number (messages.Install epoch clock lines) = installs s from number epoch clock lines
+site_at decl s from number (messages.Install start) = installs s from number start.epoch start.clock start.lines
 
 -- the site once its clock has passed
 abbrev pub passed : SiteState → Message → SiteState

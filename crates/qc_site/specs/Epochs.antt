@@ -15,6 +15,7 @@ use Rattle.qc_msg.specs.declared.message.Answer.{Answer}
 use Rattle.qc_msg.specs.declared.message.Answer.TheVariants.{Behind, Closed, Installed, Shut}
 use Rattle.qc_msg.specs.declared.record.Record.TheVariants as records
 use Rattle.qc_msg.specs.Vocabulary.{epoch_length}
+use Rattle.qc_msg.specs.Vocabulary.{snapshot_with, start_with}
 use Rattle.qc_site.specs.Site.{SiteState, SiteMove, moved, answers, known, recording}
 
 -- transactions in their order, and promises in that of their transactions
@@ -38,7 +39,7 @@ held_by promises = fold holds [] promises
 
 -- a closed site tells its clock, all lines that it knows, and its promises
 abbrev pub shut_answer : SiteState → Answer
-shut_answer s = Shut s.clock (known s) (promises_in_order s.prepared)
+shut_answer s = Shut (snapshot_with s.clock (known s) (promises_in_order s.prepared))
 
 -- it has closed: a new life begins, in which it holds what it has promised
 abbrev pub closed : SiteState → ℕ → SiteState
@@ -77,5 +78,5 @@ abbrev pub installs : SiteState → ℕ → ℕ → ℕ → ℕ → List Line �
 installs s from number k clock lines =
     if nat_le k s.epoch then moved s (answers from number Installed)
     else (if nat_le (epoch_length lines) most_record_bytes
-    then moved (installed s k clock lines) (recording from number (records.Install k clock lines) Installed)
+    then moved (installed s k clock lines) (recording from number (records.Install (start_with k clock lines)) Installed)
     else moved s (answers from number (Behind s.epoch)))

@@ -18,6 +18,7 @@ use Rattle.qc_msg.specs.declared.message.Want.{Want}
 use Rattle.qc_msg.specs.declared.message.Want.TheVariants.{Read, Append, Prepare}
 use Rattle.qc_msg.specs.declared.turn.Turn.{Turn}
 use Rattle.qc_msg.specs.Vocabulary.{sending}
+use Rattle.qc_msg.specs.Vocabulary.{grant_with}
 use Rattle.qc_site.specs.Site.{SiteState, SiteMove, moved, answering, answers, known, learned}
 use Rattle.qc_site.specs.Promise.{prepares}
 
@@ -47,7 +48,7 @@ abbrev pub reads : SiteState → ℕ → ℕ → TxId → ℕ → ℕ → SiteMo
 reads s from number tx object inv =
     moved
     (record s { held = with_held s.held tx (record { object = object; inv = inv } ∷ []) [] })
-    (answers from number (Granted s.life s.clock (of_object (known s) object)))
+    (answers from number (Granted (grant_with s.life s.clock (of_object (known s) object))))
 
 abbrev pub reads_by : Declaration → SiteState → ℕ → ℕ → TxId → ℕ → ℕ → Option Conflict → SiteMove
 reads_by decl s from number tx object inv None = reads s from number tx object inv
@@ -59,7 +60,7 @@ abbrev pub appends : SiteState → ℕ → ℕ → TxId → List Line → List O
 appends s from number tx view own =
     moved
     (record s { log = learned s view; held = with_held s.held tx [] own })
-    (answers from number (Granted s.life s.clock []))
+    (answers from number (Granted (grant_with s.life s.clock [])))
 
 abbrev pub appends_by : Declaration → SiteState → ℕ → ℕ → TxId → List Line → List OwnLine → Option Conflict → SiteMove
 appends_by decl s from number tx view own None = appends s from number tx view own
@@ -71,8 +72,8 @@ relation_at decl object = option_map_or (λ (k : Kind). k.relation) (kind_at dec
 
 -- a request of the site's epoch and life
 abbrev pub grants : Declaration → SiteState → ℕ → ℕ → TxId → Want → SiteMove
-grants decl s from number tx (Read object inv) =
-    reads_by decl s from number tx object inv (read_clash (relation_at decl object) s.held tx object inv)
+grants decl s from number tx (Read read) =
+    reads_by decl s from number tx read.object read.inv (read_clash (relation_at decl read.object) s.held tx read.object read.inv)
 grants decl s from number tx (Append object view own) =
     appends_by decl s from number tx view own (append_clash (relation_at decl object) s.held tx own)
 grants decl s from number tx Prepare = prepares s from number tx
@@ -84,7 +85,7 @@ requested decl s from number tx want None = grants decl s from number tx want
 -- whether what a request names is declared; no run gives another one
 
 abbrev pub names_object : Declaration → Want → Bool
-names_object decl (Read object inv) = is_some (kind_at decl object)
+names_object decl (Read read) = is_some (kind_at decl read.object)
 names_object decl (Append object view own) = is_some (kind_at decl object)
 names_object decl Prepare = true
 

@@ -7,7 +7,8 @@ use Rattle.qc_lock.specs.Vocabulary.{IsSound, lock_cmp, own_cmp}
 use Rattle.qc_msg.specs.declared.message.Message.{Message}
 use Rattle.qc_msg.specs.declared.step.Input.{Input}
 use Rattle.qc_msg.specs.declared.step.Input.TheVariants as inputs
-use Rattle.qc_msg.specs.Vocabulary.{Deed, Falls, Rises, Sends, Takes, Tells, Writes, Installing, Requested}
+use Rattle.qc_msg.specs.Vocabulary.{Deed, Falls, Rises, Sends, Takes, Tells, Writes, Requested}
+use Rattle.qc_msg.specs.declared.payload.EpochStart.{EpochStart}
 use Rattle.qc_msg.specs.Vocabulary.{installing_in, request_in}
 use Rattle.qc_site.specs.Brought.{view_in}
 use Rattle.qc_site.specs.Site.{SiteState}
@@ -30,7 +31,7 @@ pub record IsSiteSorted (s : SiteState) : Type 0 where
 abbrev pub IsMessageSorted : Message → Type 0
 IsMessageSorted message =
     MatchOption (request_in message)
-    (MatchOption (installing_in message) (Unit {0}) (λ (i : Installing). IsAscending i.lines))
+    (MatchOption (installing_in message) (Unit {0}) (λ (i : EpochStart). IsAscending i.lines))
     (λ (q : Requested). IsAscending (view_in q.want))
 
 abbrev pub IsGivenSorted : Input → Type 0

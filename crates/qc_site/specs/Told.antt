@@ -17,7 +17,7 @@ answer_in (messages.Decision tx verdict) = None
 answer_in (messages.Inquiry tx) = None
 answer_in (messages.Ask tx) = None
 answer_in (messages.Close epoch) = None
-answer_in (messages.Install epoch clock log) = None
+answer_in (messages.Install start) = None
 
 abbrev pub first_answer : List Posting → Option Answer
 first_answer [] = None
@@ -32,7 +32,7 @@ abbrev pub is_grant : Answer → Bool
 is_grant answer = is_some (granted_in answer)
 
 abbrev pub is_refusal : Answer → Bool
-is_refusal (answers.Granted life clock log) = false
+is_refusal (answers.Granted grant) = false
 is_refusal (answers.Clash holder inv event) = true
 is_refusal (answers.Closed epoch) = true
 is_refusal (answers.Behind epoch) = true
@@ -40,7 +40,7 @@ is_refusal (answers.Restarted life) = true
 is_refusal answers.Stale = true
 is_refusal answers.Fault = true
 is_refusal (answers.Yes clock) = false
-is_refusal (answers.Shut clock log prepared) = false
+is_refusal (answers.Shut snapshot) = false
 is_refusal answers.Installed = false
 is_refusal (answers.Answered verdict) = false
 

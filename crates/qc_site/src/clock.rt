@@ -14,7 +14,7 @@ pub(crate) fn clock_after(clock: Clock, message: &Message) -> Clock
     match message {
         Message::Request { want, .. } => clock_asked(clock, want),
         Message::Decision { verdict, .. } => clock_told(clock, *verdict),
-        Message::Install { log, .. } => latest(clock, log.lines()),
+        Message::Install(start) => latest(clock, start.lines.lines()),
         Message::Answer { .. }
         | Message::Inquiry { .. }
         | Message::Ask { .. }
@@ -28,7 +28,7 @@ fn clock_asked(clock: Clock, want: &Want) -> Clock
 {
     match want {
         Want::Append { view, .. } => latest(clock, view.lines()),
-        Want::Read { .. } | Want::Prepare => clock,
+        Want::Read(_) | Want::Prepare => clock,
     }
 }
 

@@ -13,7 +13,7 @@ use qc_decl::MOST_RECORD_BYTES;
 use qc_entry::Log;
 use qc_list::{List, OutOfMemory};
 use qc_lock::Locks;
-use qc_msg::{Answer, PreparedList, Record, Turn};
+use qc_msg::{Answer, EpochStart, PreparedList, Record, Snapshot, Turn};
 use std::alloc::Global;
 
 impl Site {
@@ -62,11 +62,11 @@ impl Site {
     fn shut(&self, alloc: Global) -> Result<Answer, OutOfMemory>
         ensures { IfOk result (λ answer. answer ≡ shut_answer self.now) }
     {
-        Ok(Answer::Shut {
+        Ok(Answer::Shut(Snapshot {
             clock: self.clock.value,
             log: self.known()?,
             prepared: promises_in_order(alloc, &self.prepared)?,
-        })
+        }))
     }
 
     /// Begins an epoch with these lines, and with nothing held or promised, where
@@ -75,52 +75,41 @@ impl Site {
         &mut self,
         alloc: Global,
         asker: Asker,
-        epoch: u8,
-        clock: u64,
-        lines: &Log,
+        start: &EpochStart,
     ) -> Result<Turn, OutOfMemory>
-        ensures ok { IfOk result (λ turn. installs self.old asker.from asker.number epoch clock lines.now
-            ≡ record { site = self.new; turn = turn }) }
+        ensures ok { IfOk result (λ turn. installs self.old asker.from asker.number start.now.epoch start.now.clock
+            start.now.lines ≡ record { site = self.new; turn = turn }) }
         ensures err { OnErr result (self.new ≡ self.old) }
     {
-        if epoch <= self.epoch {
+        if start.epoch <= self.epoch {
             return asker.answered(alloc, Answer::Installed);
         }
-        if !fits(lines) {
+        if !fits(&start.lines) {
             return asker.answered(alloc, Answer::Behind { epoch: self.epoch });
         }
-        let written = Record::Install {
-            epoch,
-            clock,
-            lines: lines.copy()?,
-        };
+        let written = Record::Install(start.copy()?);
         let turn = asker.recording(alloc, written, Answer::Installed)?;
-        self.begin(alloc, epoch, clock, lines)?;
+        self.begin(alloc, start)?;
         Ok(turn)
     }
 
     /// Begins an epoch.
-    fn begin(
-        &mut self,
-        alloc: Global,
-        epoch: u8,
-        clock: u64,
-        lines: &Log,
-    ) -> Result<(), OutOfMemory>
-        ensures ok { OnOk result (self.new ≡ installed self.old epoch clock lines.now) }
+    fn begin(&mut self, alloc: Global, start: &EpochStart) -> Result<(), OutOfMemory>
+        ensures ok { OnOk result (self.new
+            ≡ installed self.old start.now.epoch start.now.clock start.now.lines) }
         ensures err { OnErr result (self.new ≡ self.old) }
     {
-        let began = lines.copy()?;
+        let began = start.lines.copy()?;
         let log = Log::new(alloc)?;
         let recorded = Log::new(alloc)?;
-        self.epoch = epoch;
+        self.epoch = start.epoch;
         self.closed_for = None;
         self.began = began;
         self.log = log;
         self.recorded = recorded;
         self.held = Locks::new(alloc);
         self.prepared = Promises::new(alloc);
-        self.clock.pass(clock);
+        self.clock.pass(start.clock);
         Ok(())
     }
 }

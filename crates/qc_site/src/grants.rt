@@ -8,6 +8,7 @@ ghost use Rattle.qc_decl.specs.Lookup.{kind_at};
 ghost use Rattle.qc_entry.specs.Log.{of_object};
 ghost use Rattle.qc_lock.specs.Clash.{append_clash, read_clash};
 ghost use Rattle.qc_msg.specs.declared.message.Answer.TheVariants.{Granted};
+ghost use Rattle.qc_msg.specs.Payloads.{grant_with};
 ghost use Rattle.qc_site.specs.Requests.{appends_by, clashing, grants, names_declared, reads_by, relation_at};
 ghost use Rattle.qc_site.specs.Site.{moved};
 
@@ -18,7 +19,7 @@ use qc_decl::Declaration;
 use qc_entry::{Line, Log, Owns};
 use qc_list::OutOfMemory;
 use qc_lock::{Clash, LockFault};
-use qc_msg::{Answer, Message, Posting, Turn, Want};
+use qc_msg::{Answer, Grant, Message, Posting, ReadRequest, Turn, Want};
 use std::alloc::{AllocError, Global};
 
 impl Site {
@@ -39,7 +40,7 @@ impl Site {
         ensures err { OnErr result (self.new ≡ self.old) }
     {
         match want {
-            Want::Read { object, inv } => self.read(alloc, decl, requester, *object, *inv),
+            Want::Read(read) => self.read(alloc, decl, requester, *read),
             Want::Append { object, view, own } => {
                 self.append(alloc, decl, requester, *object, view, own)
             }
@@ -53,18 +54,19 @@ impl Site {
         alloc: Global,
         decl: &Declaration,
         requester: Requester,
-        object: u8,
-        inv: u8,
+        read: ReadRequest,
     ) -> Result<Turn, OutOfMemory>
         requires sites { decl.now.sites ≤ most_sites }
         requires client { requester.tx.client < most_clients }
-        requires declared { IsSome (kind_at decl.now object) }
-        ensures ok { IfOk result (λ turn. reads_by decl.now self.old requester.asker.from requester.asker.number requester.tx object inv
-            (read_clash (relation_at decl.now object) self.old.held requester.tx object inv)
+        requires declared { IsSome (kind_at decl.now read.object) }
+        ensures ok { IfOk result (λ turn. reads_by decl.now self.old requester.asker.from requester.asker.number
+            requester.tx read.object read.inv
+            (read_clash (relation_at decl.now read.object) self.old.held requester.tx read.object read.inv)
             ≡ record { site = self.new; turn = turn }) }
         ensures err { OnErr result (self.new ≡ self.old) }
     {
         let Requester { asker, tx } = requester;
+        let ReadRequest { object, inv } = read;
         let kind = kind_of(decl, object).unwrap();
         let turn = asker.answered(alloc, self.granted(self.known_of(object)?))?;
         match self.held.try_read(kind, tx, object, inv) {
@@ -111,13 +113,13 @@ impl Site {
 
     /// The answer that grants, with these lines.
     fn granted(&self, log: Log) -> Answer
-        ensures { result ≡ Granted self.now.life self.now.clock log }
+        ensures { result ≡ Granted (grant_with self.now.life self.now.clock log) }
     {
-        Answer::Granted {
+        Answer::Granted(Grant {
             life: self.life,
             clock: self.clock.value,
             log,
-        }
+        })
     }
 }
 

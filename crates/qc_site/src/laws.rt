@@ -32,6 +32,7 @@ ghost use Rattle.qc_msg.specs.declared.message.Want.TheVariants.{Read, Append};
 ghost use Rattle.qc_msg.specs.declared.record.Record.TheVariants as records;
 ghost use Rattle.qc_msg.specs.declared.step.Command.{Command};
 ghost use Rattle.qc_msg.specs.declared.step.Input.TheVariants.{Called, Lost};
+ghost use Rattle.qc_msg.specs.Payloads.{read_of, start_with};
 ghost use Rattle.qc_site.specs.Brought.{brought, stamps_in, stamps_taken};
 ghost use Rattle.qc_site.specs.Conduct.{decision_on, passed, request_on, site_after, site_on, site_takes};
 ghost use Rattle.qc_site.specs.Ended.{ends, is_final};
@@ -65,7 +66,7 @@ pub fn clocks_pass_what_comes()
 pub fn grants_conflict_with_nothing()
     ensures read { (decl : Declaration) (s : SiteState) (from number : ℕ) (tx : TxId) (epoch life object inv : ℕ)
         (holder : Held) (line : OwnLine)
-        → grants_in (request_on decl s from number tx epoch life (Read object inv)).turn ≡ true
+        → grants_in (request_on decl s from number tx epoch life (Read (read_of object inv))).turn ≡ true
         → IsAmong holder s.held → same_tx holder.tx tx ≡ false → IsAmong line holder.own → line.object ≡ object
         → depends (relation_at decl object) inv line.event ≡ false }
     ensures append { (decl : Declaration) (s : SiteState) (from number : ℕ) (tx : TxId) (epoch life object : ℕ)
@@ -88,10 +89,10 @@ pub fn refusals_change_nothing()
 pub fn clashes_are_the_smallest()
     ensures read { (decl : Declaration) (s : SiteState) (from number : ℕ) (tx : TxId) (epoch life object inv : ℕ)
         (c : Conflict)
-        → answer_of (request_on decl s from number tx epoch life (Read object inv)).turn
+        → answer_of (request_on decl s from number tx epoch life (Read (read_of object inv))).turn
         ≡ Some (Clash c.holder c.inv c.event)
         → IsSmallest (IsReadConflict (relation_at decl object) s.held tx object inv) (Some c)
-        × ((request_on decl s from number tx epoch life (Read object inv)).turn
+        × ((request_on decl s from number tx epoch life (Read (read_of object inv))).turn
         ≡ clashing decl from number c) }
     ensures append { (decl : Declaration) (s : SiteState) (from number : ℕ) (tx : TxId) (epoch life object : ℕ)
         (view : List Line) (own : List OwnLine) (c : Conflict)
@@ -105,8 +106,8 @@ pub fn clashes_are_the_smallest()
 /// What is granted is held: the lock of a Read, and the own lines of an Append.
 pub fn grants_are_held()
     ensures read { (decl : Declaration) (s : SiteState) (from number : ℕ) (tx : TxId) (epoch life object inv : ℕ)
-        → grants_in (request_on decl s from number tx epoch life (Read object inv)).turn ≡ true
-        → (held_of (request_on decl s from number tx epoch life (Read object inv)).site.held tx).locks
+        → grants_in (request_on decl s from number tx epoch life (Read (read_of object inv))).turn ≡ true
+        → (held_of (request_on decl s from number tx epoch life (Read (read_of object inv))).site.held tx).locks
         ≡ with_locks (held_of s.held tx).locks (record { object = object; inv = inv } ∷ []) }
     ensures append { (decl : Declaration) (s : SiteState) (from number : ℕ) (tx : TxId) (epoch life object : ℕ)
         (view : List Line) (own : List OwnLine)
@@ -239,17 +240,17 @@ pub fn closes_are_answered_by_rows()
 pub fn installs_are_answered_by_rows()
     ensures known { (decl : Declaration) (s : SiteState) (from number epoch clock : ℕ) (lines : List Line)
         → epoch ≤ s.epoch
-        → site_on decl s from number (messages.Install epoch clock lines)
-        ≡ moved (passed s (messages.Install epoch clock lines)) (answers from number Installed) }
+        → site_on decl s from number (messages.Install (start_with epoch clock lines))
+        ≡ moved (passed s (messages.Install (start_with epoch clock lines))) (answers from number Installed) }
     ensures long { (decl : Declaration) (s : SiteState) (from number epoch clock : ℕ) (lines : List Line)
         → s.epoch < epoch → most_record_bytes < epoch_length lines
-        → site_on decl s from number (messages.Install epoch clock lines)
-        ≡ moved (passed s (messages.Install epoch clock lines)) (answers from number (Behind s.epoch)) }
+        → site_on decl s from number (messages.Install (start_with epoch clock lines))
+        ≡ moved (passed s (messages.Install (start_with epoch clock lines))) (answers from number (Behind s.epoch)) }
     ensures begins { (decl : Declaration) (s : SiteState) (from number epoch clock : ℕ) (lines : List Line)
         → s.epoch < epoch → epoch_length lines ≤ most_record_bytes
-        → site_on decl s from number (messages.Install epoch clock lines)
-        ≡ moved (installed (passed s (messages.Install epoch clock lines)) epoch clock lines)
-        (recording from number (records.Install epoch clock lines) Installed) }
+        → site_on decl s from number (messages.Install (start_with epoch clock lines))
+        ≡ moved (installed (passed s (messages.Install (start_with epoch clock lines))) epoch clock lines)
+        (recording from number (records.Install (start_with epoch clock lines)) Installed) }
 {}
 
 /// A request is answered by the first row that applies: the site is in an

@@ -93,7 +93,8 @@ fn names_object(decl: &Declaration, want: &Want) -> bool
     ensures { result ≡ names_object decl.now want.now }
 {
     match want {
-        Want::Read { object, .. } | Want::Append { object, .. } => kind_of(decl, *object).is_some(),
+        Want::Read(read) => kind_of(decl, read.object).is_some(),
+        Want::Append { object, .. } => kind_of(decl, *object).is_some(),
         Want::Prepare => true,
     }
 }

@@ -185,9 +185,7 @@ impl Site {
             }
             Message::Decision { tx, verdict } => self.finish(alloc, *tx, *verdict),
             Message::Close { epoch } => self.close(alloc, asker, *epoch),
-            Message::Install { epoch, clock, log } => {
-                self.install(alloc, asker, *epoch, *clock, log)
-            }
+            Message::Install(start) => self.install(alloc, asker, start),
             Message::Answer { .. } | Message::Inquiry { .. } | Message::Ask { .. } => {
                 Ok(Turn::quiet(alloc))
             }

@@ -53,11 +53,11 @@ append_named held e false = put_named held e
 
 hold_named : (held : List Held) (tx : TxId) (want : Want)
     → map name (holding held tx want) ≡ cond (is_holding want) (with_holder (map name held) tx) (map name held)
-hold_named held tx (Read object inv) =
+hold_named held tx (Read read) =
     put_named held (record {
       tx = tx;
       locks =
-          with_locks (held_of held tx).locks (record { object = object; inv = inv } ∷ []);
+          with_locks (held_of held tx).locks (record { object = read.object; inv = read.inv } ∷ []);
       own = with_owns (held_of held tx).own [];
     })
 hold_named held tx (Append object view own) =
@@ -244,7 +244,7 @@ message_more number from to (messages.Decision tx verdict) ds walk gs = decision
 message_more number from to (messages.Inquiry tx) ds walk gs = walk gs
 message_more number from to (messages.Ask tx) ds walk gs = walk gs
 message_more number from to (messages.Close epoch) ds walk gs = walk gs
-message_more number from to (messages.Install epoch clock log) ds walk gs = walk gs
+message_more number from to (messages.Install start) ds walk gs = walk gs
 
 pub walks : (ds : List Deed) → Walks ds
 walks [] gs = sym (ap (λ (v : List Grant). fold hold_tx [] v) (append-nil (filter (stays []) gs) ∙ filter_none gs))

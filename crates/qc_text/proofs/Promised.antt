@@ -19,6 +19,7 @@ use Rattle.qc_msg.specs.declared.record.Record.{Record}
 use Rattle.qc_msg.specs.declared.record.Record.TheVariants as records
 use Rattle.qc_msg.specs.declared.step.Input.TheVariants as inputs
 use Rattle.qc_msg.specs.Vocabulary.{Deed, Falls, Rises, Sends, Takes, Tells, Writes, prepare_in, written_in}
+use Rattle.qc_msg.specs.Vocabulary.{read_of}
 use Rattle.qc_promise.specs.Vocabulary.{Grant, Holding, frees, held_of_promises, is_ended, is_over, left_of}
 use Rattle.qc_promise.specs.Vocabulary.{promises_of, promises_since, standing, unless_over, with_promise}
 use Rattle.qc_promise.proofs.Promises.{either_way, other_promises, promises_by_record, promises_with}
@@ -29,9 +30,9 @@ use Rattle.qc_text.proofs.Holding.{all_named, append_named, dropped, hold_tx, is
 -- promises, as if what they name had been granted
 
 abbrev as_grant : Prepared → Grant
-as_grant p = record { tx = p.tx; want = cond (names_some p) (Read 0 0) Prepare }
+as_grant p = record { tx = p.tx; want = cond (names_some p) (Read (read_of 0 0)) Prepare }
 
-held_some : (b : Bool) → is_holding (cond b (Read 0 0) Prepare) ≡ b
+held_some : (b : Bool) → is_holding (cond b (Read (read_of 0 0)) Prepare) ≡ b
 held_some true = refl
 held_some false = refl
 
@@ -99,9 +100,9 @@ record_more ps (records.Prepare p) =
     ∙ ap (fold hold_tx []) (sym (map-append as_grant (other_promises ps p.tx) (p ∷ [])))
 record_more ps (records.Done tx clock) = without_promises ps tx
 record_more ps (records.Close epoch) = refl
-record_more ps (records.Install epoch clock lines) = refl
+record_more ps (records.Install start) = refl
 record_more ps (records.Commit commit) = refl
-record_more ps (records.Decide epoch clock lines) = refl
+record_more ps (records.Decide start) = refl
 
 records_walked : (ps : List Prepared) (rs : List Record)
     → fold holders_with (granted_by ps) rs ≡ granted_by (fold promises_with ps rs)
@@ -194,12 +195,12 @@ written_more ps (records.Done tx clock) =
     append-nil (unfreed (Writes (records.Done tx clock)) ps)
     ∙ frees_one (Writes (records.Done tx clock)) tx (λ t. either_way tx t) ps
 written_more ps (records.Close epoch) = frees_none (Writes (records.Close epoch)) (λ tx. refl) ps
-written_more ps (records.Install epoch clock lines) =
-    append-nil (unfreed (Writes (records.Install epoch clock lines)) ps)
-    ∙ kept_as (Writes (records.Install epoch clock lines)) (λ (p : Prepared). false) (λ p. refl) ps ∙ none_kept ps
+written_more ps (records.Install start) =
+    append-nil (unfreed (Writes (records.Install start)) ps)
+    ∙ kept_as (Writes (records.Install start)) (λ (p : Prepared). false) (λ p. refl) ps ∙ none_kept ps
 written_more ps (records.Commit commit) = frees_none (Writes (records.Commit commit)) (λ tx. refl) ps
-written_more ps (records.Decide epoch clock lines) =
-    frees_none (Writes (records.Decide epoch clock lines)) (λ tx. refl) ps
+written_more ps (records.Decide start) =
+    frees_none (Writes (records.Decide start)) (λ tx. refl) ps
 
 -- by names
 
@@ -230,7 +231,7 @@ message_more ps number from to message = by message
     by (messages.Inquiry tx) = unchanged ps (got (messages.Inquiry tx)) (λ t. refl)
     by (messages.Ask tx) = unchanged ps (got (messages.Ask tx)) (λ t. refl)
     by (messages.Close epoch) = unchanged ps (got (messages.Close epoch)) (λ t. refl)
-    by (messages.Install epoch clock log) = unchanged ps (got (messages.Install epoch clock log)) (λ t. refl)
+    by (messages.Install start) = unchanged ps (got (messages.Install start)) (λ t. refl)
 
 deed_more : (ps : List Prepared) (d : Deed) → IsWalked ps d
 deed_more ps (Takes (inputs.Called command)) = unchanged ps (Takes (inputs.Called command)) (λ tx. refl)

@@ -14,7 +14,8 @@ use Rattle.qc_msg.specs.declared.record.Record.{Record}
 use Rattle.qc_msg.specs.declared.record.Record.TheVariants as records
 use Rattle.qc_msg.specs.declared.step.Input.{Input}
 use Rattle.qc_msg.specs.declared.step.Input.TheVariants as inputs
-use Rattle.qc_msg.specs.Vocabulary.{Deed, Falls, Rises, Sends, Takes, Tells, Writes, Decided, Finished, Installing}
+use Rattle.qc_msg.specs.Vocabulary.{Deed, Falls, Rises, Sends, Takes, Tells, Writes, Decided, Finished}
+use Rattle.qc_msg.specs.declared.payload.EpochStart.{EpochStart}
 use Rattle.qc_msg.specs.Vocabulary.{Requested, decision_in, done_in, install_in, prepare_in, request_in}
 use Rattle.qc_promise.specs.Vocabulary.{grants, is_final, is_granted}
 
@@ -38,7 +39,7 @@ sends_grant number (Rises records) = false
 
 -- whether a transaction that is granted this holds something
 abbrev pub is_holding : Want → Bool
-is_holding (Read object inv) = true
+is_holding (Read read) = true
 is_holding (Append object view own) = not (length own == 0)
 is_holding Prepare = false
 
@@ -61,7 +62,7 @@ holders_with txs written =
     option_map_or (λ (prepared : Prepared). if names_some prepared then with_holder (without_holder txs prepared.tx)
     prepared.tx else without_holder txs prepared.tx) (prepare_in written)
     (option_map_or (λ (f : Finished). without_holder txs f.tx) (done_in written)
-    (option_map_or (λ (x : Installing). []) (install_in written) txs))
+    (option_map_or (λ (x : EpochStart). []) (install_in written) txs))
 
 -- each transaction is there once
 abbrev pub AreOnce : List TxId → Type 0

@@ -52,7 +52,7 @@ fn grants(deed: &Deed<'_>, number: u32) -> bool
         Deed::Sent {
             message: Message::Answer {
                 to,
-                answer: Answer::Granted { .. },
+                answer: Answer::Granted(_),
             },
             ..
         } => *to == number,
@@ -119,7 +119,7 @@ fn take_message(
         | Message::Inquiry { .. }
         | Message::Ask { .. }
         | Message::Close { .. }
-        | Message::Install { .. } => {}
+        | Message::Install(_) => {}
     }
     Ok(())
 }
@@ -129,7 +129,7 @@ fn is_holding(want: &Want) -> bool
     ensures { result ≡ is_holding want.now }
 {
     match want {
-        Want::Read { .. } => true,
+        Want::Read(_) => true,
         Want::Append { own, .. } => !own.items().is_empty(),
         Want::Prepare => false,
     }

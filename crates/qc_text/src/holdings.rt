@@ -55,11 +55,11 @@ fn is_cut(written: &Record) -> bool
     ensures { result ≡ cut_by written.now }
 {
     match written {
-        Record::Close { .. } | Record::Install { .. } => true,
+        Record::Close { .. } | Record::Install(_) => true,
         Record::Life
         | Record::Prepare(_)
         | Record::Done { .. }
         | Record::Commit(_)
-        | Record::Decide { .. } => false,
+        | Record::Decide(_) => false,
     }
 }

@@ -68,8 +68,8 @@ fn give(
     match written {
         Record::Prepare(prepared) => known.add(&prepared.lines),
         Record::Done { tx, clock } => join_done(alloc, known, prepares, *tx, *clock),
-        Record::Install { lines, .. } => known.begin(alloc, lines),
-        Record::Life | Record::Close { .. } | Record::Commit(_) | Record::Decide { .. } => Ok(()),
+        Record::Install(start) => known.begin(alloc, &start.lines),
+        Record::Life | Record::Close { .. } | Record::Commit(_) | Record::Decide(_) => Ok(()),
     }
 }
 
@@ -149,12 +149,12 @@ fn join_written(
 {
     match written {
         Record::Done { tx, clock } => join_done(alloc, known, prepares, *tx, *clock),
-        Record::Install { lines, .. } => known.begin(alloc, lines),
+        Record::Install(start) => known.begin(alloc, &start.lines),
         Record::Life
         | Record::Prepare(_)
         | Record::Close { .. }
         | Record::Commit(_)
-        | Record::Decide { .. } => Ok(()),
+        | Record::Decide(_) => Ok(()),
     }
 }
 

@@ -38,12 +38,12 @@ impl<'a> Prepares<'a> {
             Record::Prepare(prepared) => {
                 let _before = self.last.insert(prepared.tx, prepared)?;
             }
-            Record::Install { .. } => self.last.clear(),
+            Record::Install(_) => self.last.clear(),
             Record::Life
             | Record::Done { .. }
             | Record::Close { .. }
             | Record::Commit(_)
-            | Record::Decide { .. } => {}
+            | Record::Decide(_) => {}
         }
         Ok(())
     }

@@ -55,8 +55,8 @@ fn take_record(holders: &mut Holders, written: &Record) -> Result<(), OutOfMemor
             }
         }
         Record::Done { tx, .. } => holders.remove(*tx),
-        Record::Install { .. } => holders.clear(),
-        Record::Life | Record::Close { .. } | Record::Commit(_) | Record::Decide { .. } => {}
+        Record::Install(_) => holders.clear(),
+        Record::Life | Record::Close { .. } | Record::Commit(_) | Record::Decide(_) => {}
     }
     Ok(())
 }
@@ -101,7 +101,7 @@ fn take_message(holders: &mut Holders, message: &Message)
         | Message::Inquiry { .. }
         | Message::Ask { .. }
         | Message::Close { .. }
-        | Message::Install { .. } => {}
+        | Message::Install(_) => {}
     }
 }
 

@@ -96,7 +96,7 @@ fn epoch_with(epoch: u8, written: &Record) -> u8
     ensures { result ≡ epoch_by epoch written.now }
 {
     match written {
-        Record::Install { epoch, .. } => *epoch,
+        Record::Install(start) => start.epoch,
         _ => epoch,
     }
 }

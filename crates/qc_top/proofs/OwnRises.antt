@@ -40,9 +40,9 @@ legal_own records.Life is = tt
 legal_own (records.Prepare p) is = tt
 legal_own (records.Done tx clock) is = tt
 legal_own (records.Close epoch) is = tt
-legal_own (records.Install epoch clock lines) is = tt
+legal_own (records.Install start) is = tt
 legal_own (records.Commit c) is = eqb-true c.stamp.client c.tx.client (first_of (has_own_stamp c) _ is)
-legal_own (records.Decide epoch clock lines) is = tt
+legal_own (records.Decide start) is = tt
 
 -- steps in which such records alone rise
 

@@ -23,9 +23,9 @@ record_planned decl a before records.Life fit = tt
 record_planned decl a before (records.Prepare p) fit = tt
 record_planned decl a before (records.Done tx clock) fit = tt
 record_planned decl a before (records.Close epoch) fit = planned decl epoch fit.epochs.0
-record_planned decl a before (records.Install epoch clock lines) fit = planned decl epoch fit.epochs.0
+record_planned decl a before (records.Install start) fit = planned decl start.epoch fit.epochs.0
 record_planned decl a before (records.Commit c) fit = tt
-record_planned decl a before (records.Decide epoch clock lines) fit = planned decl epoch fit.epochs.0
+record_planned decl a before (records.Decide start) fit = planned decl start.epoch fit.epochs.0
 
 all_planned : (decl : Declaration) (a before : ℕ) (rs : List Record) → AllFit decl a before rs
     → Every (IsRecordPlanned decl) rs

@@ -21,7 +21,7 @@ use qc_gen::load_script;
 use qc_list::List;
 use qc_outside::ShelfFault;
 use qc_report::Cause;
-use qc_script::{Script, ScriptFault, read};
+use qc_script::{Script, ScriptFault, read_script};
 use qc_words::Errand;
 use std::alloc::Global;
 
@@ -227,7 +227,7 @@ fn script_in(alloc: Global, decl: &Declaration, bytes: &[u8]) -> Result<Script, 
     ensures script { Gives (unless_a_line_is (script_of decl.now bytes.now)) result }
     ensures refusal { IfErr result IsRefusal }
 {
-    match read(alloc, bytes, decl) {
+    match read_script(alloc, bytes, decl) {
         Ok(script) => Ok(script),
         Err(ScriptFault::Line { number, kind }) => {
             Err(Cause::Script(ScriptFault::Line { number, kind }))

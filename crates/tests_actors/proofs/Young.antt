@@ -73,7 +73,7 @@ read-clock decl front t object inv calls r (verdicts.Short got need) = refl
 learned-clock : (front : Front) (answer : Option Answer) (bound : ℕ) → front.clock.value ≤ bound → told answer ≤ bound
     → (learns front answer).clock.value ≤ bound
 learned-clock front None bound low small = low
-learned-clock front (Some (answers.Granted life clock log)) bound low small = omega arith
+learned-clock front (Some (answers.Granted grant)) bound low small = omega arith
 learned-clock front (Some (answers.Clash holder inv event)) bound low small = low
 learned-clock front (Some (answers.Closed epoch)) bound low small = low
 learned-clock front (Some (answers.Behind epoch)) bound low small = low
@@ -81,7 +81,7 @@ learned-clock front (Some (answers.Restarted life)) bound low small = low
 learned-clock front (Some answers.Stale) bound low small = low
 learned-clock front (Some answers.Fault) bound low small = low
 learned-clock front (Some (answers.Yes clock)) bound low small = low
-learned-clock front (Some (answers.Shut clock log prepared)) bound low small = low
+learned-clock front (Some (answers.Shut snapshot)) bound low small = low
 learned-clock front (Some answers.Installed) bound low small = low
 learned-clock front (Some (answers.Answered verdict)) bound low small = low
 
@@ -131,7 +131,7 @@ prepare-clock decl desk b clock bound low handed = by (length (participants decl
 
 desk-learned : (desk : Desk) (answer : Option Answer) (bound : ℕ) → desk.clock.value ≤ bound → told answer ≤ bound → (desks.learns desk answer).clock.value ≤ bound
 desk-learned desk None bound low small = low
-desk-learned desk (Some (answers.Granted life clock log)) bound low small = low
+desk-learned desk (Some (answers.Granted grant)) bound low small = low
 desk-learned desk (Some (answers.Clash holder inv event)) bound low small = low
 desk-learned desk (Some (answers.Closed epoch)) bound low small = low
 desk-learned desk (Some (answers.Behind epoch)) bound low small = low
@@ -139,7 +139,7 @@ desk-learned desk (Some (answers.Restarted life)) bound low small = low
 desk-learned desk (Some answers.Stale) bound low small = low
 desk-learned desk (Some answers.Fault) bound low small = low
 desk-learned desk (Some (answers.Yes clock)) bound low small = omega arith
-desk-learned desk (Some (answers.Shut clock log prepared)) bound low small = low
+desk-learned desk (Some (answers.Shut snapshot)) bound low small = low
 desk-learned desk (Some answers.Installed) bound low small = low
 desk-learned desk (Some (answers.Answered verdict)) bound low small = low
 
@@ -238,7 +238,7 @@ heard-young decl c age from number (messages.Decision tx verdict) small young = 
 heard-young decl c age from number (messages.Inquiry tx) small young = older decl c age young
 heard-young decl c age from number (messages.Ask tx) small young = older decl c age young
 heard-young decl c age from number (messages.Close epoch) small young = older decl c age young
-heard-young decl c age from number (messages.Install epoch clock log) small young = older decl c age young
+heard-young decl c age from number (messages.Install start) small young = older decl c age young
 
 -- the same of a call's answer
 
@@ -282,7 +282,7 @@ young_fits decl c age accepted young few = record {
 
 pub few_promised : (message : Message) → told_in message ≤ most_told → promise_in message < 2 ^ 63
 few_promised (messages.Request tx epoch life want) small = omega arith
-few_promised (messages.Answer to (answers.Granted life clock log)) small = omega arith
+few_promised (messages.Answer to (answers.Granted grant)) small = omega arith
 few_promised (messages.Answer to (answers.Clash holder inv event)) small = omega arith
 few_promised (messages.Answer to (answers.Closed epoch)) small = omega arith
 few_promised (messages.Answer to (answers.Behind epoch)) small = omega arith
@@ -290,11 +290,11 @@ few_promised (messages.Answer to (answers.Restarted life)) small = omega arith
 few_promised (messages.Answer to answers.Stale) small = omega arith
 few_promised (messages.Answer to answers.Fault) small = omega arith
 few_promised (messages.Answer to (answers.Yes clock)) small = omega arith
-few_promised (messages.Answer to (answers.Shut clock log prepared)) small = omega arith
+few_promised (messages.Answer to (answers.Shut snapshot)) small = omega arith
 few_promised (messages.Answer to answers.Installed) small = omega arith
 few_promised (messages.Answer to (answers.Answered verdict)) small = omega arith
 few_promised (messages.Decision tx verdict) small = omega arith
 few_promised (messages.Inquiry tx) small = omega arith
 few_promised (messages.Ask tx) small = omega arith
 few_promised (messages.Close epoch) small = omega arith
-few_promised (messages.Install epoch clock log) small = omega arith
+few_promised (messages.Install start) small = omega arith

@@ -17,7 +17,7 @@ most_told = 4294967296
 -- the clock that a grant or a promise tells, or 0
 abbrev pub told : Option Answer → ℕ
 told None = 0
-told (Some (answers.Granted life clock log)) = clock
+told (Some (answers.Granted grant)) = grant.clock
 told (Some (answers.Clash holder inv event)) = 0
 told (Some (answers.Closed epoch)) = 0
 told (Some (answers.Behind epoch)) = 0
@@ -25,7 +25,7 @@ told (Some (answers.Restarted life)) = 0
 told (Some answers.Stale) = 0
 told (Some answers.Fault) = 0
 told (Some (answers.Yes clock)) = clock
-told (Some (answers.Shut clock log prepared)) = 0
+told (Some (answers.Shut snapshot)) = 0
 told (Some answers.Installed) = 0
 told (Some (answers.Answered verdict)) = 0
 
@@ -36,7 +36,7 @@ told_in (messages.Decision tx verdict) = 0
 told_in (messages.Inquiry tx) = 0
 told_in (messages.Ask tx) = 0
 told_in (messages.Close epoch) = 0
-told_in (messages.Install epoch clock log) = 0
+told_in (messages.Install start) = 0
 
 -- after so many inputs
 pub record IsYoung (decl : Declaration) (c : Client) (age : ℕ) : Type 0 where

@@ -12,7 +12,7 @@ use crate::messages::{log, own_lines};
 use crate::sites::{X, tx};
 use qc_entry::{Commit, Ops, Prepared, ReadLock, Reads};
 use qc_list::OutOfMemory;
-use qc_msg::{Record, Records};
+use qc_msg::{EpochStart, Record, Records};
 use qc_stamp::Stamp;
 use std::alloc::Global;
 
@@ -54,17 +54,17 @@ fn record(alloc: Global, row: Written<'_>) -> Result<Record, OutOfMemory> {
             clock,
         }),
         Written::Close(epoch) => Ok(Record::Close { epoch }),
-        Written::Install(epoch, clock, lines) => Ok(Record::Install {
+        Written::Install(epoch, clock, lines) => Ok(Record::Install(EpochStart {
             epoch,
             clock,
             lines: log(alloc, lines)?,
-        }),
+        })),
         Written::Commit(client, clock) => Ok(commit(alloc, client, clock)),
-        Written::Decide(epoch) => Ok(Record::Decide {
+        Written::Decide(epoch) => Ok(Record::Decide(EpochStart {
             epoch,
             clock: 9,
             lines: log(alloc, &[])?,
-        }),
+        })),
     }
 }
 

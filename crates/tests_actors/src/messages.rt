@@ -3,7 +3,7 @@
 use crate::sites::{READ, X, line, tx};
 use qc_entry::{Log, OwnLine, Owns};
 use qc_list::OutOfMemory;
-use qc_msg::{Answer, Message, Outcome, Want};
+use qc_msg::{Answer, EpochStart, Message, Outcome, ReadRequest, Want};
 use qc_stamp::Stamp;
 use std::alloc::Global;
 
@@ -125,21 +125,26 @@ pub(crate) fn own_lines(alloc: Global, owns: &[(u8, u8)]) -> Result<Owns, OutOfM
     Ok(lines)
 }
 
+/// The lines of an object, and a lock for an invocation.
+fn read(object: u8, inv: u8) -> Want {
+    Want::Read(ReadRequest { object, inv })
+}
+
 /// The message.
 pub(crate) fn message(alloc: Global, taken: Taken<'_>) -> Result<Message, OutOfMemory> {
     match taken {
-        Taken::Read(client, inv) => Ok(request(client, Want::Read { object: X, inv })),
-        Taken::ReadOf(client, object) => Ok(request(client, Want::Read { object, inv: READ })),
+        Taken::Read(client, inv) => Ok(request(client, read(X, inv))),
+        Taken::ReadOf(client, object) => Ok(request(client, read(object, READ))),
         Taken::Prepare(client) => Ok(request(client, Want::Prepare)),
         Taken::Append(client, view, own) => append(alloc, client, view, own),
         Taken::ReadIn(..) | Taken::PrepareIn(..) | Taken::AppendIn(..) => other_epoch(alloc, taken),
         Taken::Committed(..) | Taken::Aborted(_) | Taken::Active(_) => Ok(verdict(taken)),
         Taken::Close(epoch) => Ok(Message::Close { epoch }),
-        Taken::Install(epoch, clock, lines) => Ok(Message::Install {
+        Taken::Install(epoch, clock, lines) => Ok(Message::Install(EpochStart {
             epoch,
             clock,
-            log: log(alloc, lines)?,
-        }),
+            lines: log(alloc, lines)?,
+        })),
         _ => Ok(unasked(taken)),
     }
 }
@@ -147,15 +152,7 @@ pub(crate) fn message(alloc: Global, taken: Taken<'_>) -> Result<Message, OutOfM
 /// The request of client 0 in an epoch and a life.
 fn other_epoch(alloc: Global, taken: Taken<'_>) -> Result<Message, OutOfMemory> {
     match taken {
-        Taken::ReadIn(epoch, life) => Ok(request_in(
-            0,
-            epoch,
-            life,
-            Want::Read {
-                object: X,
-                inv: READ,
-            },
-        )),
+        Taken::ReadIn(epoch, life) => Ok(request_in(0, epoch, life, read(X, READ))),
         Taken::AppendIn(epoch, view) => early_append(alloc, epoch, view),
         Taken::PrepareIn(epoch, life) => Ok(request_in(0, epoch, life, Want::Prepare)),
         _ => Ok(request(0, Want::Prepare)),

@@ -6,7 +6,7 @@ ghost use Rattle.tests_actors.specs.Young.{most_told, told};
 use crate::declared::X;
 use qc_entry::{Line, Log};
 use qc_list::OutOfMemory;
-use qc_msg::Answer;
+use qc_msg::{Answer, Grant};
 use qc_stamp::{Stamp, TxId};
 use std::alloc::Global;
 
@@ -80,11 +80,11 @@ fn granted(alloc: Global, clock: u32, lines: &[(u64, u8, u8)]) -> Result<Answer,
 {
     let log = log(alloc, lines)?;
     let clock = u64::from(clock);
-    Ok(Answer::Granted {
+    Ok(Answer::Granted(Grant {
         life: 1,
         clock,
         log,
-    })
+    }))
 }
 
 /// A grant in a life, with no line.
@@ -92,11 +92,11 @@ fn granted_in(alloc: Global, life: u32) -> Result<Answer, OutOfMemory>
     ensures { IfOk result (λ answer. told (Some answer) ≤ most_told) }
 {
     let log = Log::new(alloc)?;
-    Ok(Answer::Granted {
+    Ok(Answer::Granted(Grant {
         life,
         clock: 0,
         log,
-    })
+    }))
 }
 
 /// A log of these lines.

@@ -8,7 +8,7 @@ use crate::taken::{Said, Taken, answer, are_of_clients, log, message, promises};
 use qc_admin::Admin;
 use qc_decl::{Declaration, built_in};
 use qc_list::OutOfMemory;
-use qc_msg::{Answer, Command, Message, Turn};
+use qc_msg::{Answer, Command, Message, Snapshot, Turn};
 use std::alloc::Global;
 use std::process::Abort;
 use tests_texts::turn_text;
@@ -103,11 +103,11 @@ fn hear_shut(
     let prepared = promises(alloc, rows)?;
     let are_of_clients = are_of_clients(prepared.items());
     assert!(rt; are_of_clients);
-    let answer = Answer::Shut {
+    let answer = Answer::Shut(Snapshot {
         clock,
         log,
         prepared,
-    };
+    });
     hear(alloc, decl, admin, &Message::Answer { to, answer })
 }
 

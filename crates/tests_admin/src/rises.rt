@@ -4,7 +4,7 @@ use crate::admins::{check_rows, three};
 use crate::taken::{Said, Taken, WROTE_0, WROTE_1, log, promise};
 use qc_admin::{RisenAdmin, admin_of};
 use qc_list::OutOfMemory;
-use qc_msg::{Record, Records};
+use qc_msg::{EpochStart, Record, Records};
 use std::alloc::Global;
 use std::process::Abort;
 use tests_texts::turn_text;
@@ -16,11 +16,11 @@ fn decide(
     clock: u64,
     lines: &[(u64, u8, u8)],
 ) -> Result<Record, OutOfMemory> {
-    Ok(Record::Decide {
+    Ok(Record::Decide(EpochStart {
         epoch,
         clock,
         lines: log(alloc, lines)?,
-    })
+    }))
 }
 
 /// Over `@three`, he rises from these records: he writes the record of a rise, and
@@ -68,11 +68,11 @@ fn the_last_decision_counts(rt: HostRuntime) -> Result<(), OutOfMemory> {
     records.push(decide(alloc, 3, 12, &[(3, 2, WROTE_0), (11, 0, WROTE_1)])?)?;
     records.push(Record::Prepare(promise(alloc, 1, 1, WROTE_1)?))?;
     records.push(Record::Close { epoch: 5 })?;
-    records.push(Record::Install {
+    records.push(Record::Install(EpochStart {
         epoch: 5,
         clock: 50,
         lines: log(alloc, &[])?,
-    })?;
+    }))?;
     check_risen(
         &rt,
         alloc,

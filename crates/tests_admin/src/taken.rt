@@ -7,7 +7,7 @@ ghost use Rattle.tests_admin.specs.Promises.{is_of_client};
 
 use qc_entry::{Line, Log, OwnLine, Owns, Prepared, Reads};
 use qc_list::OutOfMemory;
-use qc_msg::{Answer, Message, Outcome, PreparedList, Want};
+use qc_msg::{Answer, EpochStart, Grant, Message, Outcome, PreparedList, Want};
 use qc_stamp::{Stamp, TxId};
 use std::alloc::Global;
 
@@ -147,11 +147,11 @@ pub(crate) fn answer(alloc: Global, said: Said) -> Result<Answer, OutOfMemory>
     ensures { IfOk result (λ a. AnswerFits (Some a)) }
 {
     match said {
-        Said::Granted => Ok(Answer::Granted {
+        Said::Granted => Ok(Answer::Granted(Grant {
             life: 1,
             clock: 40,
             log: Log::new(alloc)?,
-        }),
+        })),
         Said::Clash => Ok(Answer::Clash {
             holder: tx(2),
             inv: 0,
@@ -201,10 +201,10 @@ pub(crate) fn message(alloc: Global, kind: Other) -> Result<Message, OutOfMemory
         Other::Inquiry => Ok(Message::Inquiry { tx }),
         Other::Ask => Ok(Message::Ask { tx }),
         Other::Close => Ok(Message::Close { epoch: 2 }),
-        Other::Install => Ok(Message::Install {
+        Other::Install => Ok(Message::Install(EpochStart {
             epoch: 2,
             clock: 9,
-            log: Log::new(alloc)?,
-        }),
+            lines: Log::new(alloc)?,
+        })),
     }
 }

@@ -28,7 +28,7 @@ of_commit None = 0 ∷ []
 of_commit (Some c) = 4 ∷ c.stamp.clock ∷ c.tx.life ∷ c.tx.number ∷ length c.ops ∷ []
 
 abbrev pub of_answer : Answer → List ℕ
-of_answer (answers.Granted life clock log) = 1 ∷ life ∷ clock ∷ length log ∷ []
+of_answer (answers.Granted grant) = 1 ∷ grant.life ∷ grant.clock ∷ length grant.log ∷ []
 of_answer (answers.Clash holder inv event) = 2 ∷ holder.client ∷ []
 of_answer (answers.Restarted life) = 3 ∷ life ∷ []
 of_answer answers.Stale = 4 ∷ []

@@ -86,10 +86,10 @@ by_record d row records.Life same = tt
 by_record d row (records.Prepare p) same = strange (ap (λ (o : Owed). o.own) same)
 by_record d row (records.Done tx clock) same = strange (ap (λ (o : Owed). o.own) same)
 by_record d row (records.Close epoch) same = strange (ap (λ (o : Owed). o.own) same)
-by_record d row (records.Install epoch clock lines) same = strange (ap (λ (o : Owed). o.own) same)
+by_record d row (records.Install start) same = strange (ap (λ (o : Owed). o.own) same)
 by_record d row (records.Commit c) same =
     (ap (λ (o : Owed). o.reply) same, ap (λ (o : Owed). o.commit) same, ap (λ (o : Owed). o.before) same)
-by_record d row (records.Decide epoch clock lines) same = strange (ap (λ (o : Owed). o.own) same)
+by_record d row (records.Decide start) same = strange (ap (λ (o : Owed). o.own) same)
 
 by_deed : (decl : Declaration) (d : Account) (x : Deed) (after : List Deed)
     → owed_at decl d x after ≡ given_at d x after → IsDeedDue decl d x after

@@ -17,9 +17,9 @@ digit records.Life = 0
 digit (records.Prepare p) = 0
 digit (records.Done tx clock) = 0
 digit (records.Close epoch) = epoch
-digit (records.Install epoch clock lines) = 0
+digit (records.Install start) = 0
 digit (records.Commit c) = 0
-digit (records.Decide epoch clock lines) = 0
+digit (records.Decide start) = 0
 
 abbrev digits : List Record → ℕ
 digits [] = 0

@@ -57,14 +57,14 @@ abbrev pub holder_told : List Act → ℕ
 holder_told acts = holder_in (first_answer acts)
 
 abbrev lines_in : Option Answer → ℕ
-lines_in (Some (answers.Granted life clock log)) = length log
+lines_in (Some (answers.Granted grant)) = length grant.log
 lines_in _ = 0
 
 abbrev pub lines_granted : List Act → ℕ
 lines_granted acts = lines_in (first_answer acts)
 
 abbrev clock_in : Option Answer → ℕ
-clock_in (Some (answers.Granted life clock log)) = clock
+clock_in (Some (answers.Granted grant)) = grant.clock
 clock_in _ = 0
 
 abbrev pub clock_granted : List Act → ℕ

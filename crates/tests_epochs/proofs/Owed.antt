@@ -7,7 +7,8 @@ use Rattle.qc_msg.specs.declared.reply.Reply.{Reply}
 use Rattle.qc_msg.specs.declared.step.Command.{Command}
 use Rattle.qc_msg.specs.declared.step.Input.{Input}
 use Rattle.qc_msg.specs.declared.step.Input.TheVariants as inputs
-use Rattle.qc_msg.specs.Vocabulary.{Deed, Falls, Installing, Rises, Sends, Takes, Tells, Writes}
+use Rattle.qc_msg.specs.Vocabulary.{Deed, Falls, Rises, Sends, Takes, Tells, Writes}
+use Rattle.qc_msg.specs.declared.payload.EpochStart.{EpochStart}
 use Rattle.qc_promise.specs.Vocabulary.{Act, AdminAccount, AreAdminDeedsDue, IsAdminDeedDue, IsAdminDue}
 use Rattle.qc_promise.specs.Vocabulary.{IsAdminInputDue, IsAdminRecordDue, IsDecisionMet, admin_account_at, admin_due}
 use Rattle.qc_promise.specs.Vocabulary.{decide_due, decide_record, fallen_in, is_called_for, new_admin_account}
@@ -16,8 +17,8 @@ use Rattle.qc_promise.specs.Vocabulary.{pending_next, posted_due, posted_next, r
 pub record Owed : Type 0 where
   pub reply : Option Reply
   pub command : Option Command
-  pub decision : Option Installing
-  pub before : Option Installing
+  pub decision : Option EpochStart
+  pub before : Option EpochStart
   pub pending : Option Record
   pub acts : List Act
   pub own : Bool
@@ -32,11 +33,11 @@ owed_command d (inputs.Lost number) = None
 
 abbrev owed_record : Declaration → AdminAccount → Record → Owed
 owed_record decl d records.Life = nothing
-owed_record decl d (records.Decide e c l) = record nothing { decision = decide_due decl d; before = d.written }
+owed_record decl d (records.Decide start) = record nothing { decision = decide_due decl d; before = d.written }
 owed_record decl d _ = record nothing { own = false }
 
 abbrev given_record : Record → Owed
-given_record (records.Decide e c l) = record nothing { decision = Some (record { epoch = e; clock = c; lines = l }) }
+given_record (records.Decide start) = record nothing { decision = Some start }
 given_record _ = nothing
 
 abbrev owed_told : Declaration → AdminAccount → Option Record → Owed
@@ -91,9 +92,9 @@ by_record decl d records.Life same = tt
 by_record decl d (records.Prepare p) same = strange (ap (λ (o : Owed). o.own) same)
 by_record decl d (records.Done tx clock) same = strange (ap (λ (o : Owed). o.own) same)
 by_record decl d (records.Close epoch) same = strange (ap (λ (o : Owed). o.own) same)
-by_record decl d (records.Install epoch clock lines) same = strange (ap (λ (o : Owed). o.own) same)
+by_record decl d (records.Install start) same = strange (ap (λ (o : Owed). o.own) same)
 by_record decl d (records.Commit c) same = strange (ap (λ (o : Owed). o.own) same)
-by_record decl d (records.Decide e c l) same = (ap (λ (o : Owed). o.decision) same, ap (λ (o : Owed). o.before) same)
+by_record decl d (records.Decide start) same = (ap (λ (o : Owed). o.decision) same, ap (λ (o : Owed). o.before) same)
 
 by_told : (decl : Declaration) (d : AdminAccount) (reply : Reply) (p : Option Record)
     → owed_told decl d p ≡ given_told decl d reply p

@@ -9,7 +9,7 @@ use Rattle.qc_msg.specs.declared.record.Record.{Record}
 use Rattle.qc_msg.specs.declared.record.Record.TheVariants as records
 use Rattle.qc_msg.specs.declared.reply.Reply.{Reply}
 use Rattle.qc_msg.specs.declared.reply.Reply.TheVariants as replies
-use Rattle.qc_msg.specs.Vocabulary.{Installing}
+use Rattle.qc_msg.specs.declared.payload.EpochStart.{EpochStart}
 use Rattle.qc_promise.specs.Vocabulary.{Act, Wrote}
 use Rattle.tests_due.proofs.SitePlaces.{first_answer}
 
@@ -34,16 +34,16 @@ doubt_told _ = 0
 
 -- a decision
 
-abbrev pub clock_decided : Option Installing → ℕ
+abbrev pub clock_decided : Option EpochStart → ℕ
 clock_decided (Some i) = i.clock
 clock_decided None = 0
 
-abbrev pub lines_decided : Option Installing → ℕ
+abbrev pub lines_decided : Option EpochStart → ℕ
 lines_decided (Some i) = length i.lines
 lines_decided None = 0
 
 abbrev pub lines_pending : Option Record → ℕ
-lines_pending (Some (records.Decide epoch clock lines)) = length lines
+lines_pending (Some (records.Decide start)) = length start.lines
 lines_pending _ = 0
 
 -- the answer in the first message that a site posts
@@ -56,7 +56,7 @@ abbrev pub is_closed_told : List Act → ℕ
 is_closed_told acts = told_closed (first_answer acts)
 
 abbrev life_in : Option Answer → ℕ
-life_in (Some (answers.Granted life clock log)) = life
+life_in (Some (answers.Granted grant)) = grant.life
 life_in _ = 0
 
 abbrev pub life_granted : List Act → ℕ
@@ -72,21 +72,21 @@ is_clash_told acts = told_clash (first_answer acts)
 -- a Shut
 
 abbrev shut_lines : Option Answer → ℕ
-shut_lines (Some (answers.Shut clock log prepared)) = length log
+shut_lines (Some (answers.Shut snapshot)) = length snapshot.log
 shut_lines _ = 0
 
 abbrev pub lines_told : List Act → ℕ
 lines_told acts = shut_lines (first_answer acts)
 
 abbrev shut_clock : Option Answer → ℕ
-shut_clock (Some (answers.Shut clock log prepared)) = clock
+shut_clock (Some (answers.Shut snapshot)) = snapshot.clock
 shut_clock _ = 0
 
 abbrev pub clock_told : List Act → ℕ
 clock_told acts = shut_clock (first_answer acts)
 
 abbrev promises_in : Option Answer → List Prepared
-promises_in (Some (answers.Shut clock log prepared)) = prepared
+promises_in (Some (answers.Shut snapshot)) = snapshot.prepared
 promises_in _ = []
 
 abbrev pub promises_told : List Act → ℕ
@@ -102,7 +102,7 @@ first_promise acts = client_of (promises_in (first_answer acts))
 -- the record that it writes first
 
 abbrev installed_by : Record → ℕ
-installed_by (records.Install epoch clock lines) = length lines
+installed_by (records.Install start) = length start.lines
 installed_by _ = 0
 
 abbrev pub lines_installed : List Act → ℕ

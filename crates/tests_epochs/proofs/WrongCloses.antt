@@ -2,7 +2,8 @@
 use Rattle.std.proofs.Common.{◌≡◌, [], ◌∷◌, Option, Some, None}
 use Rattle.qc_decl.specs.Vocabulary.{administrator}
 use Rattle.qc_msg.specs.declared.reply.Reply.{Reply}
-use Rattle.qc_msg.specs.Vocabulary.{Installing, deeds}
+use Rattle.qc_msg.specs.Vocabulary.{deeds}
+use Rattle.qc_msg.specs.declared.payload.EpochStart.{EpochStart}
 use Rattle.tests_histories.specs.Words.{line}
 use Rattle.tests_epochs.specs.Declarations.{three_epochs}
 use Rattle.tests_epochs.specs.Whole.{IsAdminDueIn}
@@ -19,7 +20,7 @@ a_close_of_another_epoch_refused all =
     a_close_of_another_epoch_differs
     ((admin_due_at 7 three_epochs (deeds (administrator three_epochs) [] wrong_closes.a_close_of_another_epoch) all).0)
 
-a_site_asked_twice_differs : ◌≡◌ {A = Option Installing} None
+a_site_asked_twice_differs : ◌≡◌ {A = Option EpochStart} None
     (Some (record { epoch = 2; clock = 1; lines = (line 1 0 1 1 0 3 ∷ []) })) → ⊥
 a_site_asked_twice_differs e = let never : ⊥ = cc in never
 
@@ -28,7 +29,7 @@ a_site_asked_twice_refused all =
     a_site_asked_twice_differs
     ((admin_due_at 5 three_epochs (deeds (administrator three_epochs) [] wrong_closes.a_site_asked_twice) all).0)
 
-another_site_asked_differs : ◌≡◌ {A = Option Installing} None
+another_site_asked_differs : ◌≡◌ {A = Option EpochStart} None
     (Some (record { epoch = 2; clock = 1; lines = (line 1 0 1 1 0 3 ∷ []) })) → ⊥
 another_site_asked_differs e = let never : ⊥ = cc in never
 

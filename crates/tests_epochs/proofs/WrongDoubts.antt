@@ -2,7 +2,8 @@
 use Rattle.std.proofs.Common.{◌≡◌, ℕ, [], ◌∷◌, Option, Some, None, ap}
 use Rattle.qc_decl.specs.Vocabulary.{administrator}
 use Rattle.qc_msg.specs.declared.reply.Reply.{Reply}
-use Rattle.qc_msg.specs.Vocabulary.{Installing, deeds}
+use Rattle.qc_msg.specs.Vocabulary.{deeds}
+use Rattle.qc_msg.specs.declared.payload.EpochStart.{EpochStart}
 use Rattle.tests_histories.specs.Words.{line, tx}
 use Rattle.tests_epochs.specs.Declarations.{three_epochs}
 use Rattle.tests_epochs.specs.Whole.{IsAdminDueIn}
@@ -42,7 +43,7 @@ doubt_before_it_is_asked_refused all =
     doubt_before_it_is_asked_differs
     ((admin_due_at 5 three_epochs (deeds (administrator three_epochs) [] wrong_doubts.doubt_before_it_is_asked) all).0)
 
-decided_in_doubt_differs : ◌≡◌ {A = Option Installing} None
+decided_in_doubt_differs : ◌≡◌ {A = Option EpochStart} None
     (Some (record { epoch = 2; clock = 1; lines = (line 1 0 1 1 0 3 ∷ []) })) → ⊥
 decided_in_doubt_differs e = let never : ⊥ = cc in never
 

@@ -3,7 +3,8 @@ use Rattle.std.proofs.Common.{◌≡◌, [], ◌∷◌, Option, Some, None}
 use Rattle.qc_decl.specs.Vocabulary.{administrator}
 use Rattle.qc_msg.specs.declared.reply.Reply.{Reply}
 use Rattle.qc_msg.specs.declared.step.Command.{Command}
-use Rattle.qc_msg.specs.Vocabulary.{Installing, deeds}
+use Rattle.qc_msg.specs.Vocabulary.{deeds}
+use Rattle.qc_msg.specs.declared.payload.EpochStart.{EpochStart}
 use Rattle.tests_histories.specs.Words.{line}
 use Rattle.tests_epochs.specs.Declarations.{three_epochs}
 use Rattle.tests_epochs.specs.Whole.{IsAdminDueIn}
@@ -20,7 +21,7 @@ a_reply_untold_refused all =
     a_reply_untold_differs ((admin_due_at 12 three_epochs
     (deeds (administrator three_epochs) [] wrong_inputs.a_reply_untold) all).0)
 
-a_decision_unwritten_differs : ◌≡◌ {A = Option Installing} None
+a_decision_unwritten_differs : ◌≡◌ {A = Option EpochStart} None
     (Some (record { epoch = 2; clock = 1; lines = (line 1 0 1 1 0 3 ∷ []) })) → ⊥
 a_decision_unwritten_differs e = let never : ⊥ = cc in never
 

@@ -2,7 +2,8 @@
 use Rattle.std.proofs.Common.{◌≡◌, ℕ, [], ◌∷◌, Option, Some, None, ap}
 use Rattle.qc_decl.specs.Vocabulary.{administrator}
 use Rattle.qc_msg.specs.declared.reply.Reply.{Reply}
-use Rattle.qc_msg.specs.Vocabulary.{Installing, deeds}
+use Rattle.qc_msg.specs.Vocabulary.{deeds}
+use Rattle.qc_msg.specs.declared.payload.EpochStart.{EpochStart}
 use Rattle.tests_histories.specs.Words.{line}
 use Rattle.tests_due.proofs.SitePlaces.{count_records, count_sends}
 use Rattle.tests_epochs.specs.Declarations.{three_epochs}
@@ -20,7 +21,7 @@ a_lost_decision_installed_refused all =
     a_lost_decision_installed_differs
     ((admin_due_at 16 three_epochs (deeds (administrator three_epochs) [] wrong_rises.a_lost_decision_installed) all).0)
 
-a_shut_of_before_his_fall_differs : ◌≡◌ {A = Option Installing} None
+a_shut_of_before_his_fall_differs : ◌≡◌ {A = Option EpochStart} None
     (Some (record { epoch = 2; clock = 1; lines = (line 1 0 1 1 0 3 ∷ []) })) → ⊥
 a_shut_of_before_his_fall_differs e = let never : ⊥ = cc in never
 

@@ -2,7 +2,8 @@
 use Rattle.std.proofs.Common.{◌≡◌, ℕ, [], ◌∷◌, Option, Some, None, ap}
 use Rattle.qc_decl.specs.Vocabulary.{administrator}
 use Rattle.qc_msg.specs.declared.reply.Reply.{Reply}
-use Rattle.qc_msg.specs.Vocabulary.{Installing, deeds}
+use Rattle.qc_msg.specs.Vocabulary.{deeds}
+use Rattle.qc_msg.specs.declared.payload.EpochStart.{EpochStart}
 use Rattle.tests_histories.specs.Words.{line}
 use Rattle.tests_epochs.specs.Declarations.{three_epochs}
 use Rattle.tests_epochs.specs.Whole.{IsAdminDueIn}
@@ -12,7 +13,7 @@ use Rattle.qc_msg.specs.declared.reply.Half.TheVariants as halves
 use Rattle.qc_msg.specs.declared.reply.Reply.TheVariants as replies
 use Rattle.tests_epochs.specs.WrongRounds as wrong_rounds
 
-decided_twice_differs : ◌≡◌ {A = Option Installing} None
+decided_twice_differs : ◌≡◌ {A = Option EpochStart} None
     (Some (record { epoch = 2; clock = 1; lines = (line 1 0 1 1 0 3 ∷ []) })) → ⊥
 decided_twice_differs e = let never : ⊥ = cc in never
 
@@ -21,7 +22,7 @@ decided_twice_refused all =
     decided_twice_differs ((admin_due_at 14 three_epochs
     (deeds (administrator three_epochs) [] wrong_rounds.decided_twice) all).0)
 
-decided_by_too_few_differs : ◌≡◌ {A = Option Installing} None (Some (record { epoch = 2; clock = 0; lines = [] })) → ⊥
+decided_by_too_few_differs : ◌≡◌ {A = Option EpochStart} None (Some (record { epoch = 2; clock = 0; lines = [] })) → ⊥
 decided_by_too_few_differs e = let never : ⊥ = cc in never
 
 pub decided_by_too_few_refused : IsAdminDueIn three_epochs wrong_rounds.decided_by_too_few → ⊥
@@ -29,7 +30,7 @@ decided_by_too_few_refused all =
     decided_by_too_few_differs
     ((admin_due_at 7 three_epochs (deeds (administrator three_epochs) [] wrong_rounds.decided_by_too_few) all).0)
 
-decided_by_another_plan_differs : ◌≡◌ {A = Option Installing} None
+decided_by_another_plan_differs : ◌≡◌ {A = Option EpochStart} None
     (Some (record { epoch = 3; clock = 1; lines = (line 1 0 1 1 0 3 ∷ []) })) → ⊥
 decided_by_another_plan_differs e = let never : ⊥ = cc in never
 
@@ -38,7 +39,7 @@ decided_by_another_plan_refused all =
     decided_by_another_plan_differs
     ((admin_due_at 19 three_epochs (deeds (administrator three_epochs) [] wrong_rounds.decided_by_another_plan) all).0)
 
-a_shut_of_an_earlier_command_differs : ◌≡◌ {A = Option Installing} None
+a_shut_of_an_earlier_command_differs : ◌≡◌ {A = Option EpochStart} None
     (Some (record { epoch = 2; clock = 1; lines = (line 1 0 1 1 0 3 ∷ []) })) → ⊥
 a_shut_of_an_earlier_command_differs e = let never : ⊥ = cc in never
 

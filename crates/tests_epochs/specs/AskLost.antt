@@ -11,6 +11,7 @@ use Rattle.qc_msg.specs.declared.message.Outcome.TheVariants as outcomes
 use Rattle.qc_msg.specs.declared.record.Record.TheVariants as records
 use Rattle.qc_msg.specs.declared.reply.Reply.TheVariants as replies
 use Rattle.qc_msg.specs.declared.message.Want.TheVariants as wants
+use Rattle.qc_msg.specs.Vocabulary.{grant_with, read_of, snapshot_with, start_with}
 
 abbrev pub history : List Entry
 history =
@@ -18,8 +19,8 @@ history =
     marked 3 (Called (commands.Do 0 2)) ∷
     marked 3 (Sent 0 0 (messages.Request (tx 0 1) 1 0 (wants.Append 0 [] (own_line 1 0 3 ∷ [])))) ∷
     marked 3 (Sent 1 1 (messages.Request (tx 0 1) 1 0 (wants.Append 0 [] (own_line 1 0 3 ∷ [])))) ∷ marked 0 (Got 0) ∷
-    marked 0 (Sent 2 3 (messages.Answer 0 (answers.Granted 1 0 []))) ∷ marked 1 (Got 1) ∷
-    marked 1 (Sent 3 3 (messages.Answer 1 (answers.Granted 1 0 []))) ∷ marked 3 (Got 2) ∷ marked 3 (Got 3) ∷
+    marked 0 (Sent 2 3 (messages.Answer 0 (answers.Granted (grant_with 1 0 [])))) ∷ marked 1 (Got 1) ∷
+    marked 1 (Sent 3 3 (messages.Answer 1 (answers.Granted (grant_with 1 0 [])))) ∷ marked 3 (Got 2) ∷ marked 3 (Got 3) ∷
     marked 3 (Told (replies.Response 2)) ∷ marked 3 (Called commands.Commit) ∷
     marked 3 (Sent 4 0 (messages.Request (tx 0 1) 1 1 wants.Prepare)) ∷
     marked 3 (Sent 5 1 (messages.Request (tx 0 1) 1 1 wants.Prepare)) ∷ marked 0 (Got 4) ∷
@@ -33,35 +34,35 @@ history =
     marked 3 (Told (replies.Committed (stamp 1 0))) ∷ marked 7 (Phase 2) ∷ marked 6 (Called (commands.Epoch 2)) ∷
     marked 6 (Sent 10 0 (messages.Close 2)) ∷ marked 6 (Sent 11 1 (messages.Close 2)) ∷ marked 0 (Got 10) ∷
     marked 0 (Wrote (records.Close 2)) ∷
-    marked 0 (Sent 12 6 (messages.Answer 10 (answers.Shut 0 [] (prepared (tx 0 1) 1 [] (own_line 1 0 3 ∷ []) [] ∷ []))))
+    marked 0 (Sent 12 6 (messages.Answer 10 (answers.Shut (snapshot_with 0 [] (prepared (tx 0 1) 1 [] (own_line 1 0 3 ∷ []) [] ∷ [])))))
     ∷
     marked 1 (Got 11) ∷ marked 1 (Wrote (records.Close 2)) ∷
-    marked 1 (Sent 13 6 (messages.Answer 11 (answers.Shut 0 [] (prepared (tx 0 1) 1 [] (own_line 1 0 3 ∷ []) [] ∷ []))))
+    marked 1 (Sent 13 6 (messages.Answer 11 (answers.Shut (snapshot_with 0 [] (prepared (tx 0 1) 1 [] (own_line 1 0 3 ∷ []) [] ∷ [])))))
     ∷
     marked 6 (Got 12) ∷ marked 6 (Got 13) ∷ marked 6 (Sent 14 3 (messages.Ask (tx 0 1))) ∷ marked 6 (Lost 14) ∷
     marked 6 (Told (replies.InDoubt (tx 0 1) 0)) ∷ marked 7 (Phase 3) ∷ marked 6 (Called (commands.Epoch 2)) ∷
     marked 6 (Sent 15 0 (messages.Close 2)) ∷ marked 6 (Sent 16 1 (messages.Close 2)) ∷ marked 0 (Got 15) ∷
-    marked 0 (Sent 17 6 (messages.Answer 15 (answers.Shut 0 [] (prepared (tx 0 1) 1 [] (own_line 1 0 3 ∷ []) [] ∷ []))))
+    marked 0 (Sent 17 6 (messages.Answer 15 (answers.Shut (snapshot_with 0 [] (prepared (tx 0 1) 1 [] (own_line 1 0 3 ∷ []) [] ∷ [])))))
     ∷
     marked 1 (Got 16) ∷
-    marked 1 (Sent 18 6 (messages.Answer 16 (answers.Shut 0 [] (prepared (tx 0 1) 1 [] (own_line 1 0 3 ∷ []) [] ∷ []))))
+    marked 1 (Sent 18 6 (messages.Answer 16 (answers.Shut (snapshot_with 0 [] (prepared (tx 0 1) 1 [] (own_line 1 0 3 ∷ []) [] ∷ [])))))
     ∷
     marked 6 (Got 17) ∷ marked 6 (Got 18) ∷ marked 6 (Sent 19 3 (messages.Ask (tx 0 1))) ∷ marked 3 (Got 19) ∷
     marked 3 (Sent 20 6 (messages.Answer 19 (answers.Answered (outcomes.Committed (stamp 1 0))))) ∷ marked 6 (Got 20) ∷
-    marked 6 (Wrote (records.Decide 2 1 (line 1 0 1 1 0 3 ∷ []))) ∷
-    marked 6 (Sent 21 0 (messages.Install 2 1 (line 1 0 1 1 0 3 ∷ []))) ∷
-    marked 6 (Sent 22 1 (messages.Install 2 1 (line 1 0 1 1 0 3 ∷ []))) ∷
-    marked 6 (Sent 23 2 (messages.Install 2 1 (line 1 0 1 1 0 3 ∷ []))) ∷ marked 0 (Got 21) ∷
-    marked 0 (Wrote (records.Install 2 1 (line 1 0 1 1 0 3 ∷ []))) ∷
+    marked 6 (Wrote (records.Decide (start_with 2 1 (line 1 0 1 1 0 3 ∷ [])))) ∷
+    marked 6 (Sent 21 0 (messages.Install (start_with 2 1 (line 1 0 1 1 0 3 ∷ [])))) ∷
+    marked 6 (Sent 22 1 (messages.Install (start_with 2 1 (line 1 0 1 1 0 3 ∷ [])))) ∷
+    marked 6 (Sent 23 2 (messages.Install (start_with 2 1 (line 1 0 1 1 0 3 ∷ [])))) ∷ marked 0 (Got 21) ∷
+    marked 0 (Wrote (records.Install (start_with 2 1 (line 1 0 1 1 0 3 ∷ [])))) ∷
     marked 0 (Sent 24 6 (messages.Answer 21 answers.Installed)) ∷ marked 1 (Got 22) ∷
-    marked 1 (Wrote (records.Install 2 1 (line 1 0 1 1 0 3 ∷ []))) ∷
+    marked 1 (Wrote (records.Install (start_with 2 1 (line 1 0 1 1 0 3 ∷ [])))) ∷
     marked 1 (Sent 25 6 (messages.Answer 22 answers.Installed)) ∷ marked 2 (Got 23) ∷
-    marked 2 (Wrote (records.Install 2 1 (line 1 0 1 1 0 3 ∷ []))) ∷
+    marked 2 (Wrote (records.Install (start_with 2 1 (line 1 0 1 1 0 3 ∷ [])))) ∷
     marked 2 (Sent 26 6 (messages.Answer 23 answers.Installed)) ∷ marked 6 (Got 24) ∷ marked 6 (Got 25) ∷
     marked 6 (Got 26) ∷ marked 6 (Told (replies.Moved 3 7)) ∷ marked 7 (Phase 4) ∷ marked 4 (Called commands.Begin) ∷
     marked 4 (Told (replies.Began (tx 1 1))) ∷ marked 4 (Called (commands.Do 0 0)) ∷
-    marked 4 (Sent 27 1 (messages.Request (tx 1 1) 1 0 (wants.Read 0 0))) ∷
-    marked 4 (Sent 28 2 (messages.Request (tx 1 1) 1 0 (wants.Read 0 0))) ∷ marked 1 (Got 27) ∷
+    marked 4 (Sent 27 1 (messages.Request (tx 1 1) 1 0 (wants.Read (read_of 0 0)))) ∷
+    marked 4 (Sent 28 2 (messages.Request (tx 1 1) 1 0 (wants.Read (read_of 0 0)))) ∷ marked 1 (Got 27) ∷
     marked 1 (Sent 29 4 (messages.Answer 27 (answers.Closed 2))) ∷ marked 2 (Got 28) ∷
     marked 2 (Sent 30 4 (messages.Answer 28 (answers.Closed 2))) ∷ marked 4 (Got 29) ∷ marked 4 (Got 30) ∷
     marked 4 (Told (replies.Closed 2 1)) ∷ marked 4 (Called commands.Abort) ∷
@@ -69,8 +70,8 @@ history =
     marked 4 (Sent 32 2 (messages.Decision (tx 1 1) outcomes.Aborted)) ∷ marked 4 (Told replies.Dropped) ∷
     marked 1 (Got 31) ∷ marked 2 (Got 32) ∷ marked 4 (Called commands.Begin) ∷
     marked 4 (Told (replies.Began (tx 1 2))) ∷ marked 4 (Called (commands.Do 0 0)) ∷
-    marked 4 (Sent 33 1 (messages.Request (tx 1 2) 2 0 (wants.Read 0 0))) ∷ marked 1 (Got 33) ∷
-    marked 1 (Sent 34 4 (messages.Answer 33 (answers.Granted 2 1 (line 1 0 1 1 0 3 ∷ [])))) ∷ marked 4 (Got 34) ∷
+    marked 4 (Sent 33 1 (messages.Request (tx 1 2) 2 0 (wants.Read (read_of 0 0)))) ∷ marked 1 (Got 33) ∷
+    marked 1 (Sent 34 4 (messages.Answer 33 (answers.Granted (grant_with 2 1 (line 1 0 1 1 0 3 ∷ []))))) ∷ marked 4 (Got 34) ∷
     marked 4 (Told (replies.Response 1)) ∷ marked 4 (Called commands.Commit) ∷
     marked 4 (Sent 35 1 (messages.Request (tx 1 2) 2 2 wants.Prepare)) ∷ marked 1 (Got 35) ∷
     marked 1 (Wrote (prepare (tx 1 2) 2 (read_lock 0 0 ∷ []) [] [])) ∷

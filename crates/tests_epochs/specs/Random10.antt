@@ -15,6 +15,7 @@ use Rattle.qc_msg.specs.declared.record.Record.TheVariants as records
 use Rattle.qc_msg.specs.declared.reply.Reply.TheVariants as replies
 use Rattle.qc_msg.specs.declared.message.Want.TheVariants as wants
 use Rattle.qc_msg.specs.declared.step.Fall.TheVariants as falls
+use Rattle.qc_msg.specs.Vocabulary.{read_of, snapshot_with, start_with}
 use Rattle.qc_outside.specs.declared.disk.ArmKind.TheVariants as arms
 
 abbrev pub decl : Declaration
@@ -33,28 +34,28 @@ history =
     marked 6 (Phase 1) ∷ marked 4 (Called commands.Begin) ∷ marked 5 (Called (commands.Epoch 2)) ∷
     marked 5 (Sent 0 0 (messages.Close 2)) ∷ marked 5 (Sent 1 1 (messages.Close 2)) ∷
     marked 4 (Told (replies.Began (tx 2 1))) ∷ marked 0 (Got 0) ∷ marked 0 (Wrote (records.Close 2)) ∷
-    marked 0 (Sent 2 5 (messages.Answer 0 (answers.Shut 0 [] []))) ∷ marked 4 (Called commands.Commit) ∷
+    marked 0 (Sent 2 5 (messages.Answer 0 (answers.Shut (snapshot_with 0 [] [])))) ∷ marked 4 (Called commands.Commit) ∷
     marked 4 (Told replies.Unknown) ∷ marked 4 (Fell falls.Disk (Some (commit (stamp 1 2) (tx 2 1) []))) ∷
     marked 5 (Got 2) ∷ marked 3 (Called commands.Begin) ∷ marked 3 (Told (replies.Began (tx 1 1))) ∷
     marked 3 (Called commands.Commit) ∷ marked 3 (Wrote (commit (stamp 1 1) (tx 1 1) [])) ∷
     marked 3 (Told (replies.Committed (stamp 1 1))) ∷ marked 1 (Got 1) ∷ marked 1 (Wrote (records.Close 2)) ∷
-    marked 1 (Sent 3 5 (messages.Answer 1 (answers.Shut 0 [] []))) ∷ marked 5 (Got 3) ∷
-    marked 5 (Wrote (records.Decide 2 0 [])) ∷ marked 5 (Sent 4 0 (messages.Install 2 0 [])) ∷
-    marked 5 (Sent 5 1 (messages.Install 2 0 [])) ∷ marked 0 (Got 4) ∷
-    marked 0 (Sent 6 5 (messages.Answer 4 answers.Fault)) ∷ marked 0 (Fell falls.Disk (Some (records.Install 2 0 []))) ∷
-    marked 5 (Got 6) ∷ marked 1 (Got 5) ∷ marked 1 (Fell falls.Stop (Some (records.Install 2 0 []))) ∷
+    marked 1 (Sent 3 5 (messages.Answer 1 (answers.Shut (snapshot_with 0 [] [])))) ∷ marked 5 (Got 3) ∷
+    marked 5 (Wrote (records.Decide (start_with 2 0 []))) ∷ marked 5 (Sent 4 0 (messages.Install (start_with 2 0 []))) ∷
+    marked 5 (Sent 5 1 (messages.Install (start_with 2 0 []))) ∷ marked 0 (Got 4) ∷
+    marked 0 (Sent 6 5 (messages.Answer 4 answers.Fault)) ∷ marked 0 (Fell falls.Disk (Some (records.Install (start_with 2 0 [])))) ∷
+    marked 5 (Got 6) ∷ marked 1 (Got 5) ∷ marked 1 (Fell falls.Stop (Some (records.Install (start_with 2 0 [])))) ∷
     marked 5 (Lost 5) ∷ marked 5 (Told (replies.Moved 3 0)) ∷ marked 3 (Called commands.Begin) ∷
     marked 3 (Told (replies.Began (tx 1 2))) ∷ marked 3 (Called (commands.Do 1 2)) ∷
-    marked 3 (Sent 7 1 (messages.Request (tx 1 2) 1 0 (wants.Read 1 2))) ∷
-    marked 3 (Sent 8 0 (messages.Request (tx 1 2) 1 0 (wants.Read 1 2))) ∷ marked 3 (Lost 7) ∷ marked 3 (Lost 8) ∷
+    marked 3 (Sent 7 1 (messages.Request (tx 1 2) 1 0 (wants.Read (read_of 1 2)))) ∷
+    marked 3 (Sent 8 0 (messages.Request (tx 1 2) 1 0 (wants.Read (read_of 1 2)))) ∷ marked 3 (Lost 7) ∷ marked 3 (Lost 8) ∷
     marked 3 (Told (replies.Quorum halves.Read 0 2)) ∷ marked 3 (Called (commands.Do 1 1)) ∷
-    marked 3 (Sent 9 1 (messages.Request (tx 1 2) 1 0 (wants.Read 1 1))) ∷
-    marked 3 (Sent 10 0 (messages.Request (tx 1 2) 1 0 (wants.Read 1 1))) ∷ marked 3 (Lost 9) ∷ marked 3 (Lost 10) ∷
+    marked 3 (Sent 9 1 (messages.Request (tx 1 2) 1 0 (wants.Read (read_of 1 1)))) ∷
+    marked 3 (Sent 10 0 (messages.Request (tx 1 2) 1 0 (wants.Read (read_of 1 1)))) ∷ marked 3 (Lost 9) ∷ marked 3 (Lost 10) ∷
     marked 3 (Told (replies.Quorum halves.Read 0 2)) ∷ marked 3 (Called (commands.Do 1 2)) ∷
-    marked 3 (Sent 11 1 (messages.Request (tx 1 2) 1 0 (wants.Read 1 2))) ∷
-    marked 3 (Sent 12 0 (messages.Request (tx 1 2) 1 0 (wants.Read 1 2))) ∷ marked 3 (Lost 11) ∷ marked 3 (Lost 12) ∷
+    marked 3 (Sent 11 1 (messages.Request (tx 1 2) 1 0 (wants.Read (read_of 1 2)))) ∷
+    marked 3 (Sent 12 0 (messages.Request (tx 1 2) 1 0 (wants.Read (read_of 1 2)))) ∷ marked 3 (Lost 11) ∷ marked 3 (Lost 12) ∷
     marked 3 (Told (replies.Quorum halves.Read 0 2)) ∷ marked 6 (Phase 2) ∷
-    marked 0 (Rose ((records.Close 2) ∷ (records.Install 2 0 []) ∷ [])) ∷ marked 0 (Wrote records.Life) ∷
+    marked 0 (Rose ((records.Close 2) ∷ (records.Install (start_with 2 0 [])) ∷ [])) ∷ marked 0 (Wrote records.Life) ∷
     marked 6 (Armed 1 arms.Stop 4) ∷ marked 6 (Armed 4 arms.Fail 7) ∷ marked 0 (Got 0) ∷ marked 5 (Got 2) ∷
     marked 4 (Called commands.Begin) ∷ marked 4 (Told replies.Down) ∷ marked 4 (Called (commands.Do 0 1)) ∷
     marked 4 (Told replies.Down) ∷ marked 5 (Got 3) ∷ marked 4 (Called (commands.Do 1 2)) ∷
@@ -71,8 +72,8 @@ history =
     marked 2 (Called commands.Begin) ∷ marked 2 (Told (replies.Began (tx 0 1))) ∷ marked 2 (Called commands.Commit) ∷
     marked 5 (Got 14) ∷ marked 2 (Wrote (commit (stamp 1 0) (tx 0 1) [])) ∷
     marked 2 (Told (replies.Committed (stamp 1 0))) ∷ marked 5 (Called (commands.Epoch 2)) ∷
-    marked 5 (Sent 18 0 (messages.Install 2 0 [])) ∷ marked 5 (Sent 19 1 (messages.Install 2 0 [])) ∷
+    marked 5 (Sent 18 0 (messages.Install (start_with 2 0 []))) ∷ marked 5 (Sent 19 1 (messages.Install (start_with 2 0 []))) ∷
     marked 0 (Got 18) ∷ marked 0 (Sent 20 5 (messages.Answer 18 answers.Installed)) ∷ marked 5 (Got 20) ∷
-    marked 3 (Got 15) ∷ marked 1 (Got 19) ∷ marked 1 (Wrote (records.Install 2 0 [])) ∷
+    marked 3 (Got 15) ∷ marked 1 (Got 19) ∷ marked 1 (Wrote (records.Install (start_with 2 0 []))) ∷
     marked 1 (Sent 21 5 (messages.Answer 19 answers.Installed)) ∷ marked 5 (Got 21) ∷
     marked 5 (Told (replies.Moved 0 3)) ∷ marked 3 (Got 16) ∷ marked 3 (Got 17) ∷ []

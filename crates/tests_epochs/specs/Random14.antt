@@ -13,6 +13,7 @@ use Rattle.qc_msg.specs.declared.message.Message.TheVariants as messages
 use Rattle.qc_msg.specs.declared.record.Record.TheVariants as records
 use Rattle.qc_msg.specs.declared.reply.Reply.TheVariants as replies
 use Rattle.qc_msg.specs.declared.step.Fall.TheVariants as falls
+use Rattle.qc_msg.specs.Vocabulary.{start_with}
 use Rattle.qc_outside.specs.declared.disk.ArmKind.TheVariants as arms
 
 abbrev pub decl : Declaration
@@ -46,13 +47,13 @@ history =
     operation 0 0 None ∷ operation 0 0 None ∷ operation 0 0 None ∷ []))) ∷
     marked 4 (Told (replies.Committed (stamp 1 2))) ∷ marked 6 (Called (commands.Epoch 2)) ∷
     marked 5 (Told (replies.Began (tx 3 2))) ∷ marked 6 (Told replies.Fault) ∷
-    marked 6 (Fell falls.Stop (Some (records.Decide 2 0 []))) ∷ marked 5 (Called (commands.Do 0 0)) ∷
+    marked 6 (Fell falls.Stop (Some (records.Decide (start_with 2 0 [])))) ∷ marked 5 (Called (commands.Do 0 0)) ∷
     marked 5 (Told replies.Absent) ∷ marked 5 (Called (commands.Do 0 0)) ∷ marked 5 (Told replies.Absent) ∷
     marked 5 (Called (commands.Do 0 0)) ∷ marked 5 (Told replies.Absent) ∷ marked 2 (Called commands.Begin) ∷
     marked 2 (Told replies.Down) ∷ marked 2 (Called commands.Commit) ∷ marked 2 (Told replies.Down) ∷
     marked 7 (Phase 3) ∷ marked 1 (Fell falls.Script None) ∷ marked 1 (Rose []) ∷ marked 1 (Wrote records.Life) ∷
     marked 7 (Armed 2 arms.Stop 2) ∷ marked 4 (Fell falls.Script None) ∷
-    marked 6 (Rose (records.Life ∷ (records.Decide 2 0 []) ∷ [])) ∷ marked 6 (Wrote records.Life) ∷
+    marked 6 (Rose (records.Life ∷ (records.Decide (start_with 2 0 [])) ∷ [])) ∷ marked 6 (Wrote records.Life) ∷
     marked 4 (Rose (records.Life ∷ (commit (stamp 1 2) (tx_in 2 2 1) (operation 0 0 None ∷ operation 0 0 None ∷
     operation 0 0 None ∷ operation 0 0 None ∷ operation 0 0 None ∷ operation 0 0 None ∷ [])) ∷ [])) ∷
     marked 4 (Wrote records.Life) ∷ marked 2 (Called commands.Begin) ∷ marked 5 (Called (commands.Do 0 0)) ∷
@@ -68,14 +69,14 @@ history =
     marked 4 (Told (replies.Committed (stamp 2 2))) ∷ marked 4 (Called commands.Begin) ∷
     marked 4 (Told (replies.Began (tx_in 2 3 2))) ∷ marked 4 (Called commands.Commit) ∷
     marked 4 (Wrote (commit (stamp 3 2) (tx_in 2 3 2) [])) ∷ marked 4 (Told (replies.Committed (stamp 3 2))) ∷
-    marked 6 (Called (commands.Epoch 2)) ∷ marked 6 (Sent 0 0 (messages.Install 2 0 [])) ∷
-    marked 6 (Sent 1 1 (messages.Install 2 0 [])) ∷ marked 1 (Got 1) ∷ marked 1 (Wrote (records.Install 2 0 [])) ∷
+    marked 6 (Called (commands.Epoch 2)) ∷ marked 6 (Sent 0 0 (messages.Install (start_with 2 0 []))) ∷
+    marked 6 (Sent 1 1 (messages.Install (start_with 2 0 []))) ∷ marked 1 (Got 1) ∷ marked 1 (Wrote (records.Install (start_with 2 0 []))) ∷
     marked 1 (Sent 2 6 (messages.Answer 1 answers.Installed)) ∷ marked 0 (Got 0) ∷
-    marked 0 (Sent 3 6 (messages.Answer 0 answers.Fault)) ∷ marked 0 (Fell falls.Disk (Some (records.Install 2 0 []))) ∷
+    marked 0 (Sent 3 6 (messages.Answer 0 answers.Fault)) ∷ marked 0 (Fell falls.Disk (Some (records.Install (start_with 2 0 [])))) ∷
     marked 6 (Got 2) ∷ marked 6 (Got 3) ∷ marked 6 (Told (replies.Moved 0 2)) ∷ marked 7 (Phase 4) ∷
     marked 7 (Cut 0 1) ∷ marked 0 (Rose []) ∷ marked 0 (Wrote records.Life) ∷ marked 7 (Armed 3 arms.Stop 4) ∷
     marked 6 (Called (commands.Epoch 2)) ∷ marked 2 (Called (commands.Do 0 0)) ∷
-    marked 6 (Sent 4 0 (messages.Install 2 0 [])) ∷ marked 6 (Sent 5 1 (messages.Install 2 0 [])) ∷ marked 1 (Got 5) ∷
+    marked 6 (Sent 4 0 (messages.Install (start_with 2 0 []))) ∷ marked 6 (Sent 5 1 (messages.Install (start_with 2 0 []))) ∷ marked 1 (Got 5) ∷
     marked 5 (Called commands.Begin) ∷ marked 2 (Told replies.Down) ∷
     marked 1 (Sent 6 6 (messages.Answer 5 answers.Installed)) ∷ marked 5 (Told (replies.Began (tx 3 3))) ∷
     marked 6 (Got 6) ∷ marked 5 (Called (commands.Do 0 0)) ∷ marked 5 (Told replies.Absent) ∷
@@ -84,7 +85,7 @@ history =
     marked 5 (Wrote (commit (stamp 3 3) (tx 3 3) (operation 0 0 None ∷ operation 0 0 None ∷ []))) ∷
     marked 5 (Told (replies.Committed (stamp 3 3))) ∷ marked 2 (Told replies.Down) ∷
     marked 2 (Called (commands.Do 0 0)) ∷ marked 2 (Told replies.Down) ∷ marked 2 (Called commands.Commit) ∷
-    marked 2 (Told replies.Down) ∷ marked 0 (Got 4) ∷ marked 0 (Wrote (records.Install 2 0 [])) ∷
+    marked 2 (Told replies.Down) ∷ marked 0 (Got 4) ∷ marked 0 (Wrote (records.Install (start_with 2 0 []))) ∷
     marked 0 (Sent 7 6 (messages.Answer 4 answers.Installed)) ∷ marked 6 (Got 7) ∷ marked 6 (Told (replies.Moved 0 3)) ∷
     marked 4 (Called commands.Begin) ∷ marked 4 (Told (replies.Began (tx_in 2 3 3))) ∷
     marked 4 (Called (commands.Do 0 0)) ∷ marked 4 (Told replies.Absent) ∷ marked 4 (Called commands.Commit) ∷

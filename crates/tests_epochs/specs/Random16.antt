@@ -17,6 +17,7 @@ use Rattle.qc_msg.specs.declared.record.Record.TheVariants as records
 use Rattle.qc_msg.specs.declared.reply.Reply.TheVariants as replies
 use Rattle.qc_msg.specs.declared.message.Want.TheVariants as wants
 use Rattle.qc_msg.specs.declared.step.Fall.TheVariants as falls
+use Rattle.qc_msg.specs.Vocabulary.{grant_with, read_of, snapshot_with, start_with}
 use Rattle.qc_outside.specs.declared.disk.ArmKind.TheVariants as arms
 
 abbrev pub decl : Declaration
@@ -41,31 +42,31 @@ history =
     marked 3 (Told replies.Down) ∷ marked 3 (Called commands.Commit) ∷ marked 3 (Told replies.Down) ∷
     marked 5 (Phase 3) ∷ marked 3 (Rose []) ∷ marked 3 (Wrote records.Life) ∷ marked 3 (Called commands.Begin) ∷
     marked 3 (Told (replies.Began (tx_in 0 2 1))) ∷ marked 3 (Called (commands.Do 1 1)) ∷
-    marked 4 (Called (commands.Epoch 2)) ∷ marked 3 (Sent 0 0 (messages.Request (tx_in 0 2 1) 1 0 (wants.Read 1 1))) ∷
-    marked 3 (Sent 1 1 (messages.Request (tx_in 0 2 1) 1 0 (wants.Read 1 1))) ∷
-    marked 3 (Sent 2 2 (messages.Request (tx_in 0 2 1) 1 0 (wants.Read 1 1))) ∷ marked 4 (Sent 3 0 (messages.Close 2)) ∷
+    marked 4 (Called (commands.Epoch 2)) ∷ marked 3 (Sent 0 0 (messages.Request (tx_in 0 2 1) 1 0 (wants.Read (read_of 1 1)))) ∷
+    marked 3 (Sent 1 1 (messages.Request (tx_in 0 2 1) 1 0 (wants.Read (read_of 1 1)))) ∷
+    marked 3 (Sent 2 2 (messages.Request (tx_in 0 2 1) 1 0 (wants.Read (read_of 1 1)))) ∷ marked 4 (Sent 3 0 (messages.Close 2)) ∷
     marked 4 (Sent 4 1 (messages.Close 2)) ∷ marked 4 (Sent 5 2 (messages.Close 2)) ∷ marked 0 (Got 0) ∷
-    marked 0 (Sent 6 3 (messages.Answer 0 (answers.Granted 1 0 []))) ∷ marked 1 (Got 1) ∷
-    marked 1 (Sent 7 3 (messages.Answer 1 (answers.Granted 1 0 []))) ∷ marked 2 (Got 2) ∷
-    marked 2 (Sent 8 3 (messages.Answer 2 (answers.Granted 1 0 []))) ∷ marked 2 (Got 5) ∷
-    marked 2 (Wrote (records.Close 2)) ∷ marked 2 (Sent 9 4 (messages.Answer 5 (answers.Shut 0 [] []))) ∷
+    marked 0 (Sent 6 3 (messages.Answer 0 (answers.Granted (grant_with 1 0 [])))) ∷ marked 1 (Got 1) ∷
+    marked 1 (Sent 7 3 (messages.Answer 1 (answers.Granted (grant_with 1 0 [])))) ∷ marked 2 (Got 2) ∷
+    marked 2 (Sent 8 3 (messages.Answer 2 (answers.Granted (grant_with 1 0 [])))) ∷ marked 2 (Got 5) ∷
+    marked 2 (Wrote (records.Close 2)) ∷ marked 2 (Sent 9 4 (messages.Answer 5 (answers.Shut (snapshot_with 0 [] [])))) ∷
     marked 1 (Got 4) ∷ marked 1 (Wrote (records.Close 2)) ∷
-    marked 1 (Sent 10 4 (messages.Answer 4 (answers.Shut 0 [] []))) ∷ marked 4 (Got 9) ∷ marked 4 (Got 10) ∷
+    marked 1 (Sent 10 4 (messages.Answer 4 (answers.Shut (snapshot_with 0 [] [])))) ∷ marked 4 (Got 9) ∷ marked 4 (Got 10) ∷
     marked 0 (Got 3) ∷ marked 0 (Wrote (records.Close 2)) ∷
-    marked 0 (Sent 11 4 (messages.Answer 3 (answers.Shut 0 [] []))) ∷ marked 3 (Got 6) ∷ marked 4 (Got 11) ∷
-    marked 4 (Wrote (records.Decide 2 0 [])) ∷ marked 4 (Sent 12 0 (messages.Install 2 0 [])) ∷
-    marked 4 (Sent 13 1 (messages.Install 2 0 [])) ∷ marked 4 (Sent 14 2 (messages.Install 2 0 [])) ∷
-    marked 0 (Got 12) ∷ marked 3 (Got 7) ∷ marked 0 (Wrote (records.Install 2 0 [])) ∷
+    marked 0 (Sent 11 4 (messages.Answer 3 (answers.Shut (snapshot_with 0 [] [])))) ∷ marked 3 (Got 6) ∷ marked 4 (Got 11) ∷
+    marked 4 (Wrote (records.Decide (start_with 2 0 []))) ∷ marked 4 (Sent 12 0 (messages.Install (start_with 2 0 []))) ∷
+    marked 4 (Sent 13 1 (messages.Install (start_with 2 0 []))) ∷ marked 4 (Sent 14 2 (messages.Install (start_with 2 0 []))) ∷
+    marked 0 (Got 12) ∷ marked 3 (Got 7) ∷ marked 0 (Wrote (records.Install (start_with 2 0 []))) ∷
     marked 0 (Sent 15 4 (messages.Answer 12 answers.Installed)) ∷ marked 1 (Got 13) ∷ marked 3 (Got 8) ∷
     marked 3 (Sent 16 0 (messages.Request (tx_in 0 2 1) 1 1 (wants.Append 1 [] (own_line 1 1 1 ∷ [])))) ∷
     marked 3 (Sent 17 1 (messages.Request (tx_in 0 2 1) 1 1 (wants.Append 1 [] (own_line 1 1 1 ∷ [])))) ∷
     marked 3 (Sent 18 2 (messages.Request (tx_in 0 2 1) 1 1 (wants.Append 1 [] (own_line 1 1 1 ∷ [])))) ∷
-    marked 4 (Got 15) ∷ marked 1 (Wrote (records.Install 2 0 [])) ∷
+    marked 4 (Got 15) ∷ marked 1 (Wrote (records.Install (start_with 2 0 []))) ∷
     marked 1 (Sent 19 4 (messages.Answer 13 answers.Installed)) ∷ marked 0 (Got 16) ∷
     marked 0 (Sent 20 3 (messages.Answer 16 (answers.Closed 2))) ∷ marked 4 (Got 19) ∷ marked 3 (Got 20) ∷
     marked 1 (Got 17) ∷ marked 1 (Sent 21 3 (messages.Answer 17 (answers.Closed 2))) ∷ marked 2 (Got 14) ∷
     marked 2 (Sent 22 4 (messages.Answer 14 answers.Fault)) ∷
-    marked 2 (Fell falls.Disk (Some (records.Install 2 0 []))) ∷ marked 3 (Got 21) ∷ marked 4 (Got 22) ∷
+    marked 2 (Fell falls.Disk (Some (records.Install (start_with 2 0 [])))) ∷ marked 3 (Got 21) ∷ marked 4 (Got 22) ∷
     marked 4 (Told (replies.Moved 7 3)) ∷ marked 3 (Lost 18) ∷ marked 3 (Told (replies.Closed 2 0)) ∷
     marked 3 (Called (commands.Do 1 2)) ∷ marked 3 (Told replies.Doomed) ∷ marked 3 (Called (commands.Do 0 1)) ∷
     marked 3 (Told replies.Doomed) ∷ marked 5 (Phase 4) ∷ marked 4 (Got 9) ∷ marked 4 (Got 22) ∷
@@ -80,8 +81,8 @@ history =
     marked 3 (Sent 26 0 (messages.Request (tx_in 0 2 2) 2 0 (wants.Append 0 [] (own_line 1 0 2 ∷ [])))) ∷
     marked 3 (Sent 27 1 (messages.Request (tx_in 0 2 2) 2 0 (wants.Append 0 [] (own_line 1 0 2 ∷ [])))) ∷
     marked 3 (Sent 28 2 (messages.Request (tx_in 0 2 2) 2 0 (wants.Append 0 [] (own_line 1 0 2 ∷ [])))) ∷
-    marked 0 (Got 26) ∷ marked 0 (Sent 29 3 (messages.Answer 26 (answers.Granted 2 0 []))) ∷ marked 1 (Got 27) ∷
-    marked 3 (Got 29) ∷ marked 1 (Sent 30 3 (messages.Answer 27 (answers.Granted 2 0 []))) ∷ marked 3 (Got 30) ∷
+    marked 0 (Got 26) ∷ marked 0 (Sent 29 3 (messages.Answer 26 (answers.Granted (grant_with 2 0 [])))) ∷ marked 1 (Got 27) ∷
+    marked 3 (Got 29) ∷ marked 1 (Sent 30 3 (messages.Answer 27 (answers.Granted (grant_with 2 0 [])))) ∷ marked 3 (Got 30) ∷
     marked 3 (Lost 28) ∷ marked 3 (Told (replies.Quorum halves.Append 4 5)) ∷ marked 3 (Called commands.Begin) ∷
     marked 3 (Told (replies.Already (tx_in 0 2 2))) ∷ marked 3 (Called (commands.Do 0 0)) ∷
     marked 3 (Told replies.Doomed) ∷ marked 3 (Called commands.Commit) ∷
@@ -94,8 +95,8 @@ history =
     marked 3 (Sent 34 0 (messages.Request (tx_in 0 2 3) 2 0 (wants.Append 0 [] (own_line 1 0 2 ∷ [])))) ∷
     marked 3 (Sent 35 1 (messages.Request (tx_in 0 2 3) 2 0 (wants.Append 0 [] (own_line 1 0 2 ∷ [])))) ∷
     marked 3 (Sent 36 2 (messages.Request (tx_in 0 2 3) 2 0 (wants.Append 0 [] (own_line 1 0 2 ∷ [])))) ∷
-    marked 1 (Got 32) ∷ marked 0 (Got 34) ∷ marked 0 (Sent 37 3 (messages.Answer 34 (answers.Granted 2 0 []))) ∷
-    marked 3 (Got 37) ∷ marked 1 (Got 35) ∷ marked 1 (Sent 38 3 (messages.Answer 35 (answers.Granted 2 0 []))) ∷
+    marked 1 (Got 32) ∷ marked 0 (Got 34) ∷ marked 0 (Sent 37 3 (messages.Answer 34 (answers.Granted (grant_with 2 0 [])))) ∷
+    marked 3 (Got 37) ∷ marked 1 (Got 35) ∷ marked 1 (Sent 38 3 (messages.Answer 35 (answers.Granted (grant_with 2 0 [])))) ∷
     marked 3 (Got 38) ∷ marked 2 (Got 36) ∷ marked 2 (Sent 39 3 (messages.Answer 36 (answers.Behind 1))) ∷
     marked 3 (Got 39) ∷ marked 3 (Told (replies.Quorum halves.Append 4 5)) ∷ marked 3 (Called (commands.Do 1 1)) ∷
     marked 3 (Told replies.Doomed) ∷ marked 3 (Called commands.Commit) ∷

@@ -12,6 +12,7 @@ use Rattle.qc_msg.specs.declared.message.Message.TheVariants as messages
 use Rattle.qc_msg.specs.declared.record.Record.TheVariants as records
 use Rattle.qc_msg.specs.declared.reply.Reply.TheVariants as replies
 use Rattle.qc_msg.specs.declared.step.Fall.TheVariants as falls
+use Rattle.qc_msg.specs.Vocabulary.{start_with}
 use Rattle.qc_outside.specs.declared.disk.ArmKind.TheVariants as arms
 
 abbrev pub decl : Declaration
@@ -46,21 +47,21 @@ history =
     marked 4 (Told (replies.Committed (stamp 3 1))) ∷ marked 6 (Phase 4) ∷ marked 6 (Heal 3 4) ∷ marked 6 (Heal 1 5) ∷
     marked 6 (Cut 5 4) ∷ marked 6 (Armed 0 arms.Fail 7) ∷ marked 6 (Armed 1 arms.Stop 8) ∷
     marked 4 (Called commands.Begin) ∷ marked 5 (Called (commands.Epoch 2)) ∷ marked 3 (Called commands.Begin) ∷
-    marked 5 (Wrote (records.Decide 2 0 [])) ∷ marked 5 (Sent 0 0 (messages.Install 2 0 [])) ∷
-    marked 5 (Sent 1 1 (messages.Install 2 0 [])) ∷ marked 5 (Sent 2 2 (messages.Install 2 0 [])) ∷ marked 1 (Got 1) ∷
-    marked 2 (Got 2) ∷ marked 0 (Got 0) ∷ marked 2 (Wrote (records.Install 2 0 [])) ∷
+    marked 5 (Wrote (records.Decide (start_with 2 0 []))) ∷ marked 5 (Sent 0 0 (messages.Install (start_with 2 0 []))) ∷
+    marked 5 (Sent 1 1 (messages.Install (start_with 2 0 []))) ∷ marked 5 (Sent 2 2 (messages.Install (start_with 2 0 []))) ∷ marked 1 (Got 1) ∷
+    marked 2 (Got 2) ∷ marked 0 (Got 0) ∷ marked 2 (Wrote (records.Install (start_with 2 0 []))) ∷
     marked 2 (Sent 3 5 (messages.Answer 2 answers.Installed)) ∷ marked 5 (Got 3) ∷
     marked 4 (Told (replies.Began (tx 1 4))) ∷ marked 4 (Called (commands.Do 0 0)) ∷
-    marked 1 (Wrote (records.Install 2 0 [])) ∷ marked 1 (Sent 4 5 (messages.Answer 1 answers.Installed)) ∷
-    marked 5 (Got 4) ∷ marked 0 (Wrote (records.Install 2 0 [])) ∷
+    marked 1 (Wrote (records.Install (start_with 2 0 []))) ∷ marked 1 (Sent 4 5 (messages.Answer 1 answers.Installed)) ∷
+    marked 5 (Got 4) ∷ marked 0 (Wrote (records.Install (start_with 2 0 []))) ∷
     marked 0 (Sent 5 5 (messages.Answer 0 answers.Installed)) ∷ marked 3 (Told (replies.Began (tx 0 3))) ∷
     marked 5 (Got 5) ∷ marked 3 (Called (commands.Do 0 0)) ∷ marked 3 (Told (replies.Response 0)) ∷
     marked 5 (Told (replies.Moved 0 7)) ∷ marked 5 (Called (commands.Epoch 2)) ∷ marked 4 (Told (replies.Response 0)) ∷
     marked 4 (Called commands.Commit) ∷ marked 4 (Wrote (commit (stamp 4 1) (tx 1 4) (operation 0 0 (Some 0) ∷ []))) ∷
     marked 4 (Told (replies.Committed (stamp 4 1))) ∷ marked 4 (Called commands.Begin) ∷
     marked 4 (Told (replies.Began (tx 1 5))) ∷ marked 4 (Called commands.Commit) ∷
-    marked 5 (Sent 6 0 (messages.Install 2 0 [])) ∷ marked 5 (Sent 7 1 (messages.Install 2 0 [])) ∷
-    marked 5 (Sent 8 2 (messages.Install 2 0 [])) ∷ marked 0 (Got 6) ∷
+    marked 5 (Sent 6 0 (messages.Install (start_with 2 0 []))) ∷ marked 5 (Sent 7 1 (messages.Install (start_with 2 0 []))) ∷
+    marked 5 (Sent 8 2 (messages.Install (start_with 2 0 []))) ∷ marked 0 (Got 6) ∷
     marked 4 (Wrote (commit (stamp 5 1) (tx 1 5) [])) ∷ marked 4 (Told (replies.Committed (stamp 5 1))) ∷
     marked 2 (Got 8) ∷ marked 1 (Got 7) ∷ marked 1 (Sent 9 5 (messages.Answer 7 answers.Installed)) ∷
     marked 0 (Sent 10 5 (messages.Answer 6 answers.Installed)) ∷ marked 5 (Got 9) ∷

@@ -12,6 +12,7 @@ use Rattle.qc_msg.specs.declared.message.Message.TheVariants as messages
 use Rattle.qc_msg.specs.declared.record.Record.TheVariants as records
 use Rattle.qc_msg.specs.declared.reply.Reply.TheVariants as replies
 use Rattle.qc_msg.specs.declared.step.Fall.TheVariants as falls
+use Rattle.qc_msg.specs.Vocabulary.{snapshot_with, start_with}
 use Rattle.qc_outside.specs.declared.disk.ArmKind.TheVariants as arms
 
 abbrev pub decl : Declaration
@@ -31,15 +32,15 @@ history =
     marked 3 (Called (commands.Do 1 0)) ∷ marked 3 (Told replies.Absent) ∷ marked 3 (Called commands.Commit) ∷
     marked 3 (Wrote (commit (stamp 1 0) (tx 0 1) (operation 1 0 None ∷ operation 1 1 None ∷ operation 1 0 None ∷ []))) ∷
     marked 3 (Told (replies.Committed (stamp 1 0))) ∷ marked 0 (Wrote (records.Close 2)) ∷
-    marked 0 (Sent 1 5 (messages.Answer 0 (answers.Shut 0 [] []))) ∷ marked 5 (Got 1) ∷
-    marked 5 (Wrote (records.Decide 2 0 [])) ∷ marked 5 (Sent 2 0 (messages.Install 2 0 [])) ∷
-    marked 5 (Sent 3 1 (messages.Install 2 0 [])) ∷ marked 5 (Sent 4 2 (messages.Install 2 0 [])) ∷ marked 0 (Got 2) ∷
-    marked 0 (Wrote (records.Install 2 0 [])) ∷ marked 0 (Sent 5 5 (messages.Answer 2 answers.Installed)) ∷
-    marked 1 (Got 3) ∷ marked 1 (Wrote (records.Install 2 0 [])) ∷
+    marked 0 (Sent 1 5 (messages.Answer 0 (answers.Shut (snapshot_with 0 [] [])))) ∷ marked 5 (Got 1) ∷
+    marked 5 (Wrote (records.Decide (start_with 2 0 []))) ∷ marked 5 (Sent 2 0 (messages.Install (start_with 2 0 []))) ∷
+    marked 5 (Sent 3 1 (messages.Install (start_with 2 0 []))) ∷ marked 5 (Sent 4 2 (messages.Install (start_with 2 0 []))) ∷ marked 0 (Got 2) ∷
+    marked 0 (Wrote (records.Install (start_with 2 0 []))) ∷ marked 0 (Sent 5 5 (messages.Answer 2 answers.Installed)) ∷
+    marked 1 (Got 3) ∷ marked 1 (Wrote (records.Install (start_with 2 0 []))) ∷
     marked 1 (Sent 6 5 (messages.Answer 3 answers.Installed)) ∷ marked 5 (Got 5) ∷ marked 5 (Got 6) ∷
     marked 4 (Told (replies.Began (tx 1 1))) ∷ marked 4 (Called (commands.Do 1 0)) ∷ marked 4 (Told replies.Absent) ∷
     marked 4 (Called (commands.Do 0 0)) ∷ marked 4 (Told replies.Absent) ∷ marked 4 (Called commands.Commit) ∷
-    marked 2 (Got 4) ∷ marked 2 (Wrote (records.Install 2 0 [])) ∷
+    marked 2 (Got 4) ∷ marked 2 (Wrote (records.Install (start_with 2 0 []))) ∷
     marked 2 (Sent 7 5 (messages.Answer 4 answers.Installed)) ∷ marked 5 (Got 7) ∷ marked 5 (Told (replies.Moved 1 7)) ∷
     marked 4 (Wrote (commit (stamp 1 1) (tx 1 1) (operation 1 0 None ∷ operation 0 0 None ∷ []))) ∷
     marked 4 (Told (replies.Committed (stamp 1 1))) ∷ marked 6 (Phase 2) ∷ marked 5 (Fell falls.Script None) ∷
@@ -51,12 +52,12 @@ history =
     marked 4 (Called commands.Begin) ∷ marked 4 (Told (replies.Began (tx 1 3))) ∷ marked 4 (Called commands.Commit) ∷
     marked 4 (Wrote (commit (stamp 2 1) (tx 1 3) [])) ∷ marked 4 (Told (replies.Committed (stamp 2 1))) ∷
     marked 6 (Phase 3) ∷ marked 0 (Fell falls.Script None) ∷
-    marked 0 (Rose ((records.Close 2) ∷ (records.Install 2 0 []) ∷ [])) ∷ marked 0 (Wrote records.Life) ∷
-    marked 5 (Rose ((records.Decide 2 0 []) ∷ [])) ∷ marked 5 (Wrote records.Life) ∷
+    marked 0 (Rose ((records.Close 2) ∷ (records.Install (start_with 2 0 [])) ∷ [])) ∷ marked 0 (Wrote records.Life) ∷
+    marked 5 (Rose ((records.Decide (start_with 2 0 [])) ∷ [])) ∷ marked 5 (Wrote records.Life) ∷
     marked 3 (Called (commands.Do 1 0)) ∷ marked 3 (Told replies.Absent) ∷ marked 3 (Called (commands.Do 1 1)) ∷
     marked 3 (Told replies.Absent) ∷ marked 5 (Called (commands.Epoch 2)) ∷
-    marked 5 (Sent 8 0 (messages.Install 2 0 [])) ∷ marked 5 (Sent 9 1 (messages.Install 2 0 [])) ∷
-    marked 5 (Sent 10 2 (messages.Install 2 0 [])) ∷ marked 3 (Called (commands.Do 1 0)) ∷
+    marked 5 (Sent 8 0 (messages.Install (start_with 2 0 []))) ∷ marked 5 (Sent 9 1 (messages.Install (start_with 2 0 []))) ∷
+    marked 5 (Sent 10 2 (messages.Install (start_with 2 0 []))) ∷ marked 3 (Called (commands.Do 1 0)) ∷
     marked 3 (Told replies.Absent) ∷ marked 3 (Called (commands.Do 0 0)) ∷ marked 3 (Told replies.Absent) ∷
     marked 1 (Got 9) ∷ marked 1 (Sent 11 5 (messages.Answer 9 answers.Installed)) ∷ marked 3 (Called commands.Commit) ∷
     marked 3 (Wrote (commit (stamp 2 0) (tx 0 2) (operation 0 1 None ∷ operation 1 0 None ∷ operation 1 1 None ∷

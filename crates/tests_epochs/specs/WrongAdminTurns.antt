@@ -7,6 +7,7 @@ use Rattle.qc_msg.specs.declared.message.Message.TheVariants as messages
 use Rattle.qc_msg.specs.declared.record.Record.TheVariants as records
 use Rattle.qc_msg.specs.declared.reply.Reply.TheVariants as replies
 use Rattle.qc_msg.specs.declared.step.Fall.TheVariants as falls
+use Rattle.qc_msg.specs.Vocabulary.{start_with}
 use Rattle.tests_epochs.specs.DecideStops as decide_stops
 use Rattle.tests_epochs.specs.MovedOnce as moved_once
 
@@ -14,7 +15,7 @@ use Rattle.tests_epochs.specs.MovedOnce as moved_once
 abbrev pub fallen_untold : List Entry
 fallen_untold =
     take 45 decide_stops.history ++
-    marked 6 (Fell falls.Stop (Some (records.Decide 2 1 (line 1 0 1 1 0 3 ∷ [])))) ∷ []
+    marked 6 (Fell falls.Stop (Some (records.Decide (start_with 2 1 (line 1 0 1 1 0 3 ∷ []))))) ∷ []
 
 -- He writes that he rose, and didn't.
 abbrev pub life_between : List Entry
@@ -26,8 +27,8 @@ life_between =
 abbrev pub installed_first : List Entry
 installed_first =
     take 44 moved_once.history ++
-    marked 6 (Sent 14 0 (messages.Install 2 1 (line 1 0 1 1 0 3 ∷ []))) ∷
-    marked 6 (Wrote (records.Decide 2 1 (line 1 0 1 1 0 3 ∷ []))) ∷ []
+    marked 6 (Sent 14 0 (messages.Install (start_with 2 1 (line 1 0 1 1 0 3 ∷ [])))) ∷
+    marked 6 (Wrote (records.Decide (start_with 2 1 (line 1 0 1 1 0 3 ∷ [])))) ∷ []
 
 -- He tells that he is down while he is up.
 abbrev pub down_while_up : List Entry

@@ -7,6 +7,7 @@ use Rattle.qc_msg.specs.declared.message.Answer.TheVariants as answers
 use Rattle.qc_msg.specs.declared.message.Message.TheVariants as messages
 use Rattle.qc_msg.specs.declared.message.Outcome.TheVariants as outcomes
 use Rattle.qc_msg.specs.declared.record.Record.TheVariants as records
+use Rattle.qc_msg.specs.Vocabulary.{start_with}
 use Rattle.tests_epochs.specs.StampsPassReads as stamps_pass_reads
 use Rattle.tests_epochs.specs.SeveralPromises as several_promises
 
@@ -16,7 +17,7 @@ asked_too_early =
     take 54 stamps_pass_reads.history ++
     marked 6 (Sent 14 3 (messages.Ask (tx 0 4))) ∷ marked 6 (Got 13) ∷ marked 3 (Got 14) ∷
     marked 3 (Sent 15 6 (messages.Answer 14 (answers.Answered (outcomes.Committed (stamp 4 0))))) ∷ marked 6 (Got 15) ∷
-    marked 6 (Wrote (records.Decide 2 4 [])) ∷ []
+    marked 6 (Wrote (records.Decide (start_with 2 4 []))) ∷ []
 
 -- Another client is asked about a transaction.
 abbrev pub another_client_asked : List Entry
@@ -24,7 +25,7 @@ another_client_asked =
     take 55 stamps_pass_reads.history ++
     marked 6 (Sent 14 4 (messages.Ask (tx 0 4))) ∷ marked 4 (Got 14) ∷
     marked 4 (Sent 15 6 (messages.Answer 14 (answers.Answered (outcomes.Committed (stamp 4 0))))) ∷ marked 6 (Got 15) ∷
-    marked 6 (Wrote (records.Decide 2 4 [])) ∷ []
+    marked 6 (Wrote (records.Decide (start_with 2 4 []))) ∷ []
 
 -- Clients are asked in another order than that of the promises.
 abbrev pub asked_out_of_order : List Entry
@@ -36,4 +37,4 @@ asked_out_of_order =
     marked 5 (Sent 37 6 (messages.Answer 33 (answers.Answered (outcomes.Committed (stamp 1 2))))) ∷ marked 4 (Got 35) ∷
     marked 4 (Sent 38 6 (messages.Answer 35 (answers.Answered (outcomes.Committed (stamp 2 1))))) ∷ marked 6 (Got 36) ∷
     marked 6 (Got 37) ∷ marked 6 (Got 38) ∷
-    marked 6 (Wrote (records.Decide 2 2 (line 1 2 1 1 0 3 ∷ line 2 1 1 1 0 2 ∷ []))) ∷ []
+    marked 6 (Wrote (records.Decide (start_with 2 2 (line 1 2 1 1 0 3 ∷ line 2 1 1 1 0 2 ∷ [])))) ∷ []

@@ -5,6 +5,7 @@ use Rattle.tests_histories.specs.Words.{tx, line}
 use Rattle.qc_msg.specs.declared.step.Step.TheVariants.{Wrote, Told}
 use Rattle.qc_msg.specs.declared.record.Record.TheVariants as records
 use Rattle.qc_msg.specs.declared.reply.Reply.TheVariants as replies
+use Rattle.qc_msg.specs.Vocabulary.{start_with}
 use Rattle.tests_epochs.specs.StampsPassReads as stamps_pass_reads
 use Rattle.tests_epochs.specs.AskLost as ask_lost
 use Rattle.tests_epochs.specs.DoubtOfSecond as doubt_of_second
@@ -37,4 +38,4 @@ doubt_before_it_is_asked =
 abbrev pub decided_in_doubt : List Entry
 decided_in_doubt =
     take 42 ask_lost.history ++
-    marked 6 (Wrote (records.Decide 2 1 (line 1 0 1 1 0 3 ∷ []))) ∷ []
+    marked 6 (Wrote (records.Decide (start_with 2 1 (line 1 0 1 1 0 3 ∷ [])))) ∷ []

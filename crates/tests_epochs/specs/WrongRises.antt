@@ -8,6 +8,7 @@ use Rattle.qc_msg.specs.declared.step.Command.TheVariants as commands
 use Rattle.qc_msg.specs.declared.message.Message.TheVariants as messages
 use Rattle.qc_msg.specs.declared.record.Record.TheVariants as records
 use Rattle.qc_msg.specs.declared.reply.Reply.TheVariants as replies
+use Rattle.qc_msg.specs.Vocabulary.{start_with}
 use Rattle.tests_epochs.specs.DecideStops as decide_stops
 use Rattle.tests_epochs.specs.InstalledAgain as installed_again
 use Rattle.tests_epochs.specs.AdministratorDown as administrator_down
@@ -16,14 +17,14 @@ use Rattle.tests_epochs.specs.AdministratorDown as administrator_down
 abbrev pub a_lost_decision_installed : List Entry
 a_lost_decision_installed =
     take 51 decide_stops.history ++
-    marked 6 (Sent 14 0 (messages.Install 2 1 (line 1 0 1 1 0 3 ∷ []))) ∷
-    marked 6 (Sent 15 1 (messages.Install 2 1 (line 1 0 1 1 0 3 ∷ []))) ∷
-    marked 6 (Sent 16 2 (messages.Install 2 1 (line 1 0 1 1 0 3 ∷ []))) ∷ marked 0 (Got 14) ∷
-    marked 0 (Wrote (records.Install 2 1 (line 1 0 1 1 0 3 ∷ []))) ∷
+    marked 6 (Sent 14 0 (messages.Install (start_with 2 1 (line 1 0 1 1 0 3 ∷ [])))) ∷
+    marked 6 (Sent 15 1 (messages.Install (start_with 2 1 (line 1 0 1 1 0 3 ∷ [])))) ∷
+    marked 6 (Sent 16 2 (messages.Install (start_with 2 1 (line 1 0 1 1 0 3 ∷ [])))) ∷ marked 0 (Got 14) ∷
+    marked 0 (Wrote (records.Install (start_with 2 1 (line 1 0 1 1 0 3 ∷ [])))) ∷
     marked 0 (Sent 17 6 (messages.Answer 14 answers.Installed)) ∷ marked 1 (Got 15) ∷
-    marked 1 (Wrote (records.Install 2 1 (line 1 0 1 1 0 3 ∷ []))) ∷
+    marked 1 (Wrote (records.Install (start_with 2 1 (line 1 0 1 1 0 3 ∷ [])))) ∷
     marked 1 (Sent 18 6 (messages.Answer 15 answers.Installed)) ∷ marked 2 (Got 16) ∷
-    marked 2 (Wrote (records.Install 2 1 (line 1 0 1 1 0 3 ∷ []))) ∷
+    marked 2 (Wrote (records.Install (start_with 2 1 (line 1 0 1 1 0 3 ∷ [])))) ∷
     marked 2 (Sent 19 6 (messages.Answer 16 answers.Installed)) ∷ marked 6 (Got 17) ∷ marked 6 (Got 18) ∷
     marked 6 (Got 19) ∷ marked 6 (Told (replies.Moved 0 7)) ∷ []
 
@@ -31,7 +32,7 @@ a_lost_decision_installed =
 abbrev pub a_shut_of_before_his_fall : List Entry
 a_shut_of_before_his_fall =
     take 58 decide_stops.history ++
-    marked 6 (Got 13) ∷ marked 6 (Wrote (records.Decide 2 1 (line 1 0 1 1 0 3 ∷ []))) ∷ []
+    marked 6 (Got 13) ∷ marked 6 (Wrote (records.Decide (start_with 2 1 (line 1 0 1 1 0 3 ∷ [])))) ∷ []
 
 -- A risen administrator tells the sites as closed that had closed before.
 abbrev pub closed_before_his_fall : List Entry
@@ -43,9 +44,9 @@ closed_before_his_fall =
 abbrev pub installs_as_he_rises : List Entry
 installs_as_he_rises =
     take 65 installed_again.history ++
-    marked 6 (Sent 20 0 (messages.Install 2 1 (line 1 0 1 1 0 3 ∷ []))) ∷
-    marked 6 (Sent 21 1 (messages.Install 2 1 (line 1 0 1 1 0 3 ∷ []))) ∷
-    marked 6 (Sent 22 2 (messages.Install 2 1 (line 1 0 1 1 0 3 ∷ []))) ∷ []
+    marked 6 (Sent 20 0 (messages.Install (start_with 2 1 (line 1 0 1 1 0 3 ∷ [])))) ∷
+    marked 6 (Sent 21 1 (messages.Install (start_with 2 1 (line 1 0 1 1 0 3 ∷ [])))) ∷
+    marked 6 (Sent 22 2 (messages.Install (start_with 2 1 (line 1 0 1 1 0 3 ∷ [])))) ∷ []
 
 -- He rises and writes no record of it.
 abbrev pub no_life_written : List Entry

@@ -10,6 +10,7 @@ use Rattle.qc_msg.specs.declared.message.Message.TheVariants as messages
 use Rattle.qc_msg.specs.declared.message.Outcome.TheVariants as outcomes
 use Rattle.qc_msg.specs.declared.record.Record.TheVariants as records
 use Rattle.qc_msg.specs.declared.reply.Reply.TheVariants as replies
+use Rattle.qc_msg.specs.Vocabulary.{snapshot_with, start_with}
 use Rattle.tests_epochs.specs.MovedOnce as moved_once
 use Rattle.tests_epochs.specs.TooFewClose as too_few_close
 use Rattle.tests_epochs.specs.AskLost as ask_lost
@@ -18,13 +19,13 @@ use Rattle.tests_epochs.specs.AskLost as ask_lost
 abbrev pub decided_twice : List Entry
 decided_twice =
     take 62 moved_once.history ++
-    marked 6 (Called (commands.Epoch 2)) ∷ marked 6 (Wrote (records.Decide 2 1 (line 1 0 1 1 0 3 ∷ []))) ∷ []
+    marked 6 (Called (commands.Epoch 2)) ∷ marked 6 (Wrote (records.Decide (start_with 2 1 (line 1 0 1 1 0 3 ∷ [])))) ∷ []
 
 -- An epoch is decided, though too few sites have closed.
 abbrev pub decided_by_too_few : List Entry
 decided_by_too_few =
     take 15 too_few_close.history ++
-    marked 6 (Wrote (records.Decide 2 0 [])) ∷ []
+    marked 6 (Wrote (records.Decide (start_with 2 0 []))) ∷ []
 
 -- An epoch is decided by the plan of the one before the last.
 abbrev pub decided_by_another_plan : List Entry
@@ -33,12 +34,12 @@ decided_by_another_plan =
     marked 6 (Called (commands.Epoch 3)) ∷ marked 6 (Sent 20 0 (messages.Close 3)) ∷
     marked 6 (Sent 21 1 (messages.Close 3)) ∷ marked 6 (Sent 22 2 (messages.Close 3)) ∷ marked 0 (Got 20) ∷
     marked 0 (Wrote (records.Close 3)) ∷
-    marked 0 (Sent 23 6 (messages.Answer 20 (answers.Shut 1 (line 1 0 1 1 0 3 ∷ []) []))) ∷ marked 1 (Got 21) ∷
+    marked 0 (Sent 23 6 (messages.Answer 20 (answers.Shut (snapshot_with 1 (line 1 0 1 1 0 3 ∷ []) [])))) ∷ marked 1 (Got 21) ∷
     marked 1 (Wrote (records.Close 3)) ∷
-    marked 1 (Sent 24 6 (messages.Answer 21 (answers.Shut 1 (line 1 0 1 1 0 3 ∷ []) []))) ∷ marked 2 (Got 22) ∷
+    marked 1 (Sent 24 6 (messages.Answer 21 (answers.Shut (snapshot_with 1 (line 1 0 1 1 0 3 ∷ []) [])))) ∷ marked 2 (Got 22) ∷
     marked 2 (Wrote (records.Close 3)) ∷
-    marked 2 (Sent 25 6 (messages.Answer 22 (answers.Shut 1 (line 1 0 1 1 0 3 ∷ []) []))) ∷ marked 6 (Got 23) ∷
-    marked 6 (Got 24) ∷ marked 6 (Wrote (records.Decide 3 1 (line 1 0 1 1 0 3 ∷ []))) ∷ []
+    marked 2 (Sent 25 6 (messages.Answer 22 (answers.Shut (snapshot_with 1 (line 1 0 1 1 0 3 ∷ []) [])))) ∷ marked 6 (Got 23) ∷
+    marked 6 (Got 24) ∷ marked 6 (Wrote (records.Decide (start_with 3 1 (line 1 0 1 1 0 3 ∷ [])))) ∷ []
 
 -- What a site told for an earlier command counts.
 abbrev pub a_shut_of_an_earlier_command : List Entry
@@ -46,7 +47,7 @@ a_shut_of_an_earlier_command =
     take 52 ask_lost.history ++
     marked 6 (Got 13) ∷ marked 6 (Sent 19 3 (messages.Ask (tx 0 1))) ∷ marked 3 (Got 19) ∷
     marked 3 (Sent 20 6 (messages.Answer 19 (answers.Answered (outcomes.Committed (stamp 1 0))))) ∷ marked 6 (Got 20) ∷
-    marked 6 (Wrote (records.Decide 2 1 (line 1 0 1 1 0 3 ∷ []))) ∷ []
+    marked 6 (Wrote (records.Decide (start_with 2 1 (line 1 0 1 1 0 3 ∷ [])))) ∷ []
 
 -- Too few are told before all sites are asked.
 abbrev pub short_before_all_are_asked : List Entry

@@ -4,6 +4,7 @@ use Rattle.qc_msg.specs.Vocabulary.{Entry, marked}
 use Rattle.tests_histories.specs.Words.{line}
 use Rattle.qc_msg.specs.declared.step.Step.TheVariants.{Sent}
 use Rattle.qc_msg.specs.declared.message.Message.TheVariants as messages
+use Rattle.qc_msg.specs.Vocabulary.{start_with}
 use Rattle.tests_epochs.specs.MovedOnce as moved_once
 use Rattle.tests_epochs.specs.DecideStops as decide_stops
 
@@ -11,10 +12,10 @@ use Rattle.tests_epochs.specs.DecideStops as decide_stops
 abbrev pub another_log : List Entry
 another_log =
     take 45 moved_once.history ++
-    marked 6 (Sent 14 0 (messages.Install 2 1 [])) ∷ []
+    marked 6 (Sent 14 0 (messages.Install (start_with 2 1 []))) ∷ []
 
 -- An Install of what was being decided as he fell, before it is decided.
 abbrev pub not_decided : List Entry
 not_decided =
     take 53 decide_stops.history ++
-    marked 6 (Sent 16 2 (messages.Install 2 1 (line 1 0 1 1 0 3 ∷ []))) ∷ []
+    marked 6 (Sent 16 2 (messages.Install (start_with 2 1 (line 1 0 1 1 0 3 ∷ [])))) ∷ []

@@ -7,7 +7,7 @@ ghost use Rattle.qc_decl.specs.Named.{IsNamed};
 ghost use Rattle.qc_script.specs.Sound.{IsScriptFor};
 
 use qc_decl::Declaration;
-use qc_script::{Script, ScriptFault, read, scripts_name_what_is_declared};
+use qc_script::{Script, ScriptFault, read_script, scripts_name_what_is_declared};
 use std::alloc::Global;
 
 /// A script of the declaration.
@@ -18,5 +18,5 @@ pub fn script_of(alloc: Global, bytes: &[u8], decl: &Declaration) -> Result<Scri
     ensures { IfOk result (IsScriptFor decl.now) }
 {
     scripts_name_what_is_declared();
-    read(alloc, bytes, decl)
+    read_script(alloc, bytes, decl)
 }

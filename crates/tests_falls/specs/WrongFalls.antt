@@ -14,6 +14,7 @@ use Rattle.qc_msg.specs.declared.record.Record.TheVariants as records
 use Rattle.qc_msg.specs.declared.reply.Reply.TheVariants as replies
 use Rattle.qc_msg.specs.declared.message.Want.TheVariants as wants
 use Rattle.qc_msg.specs.declared.step.Fall.TheVariants as falls
+use Rattle.qc_msg.specs.Vocabulary.{grant_with, read_of}
 use Rattle.qc_outside.specs.declared.disk.ArmKind.TheVariants as arms
 
 -- A site that rose grants in its old life.
@@ -24,14 +25,14 @@ old_life =
     marked 3 (Called (commands.Do 0 2)) ∷
     marked 3 (Sent 0 0 (messages.Request (tx 0 1) 1 0 (wants.Append 0 [] (own_line 1 0 3 ∷ [])))) ∷
     marked 3 (Sent 1 1 (messages.Request (tx 0 1) 1 0 (wants.Append 0 [] (own_line 1 0 3 ∷ [])))) ∷ marked 0 (Got 0) ∷
-    marked 0 (Sent 2 3 (messages.Answer 0 (answers.Granted 1 0 []))) ∷ marked 1 (Got 1) ∷
-    marked 1 (Sent 3 3 (messages.Answer 1 (answers.Granted 1 0 []))) ∷ marked 3 (Got 2) ∷ marked 3 (Got 3) ∷
+    marked 0 (Sent 2 3 (messages.Answer 0 (answers.Granted (grant_with 1 0 [])))) ∷ marked 1 (Got 1) ∷
+    marked 1 (Sent 3 3 (messages.Answer 1 (answers.Granted (grant_with 1 0 [])))) ∷ marked 3 (Got 2) ∷ marked 3 (Got 3) ∷
     marked 3 (Told (replies.Response 2)) ∷ marked 7 (Phase 2) ∷ marked 1 (Fell falls.Script None) ∷ marked 1 (Rose []) ∷
     marked 1 (Wrote records.Life) ∷ marked 1 (Got 1) ∷ []
 
 abbrev pub old_life_then : List Step
 old_life_then =
-    (Sent 4 3 (messages.Answer 1 (answers.Granted 1 0 []))) ∷ []
+    (Sent 4 3 (messages.Answer 1 (answers.Granted (grant_with 1 0 [])))) ∷ []
 
 -- A site that rose votes for what it granted before.
 
@@ -41,11 +42,11 @@ old_grant =
     marked 3 (Called (commands.Do 0 2)) ∷
     marked 3 (Sent 0 0 (messages.Request (tx 0 1) 1 0 (wants.Append 0 [] (own_line 1 0 3 ∷ [])))) ∷
     marked 3 (Sent 1 1 (messages.Request (tx 0 1) 1 0 (wants.Append 0 [] (own_line 1 0 3 ∷ [])))) ∷ marked 0 (Got 0) ∷
-    marked 0 (Sent 2 3 (messages.Answer 0 (answers.Granted 1 0 []))) ∷ marked 1 (Got 1) ∷
-    marked 1 (Sent 3 3 (messages.Answer 1 (answers.Granted 1 0 []))) ∷ marked 3 (Got 2) ∷ marked 3 (Got 3) ∷
+    marked 0 (Sent 2 3 (messages.Answer 0 (answers.Granted (grant_with 1 0 [])))) ∷ marked 1 (Got 1) ∷
+    marked 1 (Sent 3 3 (messages.Answer 1 (answers.Granted (grant_with 1 0 [])))) ∷ marked 3 (Got 2) ∷ marked 3 (Got 3) ∷
     marked 3 (Told (replies.Response 2)) ∷ marked 7 (Phase 2) ∷ marked 1 (Fell falls.Script None) ∷ marked 1 (Rose []) ∷
     marked 1 (Wrote records.Life) ∷ marked 1 (Got 1) ∷
-    marked 1 (Sent 4 3 (messages.Answer 1 (answers.Granted 2 0 []))) ∷ marked 3 (Got 4) ∷
+    marked 1 (Sent 4 3 (messages.Answer 1 (answers.Granted (grant_with 2 0 [])))) ∷ marked 3 (Got 4) ∷
     marked 3 (Called commands.Commit) ∷ marked 3 (Sent 5 0 (messages.Request (tx 0 1) 1 1 wants.Prepare)) ∷
     marked 3 (Sent 6 1 (messages.Request (tx 0 1) 1 1 wants.Prepare)) ∷ marked 0 (Got 5) ∷
     marked 0 (Wrote (prepare (tx 0 1) 1 [] (own_line 1 0 3 ∷ []) [])) ∷
@@ -63,11 +64,11 @@ old_grant_unwritten =
     marked 3 (Called (commands.Do 0 2)) ∷
     marked 3 (Sent 0 0 (messages.Request (tx 0 1) 1 0 (wants.Append 0 [] (own_line 1 0 3 ∷ [])))) ∷
     marked 3 (Sent 1 1 (messages.Request (tx 0 1) 1 0 (wants.Append 0 [] (own_line 1 0 3 ∷ [])))) ∷ marked 0 (Got 0) ∷
-    marked 0 (Sent 2 3 (messages.Answer 0 (answers.Granted 1 0 []))) ∷ marked 1 (Got 1) ∷
-    marked 1 (Sent 3 3 (messages.Answer 1 (answers.Granted 1 0 []))) ∷ marked 3 (Got 2) ∷ marked 3 (Got 3) ∷
+    marked 0 (Sent 2 3 (messages.Answer 0 (answers.Granted (grant_with 1 0 [])))) ∷ marked 1 (Got 1) ∷
+    marked 1 (Sent 3 3 (messages.Answer 1 (answers.Granted (grant_with 1 0 [])))) ∷ marked 3 (Got 2) ∷ marked 3 (Got 3) ∷
     marked 3 (Told (replies.Response 2)) ∷ marked 7 (Phase 2) ∷ marked 1 (Fell falls.Script None) ∷ marked 1 (Rose []) ∷
     marked 1 (Wrote records.Life) ∷ marked 1 (Got 1) ∷
-    marked 1 (Sent 4 3 (messages.Answer 1 (answers.Granted 2 0 []))) ∷ marked 3 (Got 4) ∷
+    marked 1 (Sent 4 3 (messages.Answer 1 (answers.Granted (grant_with 2 0 [])))) ∷ marked 3 (Got 4) ∷
     marked 3 (Called commands.Commit) ∷ marked 3 (Sent 5 0 (messages.Request (tx 0 1) 1 1 wants.Prepare)) ∷
     marked 3 (Sent 6 1 (messages.Request (tx 0 1) 1 1 wants.Prepare)) ∷ marked 0 (Got 5) ∷
     marked 0 (Wrote (prepare (tx 0 1) 1 [] (own_line 1 0 3 ∷ []) [])) ∷
@@ -85,8 +86,8 @@ nothing_asked =
     marked 3 (Told (replies.Began (tx 0 1))) ∷ marked 3 (Called (commands.Do 0 2)) ∷
     marked 3 (Sent 0 0 (messages.Request (tx 0 1) 1 0 (wants.Append 0 [] (own_line 1 0 3 ∷ [])))) ∷
     marked 3 (Sent 1 1 (messages.Request (tx 0 1) 1 0 (wants.Append 0 [] (own_line 1 0 3 ∷ [])))) ∷ marked 0 (Got 0) ∷
-    marked 0 (Sent 2 3 (messages.Answer 0 (answers.Granted 1 0 []))) ∷ marked 1 (Got 1) ∷
-    marked 1 (Sent 3 3 (messages.Answer 1 (answers.Granted 1 0 []))) ∷ marked 3 (Got 2) ∷ marked 3 (Got 3) ∷
+    marked 0 (Sent 2 3 (messages.Answer 0 (answers.Granted (grant_with 1 0 [])))) ∷ marked 1 (Got 1) ∷
+    marked 1 (Sent 3 3 (messages.Answer 1 (answers.Granted (grant_with 1 0 [])))) ∷ marked 3 (Got 2) ∷ marked 3 (Got 3) ∷
     marked 3 (Told (replies.Response 2)) ∷ marked 3 (Called commands.Commit) ∷
     marked 3 (Sent 4 0 (messages.Request (tx 0 1) 1 1 wants.Prepare)) ∷
     marked 3 (Sent 5 1 (messages.Request (tx 0 1) 1 1 wants.Prepare)) ∷ marked 0 (Got 4) ∷
@@ -110,8 +111,8 @@ no_life =
     marked 3 (Told (replies.Began (tx 0 1))) ∷ marked 3 (Called (commands.Do 0 2)) ∷
     marked 3 (Sent 0 0 (messages.Request (tx 0 1) 1 0 (wants.Append 0 [] (own_line 1 0 3 ∷ [])))) ∷
     marked 3 (Sent 1 1 (messages.Request (tx 0 1) 1 0 (wants.Append 0 [] (own_line 1 0 3 ∷ [])))) ∷ marked 0 (Got 0) ∷
-    marked 0 (Sent 2 3 (messages.Answer 0 (answers.Granted 1 0 []))) ∷ marked 1 (Got 1) ∷
-    marked 1 (Sent 3 3 (messages.Answer 1 (answers.Granted 1 0 []))) ∷ marked 3 (Got 2) ∷ marked 3 (Got 3) ∷
+    marked 0 (Sent 2 3 (messages.Answer 0 (answers.Granted (grant_with 1 0 [])))) ∷ marked 1 (Got 1) ∷
+    marked 1 (Sent 3 3 (messages.Answer 1 (answers.Granted (grant_with 1 0 [])))) ∷ marked 3 (Got 2) ∷ marked 3 (Got 3) ∷
     marked 3 (Told (replies.Response 2)) ∷ marked 3 (Called commands.Commit) ∷
     marked 3 (Sent 4 0 (messages.Request (tx 0 1) 1 1 wants.Prepare)) ∷
     marked 3 (Sent 5 1 (messages.Request (tx 0 1) 1 1 wants.Prepare)) ∷ marked 0 (Got 4) ∷
@@ -135,8 +136,8 @@ asked_unwritten =
     marked 3 (Told (replies.Began (tx 0 1))) ∷ marked 3 (Called (commands.Do 0 2)) ∷
     marked 3 (Sent 0 0 (messages.Request (tx 0 1) 1 0 (wants.Append 0 [] (own_line 1 0 3 ∷ [])))) ∷
     marked 3 (Sent 1 1 (messages.Request (tx 0 1) 1 0 (wants.Append 0 [] (own_line 1 0 3 ∷ [])))) ∷ marked 0 (Got 0) ∷
-    marked 0 (Sent 2 3 (messages.Answer 0 (answers.Granted 1 0 []))) ∷ marked 1 (Got 1) ∷
-    marked 1 (Sent 3 3 (messages.Answer 1 (answers.Granted 1 0 []))) ∷ marked 3 (Got 2) ∷ marked 3 (Got 3) ∷
+    marked 0 (Sent 2 3 (messages.Answer 0 (answers.Granted (grant_with 1 0 [])))) ∷ marked 1 (Got 1) ∷
+    marked 1 (Sent 3 3 (messages.Answer 1 (answers.Granted (grant_with 1 0 [])))) ∷ marked 3 (Got 2) ∷ marked 3 (Got 3) ∷
     marked 3 (Told (replies.Response 2)) ∷ marked 3 (Called commands.Commit) ∷
     marked 3 (Sent 4 0 (messages.Request (tx 0 1) 1 1 wants.Prepare)) ∷
     marked 3 (Sent 5 1 (messages.Request (tx 0 1) 1 1 wants.Prepare)) ∷ marked 0 (Got 4) ∷
@@ -160,8 +161,8 @@ promise_dropped =
     marked 3 (Told (replies.Began (tx 0 1))) ∷ marked 3 (Called (commands.Do 0 2)) ∷
     marked 3 (Sent 0 0 (messages.Request (tx 0 1) 1 0 (wants.Append 0 [] (own_line 1 0 3 ∷ [])))) ∷
     marked 3 (Sent 1 1 (messages.Request (tx 0 1) 1 0 (wants.Append 0 [] (own_line 1 0 3 ∷ [])))) ∷ marked 0 (Got 0) ∷
-    marked 0 (Sent 2 3 (messages.Answer 0 (answers.Granted 1 0 []))) ∷ marked 1 (Got 1) ∷
-    marked 1 (Sent 3 3 (messages.Answer 1 (answers.Granted 1 0 []))) ∷ marked 3 (Got 2) ∷ marked 3 (Got 3) ∷
+    marked 0 (Sent 2 3 (messages.Answer 0 (answers.Granted (grant_with 1 0 [])))) ∷ marked 1 (Got 1) ∷
+    marked 1 (Sent 3 3 (messages.Answer 1 (answers.Granted (grant_with 1 0 [])))) ∷ marked 3 (Got 2) ∷ marked 3 (Got 3) ∷
     marked 3 (Told (replies.Response 2)) ∷ marked 3 (Called commands.Commit) ∷
     marked 3 (Sent 4 0 (messages.Request (tx 0 1) 1 1 wants.Prepare)) ∷
     marked 3 (Sent 5 1 (messages.Request (tx 0 1) 1 1 wants.Prepare)) ∷ marked 0 (Got 4) ∷
@@ -174,13 +175,13 @@ promise_dropped =
     marked 0 (Fell falls.Script None) ∷ marked 0 (Rose ((prepare (tx 0 1) 1 [] (own_line 1 0 3 ∷ []) []) ∷ [])) ∷
     marked 0 (Wrote records.Life) ∷ marked 0 (Sent 8 3 (messages.Inquiry (tx 0 1))) ∷ marked 5 (Called commands.Begin) ∷
     marked 5 (Told (replies.Began (tx 2 1))) ∷ marked 5 (Called (commands.Do 0 0)) ∷
-    marked 5 (Sent 9 2 (messages.Request (tx 2 1) 1 0 (wants.Read 0 0))) ∷
-    marked 5 (Sent 10 0 (messages.Request (tx 2 1) 1 0 (wants.Read 0 0))) ∷ marked 2 (Got 9) ∷
-    marked 2 (Sent 11 5 (messages.Answer 9 (answers.Granted 1 0 []))) ∷ marked 0 (Got 10) ∷ []
+    marked 5 (Sent 9 2 (messages.Request (tx 2 1) 1 0 (wants.Read (read_of 0 0)))) ∷
+    marked 5 (Sent 10 0 (messages.Request (tx 2 1) 1 0 (wants.Read (read_of 0 0)))) ∷ marked 2 (Got 9) ∷
+    marked 2 (Sent 11 5 (messages.Answer 9 (answers.Granted (grant_with 1 0 [])))) ∷ marked 0 (Got 10) ∷ []
 
 abbrev pub promise_dropped_then : List Step
 promise_dropped_then =
-    (Sent 12 5 (messages.Answer 10 (answers.Granted 2 0 []))) ∷ []
+    (Sent 12 5 (messages.Answer 10 (answers.Granted (grant_with 2 0 [])))) ∷ []
 
 -- A site says that it can't write its promise, and doesn't fall.
 
@@ -190,8 +191,8 @@ fault_alone =
     marked 3 (Told (replies.Began (tx 0 1))) ∷ marked 3 (Called (commands.Do 0 2)) ∷
     marked 3 (Sent 0 0 (messages.Request (tx 0 1) 1 0 (wants.Append 0 [] (own_line 1 0 3 ∷ [])))) ∷
     marked 3 (Sent 1 1 (messages.Request (tx 0 1) 1 0 (wants.Append 0 [] (own_line 1 0 3 ∷ [])))) ∷ marked 0 (Got 0) ∷
-    marked 0 (Sent 2 3 (messages.Answer 0 (answers.Granted 1 0 []))) ∷ marked 1 (Got 1) ∷
-    marked 1 (Sent 3 3 (messages.Answer 1 (answers.Granted 1 0 []))) ∷ marked 3 (Got 2) ∷ marked 3 (Got 3) ∷
+    marked 0 (Sent 2 3 (messages.Answer 0 (answers.Granted (grant_with 1 0 [])))) ∷ marked 1 (Got 1) ∷
+    marked 1 (Sent 3 3 (messages.Answer 1 (answers.Granted (grant_with 1 0 [])))) ∷ marked 3 (Got 2) ∷ marked 3 (Got 3) ∷
     marked 3 (Told (replies.Response 2)) ∷ marked 3 (Called commands.Commit) ∷
     marked 3 (Sent 4 0 (messages.Request (tx 0 1) 1 1 wants.Prepare)) ∷
     marked 3 (Sent 5 1 (messages.Request (tx 0 1) 1 1 wants.Prepare)) ∷ marked 0 (Got 4) ∷
@@ -210,8 +211,8 @@ voted_unwritten =
     marked 3 (Told (replies.Began (tx 0 1))) ∷ marked 3 (Called (commands.Do 0 2)) ∷
     marked 3 (Sent 0 0 (messages.Request (tx 0 1) 1 0 (wants.Append 0 [] (own_line 1 0 3 ∷ [])))) ∷
     marked 3 (Sent 1 1 (messages.Request (tx 0 1) 1 0 (wants.Append 0 [] (own_line 1 0 3 ∷ [])))) ∷ marked 0 (Got 0) ∷
-    marked 0 (Sent 2 3 (messages.Answer 0 (answers.Granted 1 0 []))) ∷ marked 1 (Got 1) ∷
-    marked 1 (Sent 3 3 (messages.Answer 1 (answers.Granted 1 0 []))) ∷ marked 3 (Got 2) ∷ marked 3 (Got 3) ∷
+    marked 0 (Sent 2 3 (messages.Answer 0 (answers.Granted (grant_with 1 0 [])))) ∷ marked 1 (Got 1) ∷
+    marked 1 (Sent 3 3 (messages.Answer 1 (answers.Granted (grant_with 1 0 [])))) ∷ marked 3 (Got 2) ∷ marked 3 (Got 3) ∷
     marked 3 (Told (replies.Response 2)) ∷ marked 3 (Called commands.Commit) ∷
     marked 3 (Sent 4 0 (messages.Request (tx 0 1) 1 1 wants.Prepare)) ∷
     marked 3 (Sent 5 1 (messages.Request (tx 0 1) 1 1 wants.Prepare)) ∷ marked 0 (Got 4) ∷
@@ -231,8 +232,8 @@ unknown_alone =
     marked 3 (Told (replies.Began (tx 0 1))) ∷ marked 3 (Called (commands.Do 0 2)) ∷
     marked 3 (Sent 0 0 (messages.Request (tx 0 1) 1 0 (wants.Append 0 [] (own_line 1 0 3 ∷ [])))) ∷
     marked 3 (Sent 1 1 (messages.Request (tx 0 1) 1 0 (wants.Append 0 [] (own_line 1 0 3 ∷ [])))) ∷ marked 0 (Got 0) ∷
-    marked 0 (Sent 2 3 (messages.Answer 0 (answers.Granted 1 0 []))) ∷ marked 1 (Got 1) ∷
-    marked 1 (Sent 3 3 (messages.Answer 1 (answers.Granted 1 0 []))) ∷ marked 3 (Got 2) ∷ marked 3 (Got 3) ∷
+    marked 0 (Sent 2 3 (messages.Answer 0 (answers.Granted (grant_with 1 0 [])))) ∷ marked 1 (Got 1) ∷
+    marked 1 (Sent 3 3 (messages.Answer 1 (answers.Granted (grant_with 1 0 [])))) ∷ marked 3 (Got 2) ∷ marked 3 (Got 3) ∷
     marked 3 (Told (replies.Response 2)) ∷ marked 3 (Called commands.Commit) ∷
     marked 3 (Sent 4 0 (messages.Request (tx 0 1) 1 1 wants.Prepare)) ∷
     marked 3 (Sent 5 1 (messages.Request (tx 0 1) 1 1 wants.Prepare)) ∷ marked 0 (Got 4) ∷
@@ -253,8 +254,8 @@ committed_unwritten =
     marked 3 (Told (replies.Began (tx 0 1))) ∷ marked 3 (Called (commands.Do 0 2)) ∷
     marked 3 (Sent 0 0 (messages.Request (tx 0 1) 1 0 (wants.Append 0 [] (own_line 1 0 3 ∷ [])))) ∷
     marked 3 (Sent 1 1 (messages.Request (tx 0 1) 1 0 (wants.Append 0 [] (own_line 1 0 3 ∷ [])))) ∷ marked 0 (Got 0) ∷
-    marked 0 (Sent 2 3 (messages.Answer 0 (answers.Granted 1 0 []))) ∷ marked 1 (Got 1) ∷
-    marked 1 (Sent 3 3 (messages.Answer 1 (answers.Granted 1 0 []))) ∷ marked 3 (Got 2) ∷ marked 3 (Got 3) ∷
+    marked 0 (Sent 2 3 (messages.Answer 0 (answers.Granted (grant_with 1 0 [])))) ∷ marked 1 (Got 1) ∷
+    marked 1 (Sent 3 3 (messages.Answer 1 (answers.Granted (grant_with 1 0 [])))) ∷ marked 3 (Got 2) ∷ marked 3 (Got 3) ∷
     marked 3 (Told (replies.Response 2)) ∷ marked 3 (Called commands.Commit) ∷
     marked 3 (Sent 4 0 (messages.Request (tx 0 1) 1 1 wants.Prepare)) ∷
     marked 3 (Sent 5 1 (messages.Request (tx 0 1) 1 1 wants.Prepare)) ∷ marked 0 (Got 4) ∷
@@ -276,8 +277,8 @@ old_name =
     marked 3 (Told (replies.Began (tx 0 1))) ∷ marked 3 (Called (commands.Do 0 2)) ∷
     marked 3 (Sent 0 0 (messages.Request (tx 0 1) 1 0 (wants.Append 0 [] (own_line 1 0 3 ∷ [])))) ∷
     marked 3 (Sent 1 1 (messages.Request (tx 0 1) 1 0 (wants.Append 0 [] (own_line 1 0 3 ∷ [])))) ∷ marked 0 (Got 0) ∷
-    marked 0 (Sent 2 3 (messages.Answer 0 (answers.Granted 1 0 []))) ∷ marked 1 (Got 1) ∷
-    marked 1 (Sent 3 3 (messages.Answer 1 (answers.Granted 1 0 []))) ∷ marked 3 (Got 2) ∷ marked 3 (Got 3) ∷
+    marked 0 (Sent 2 3 (messages.Answer 0 (answers.Granted (grant_with 1 0 [])))) ∷ marked 1 (Got 1) ∷
+    marked 1 (Sent 3 3 (messages.Answer 1 (answers.Granted (grant_with 1 0 [])))) ∷ marked 3 (Got 2) ∷ marked 3 (Got 3) ∷
     marked 3 (Told (replies.Response 2)) ∷ marked 3 (Called commands.Commit) ∷
     marked 3 (Sent 4 0 (messages.Request (tx 0 1) 1 1 wants.Prepare)) ∷
     marked 3 (Sent 5 1 (messages.Request (tx 0 1) 1 1 wants.Prepare)) ∷ marked 0 (Got 4) ∷
@@ -301,8 +302,8 @@ decided_without_record =
     marked 3 (Told (replies.Began (tx 0 1))) ∷ marked 3 (Called (commands.Do 0 2)) ∷
     marked 3 (Sent 0 0 (messages.Request (tx 0 1) 1 0 (wants.Append 0 [] (own_line 1 0 3 ∷ [])))) ∷
     marked 3 (Sent 1 1 (messages.Request (tx 0 1) 1 0 (wants.Append 0 [] (own_line 1 0 3 ∷ [])))) ∷ marked 0 (Got 0) ∷
-    marked 0 (Sent 2 3 (messages.Answer 0 (answers.Granted 1 0 []))) ∷ marked 1 (Got 1) ∷
-    marked 1 (Sent 3 3 (messages.Answer 1 (answers.Granted 1 0 []))) ∷ marked 3 (Got 2) ∷ marked 3 (Got 3) ∷
+    marked 0 (Sent 2 3 (messages.Answer 0 (answers.Granted (grant_with 1 0 [])))) ∷ marked 1 (Got 1) ∷
+    marked 1 (Sent 3 3 (messages.Answer 1 (answers.Granted (grant_with 1 0 [])))) ∷ marked 3 (Got 2) ∷ marked 3 (Got 3) ∷
     marked 3 (Told (replies.Response 2)) ∷ marked 3 (Called commands.Commit) ∷
     marked 3 (Sent 4 0 (messages.Request (tx 0 1) 1 1 wants.Prepare)) ∷
     marked 3 (Sent 5 1 (messages.Request (tx 0 1) 1 1 wants.Prepare)) ∷ marked 0 (Got 4) ∷
@@ -315,11 +316,11 @@ decided_without_record =
     marked 3 (Rose []) ∷ marked 3 (Wrote records.Life) ∷ marked 3 (Called commands.Begin) ∷
     marked 3 (Told (replies.Began (tx_in 0 2 1))) ∷ marked 4 (Called commands.Begin) ∷
     marked 4 (Told (replies.Began (tx 1 1))) ∷ marked 4 (Called (commands.Do 0 0)) ∷
-    marked 4 (Sent 8 1 (messages.Request (tx 1 1) 1 0 (wants.Read 0 0))) ∷
-    marked 4 (Sent 9 2 (messages.Request (tx 1 1) 1 0 (wants.Read 0 0))) ∷ marked 1 (Got 8) ∷
+    marked 4 (Sent 8 1 (messages.Request (tx 1 1) 1 0 (wants.Read (read_of 0 0)))) ∷
+    marked 4 (Sent 9 2 (messages.Request (tx 1 1) 1 0 (wants.Read (read_of 0 0)))) ∷ marked 1 (Got 8) ∷
     marked 1 (Sent 10 4 (messages.Answer 8 (answers.Clash (tx 0 1) 0 3))) ∷
     marked 1 (Sent 11 3 (messages.Inquiry (tx 0 1))) ∷ marked 2 (Got 9) ∷
-    marked 2 (Sent 12 4 (messages.Answer 9 (answers.Granted 1 0 []))) ∷ marked 4 (Got 10) ∷ marked 3 (Got 11) ∷ []
+    marked 2 (Sent 12 4 (messages.Answer 9 (answers.Granted (grant_with 1 0 [])))) ∷ marked 4 (Got 10) ∷ marked 3 (Got 11) ∷ []
 
 abbrev pub decided_without_record_then : List Step
 decided_without_record_then =
@@ -333,8 +334,8 @@ late_record =
     marked 3 (Told (replies.Began (tx 0 1))) ∷ marked 3 (Called (commands.Do 0 2)) ∷
     marked 3 (Sent 0 0 (messages.Request (tx 0 1) 1 0 (wants.Append 0 [] (own_line 1 0 3 ∷ [])))) ∷
     marked 3 (Sent 1 1 (messages.Request (tx 0 1) 1 0 (wants.Append 0 [] (own_line 1 0 3 ∷ [])))) ∷ marked 0 (Got 0) ∷
-    marked 0 (Sent 2 3 (messages.Answer 0 (answers.Granted 1 0 []))) ∷ marked 1 (Got 1) ∷
-    marked 1 (Sent 3 3 (messages.Answer 1 (answers.Granted 1 0 []))) ∷ marked 3 (Got 2) ∷ marked 3 (Got 3) ∷
+    marked 0 (Sent 2 3 (messages.Answer 0 (answers.Granted (grant_with 1 0 [])))) ∷ marked 1 (Got 1) ∷
+    marked 1 (Sent 3 3 (messages.Answer 1 (answers.Granted (grant_with 1 0 [])))) ∷ marked 3 (Got 2) ∷ marked 3 (Got 3) ∷
     marked 3 (Told (replies.Response 2)) ∷ marked 3 (Called commands.Commit) ∷
     marked 3 (Sent 4 0 (messages.Request (tx 0 1) 1 1 wants.Prepare)) ∷
     marked 3 (Sent 5 1 (messages.Request (tx 0 1) 1 1 wants.Prepare)) ∷ marked 0 (Got 4) ∷
@@ -358,8 +359,8 @@ decided_against_record =
     marked 3 (Called (commands.Do 0 2)) ∷
     marked 3 (Sent 0 0 (messages.Request (tx 0 1) 1 0 (wants.Append 0 [] (own_line 1 0 3 ∷ [])))) ∷
     marked 3 (Sent 1 1 (messages.Request (tx 0 1) 1 0 (wants.Append 0 [] (own_line 1 0 3 ∷ [])))) ∷ marked 0 (Got 0) ∷
-    marked 0 (Sent 2 3 (messages.Answer 0 (answers.Granted 1 0 []))) ∷ marked 1 (Got 1) ∷
-    marked 1 (Sent 3 3 (messages.Answer 1 (answers.Granted 1 0 []))) ∷ marked 3 (Got 2) ∷ marked 3 (Got 3) ∷
+    marked 0 (Sent 2 3 (messages.Answer 0 (answers.Granted (grant_with 1 0 [])))) ∷ marked 1 (Got 1) ∷
+    marked 1 (Sent 3 3 (messages.Answer 1 (answers.Granted (grant_with 1 0 [])))) ∷ marked 3 (Got 2) ∷ marked 3 (Got 3) ∷
     marked 3 (Told (replies.Response 2)) ∷ marked 3 (Called commands.Commit) ∷
     marked 3 (Sent 4 0 (messages.Request (tx 0 1) 1 1 wants.Prepare)) ∷
     marked 3 (Sent 5 1 (messages.Request (tx 0 1) 1 1 wants.Prepare)) ∷ marked 0 (Got 4) ∷
@@ -373,11 +374,11 @@ decided_against_record =
     marked 3 (Told (replies.Committed (stamp 1 0))) ∷ marked 7 (Phase 2) ∷ marked 3 (Fell falls.Script None) ∷
     marked 3 (Rose ((commit (stamp 1 0) (tx 0 1) (operation 0 2 (Some 2) ∷ [])) ∷ [])) ∷ marked 3 (Wrote records.Life) ∷
     marked 4 (Called commands.Begin) ∷ marked 4 (Told (replies.Began (tx 1 1))) ∷ marked 4 (Called (commands.Do 0 0)) ∷
-    marked 4 (Sent 10 1 (messages.Request (tx 1 1) 1 0 (wants.Read 0 0))) ∷
-    marked 4 (Sent 11 2 (messages.Request (tx 1 1) 1 0 (wants.Read 0 0))) ∷ marked 1 (Got 10) ∷
+    marked 4 (Sent 10 1 (messages.Request (tx 1 1) 1 0 (wants.Read (read_of 0 0)))) ∷
+    marked 4 (Sent 11 2 (messages.Request (tx 1 1) 1 0 (wants.Read (read_of 0 0)))) ∷ marked 1 (Got 10) ∷
     marked 1 (Sent 12 4 (messages.Answer 10 (answers.Clash (tx 0 1) 0 3))) ∷
     marked 1 (Sent 13 3 (messages.Inquiry (tx 0 1))) ∷ marked 2 (Got 11) ∷
-    marked 2 (Sent 14 4 (messages.Answer 11 (answers.Granted 1 0 []))) ∷ marked 4 (Got 12) ∷ marked 3 (Got 13) ∷ []
+    marked 2 (Sent 14 4 (messages.Answer 11 (answers.Granted (grant_with 1 0 [])))) ∷ marked 4 (Got 12) ∷ marked 3 (Got 13) ∷ []
 
 abbrev pub decided_against_record_then : List Step
 decided_against_record_then =
@@ -391,8 +392,8 @@ record_lost =
     marked 3 (Called (commands.Do 0 2)) ∷
     marked 3 (Sent 0 0 (messages.Request (tx 0 1) 1 0 (wants.Append 0 [] (own_line 1 0 3 ∷ [])))) ∷
     marked 3 (Sent 1 1 (messages.Request (tx 0 1) 1 0 (wants.Append 0 [] (own_line 1 0 3 ∷ [])))) ∷ marked 0 (Got 0) ∷
-    marked 0 (Sent 2 3 (messages.Answer 0 (answers.Granted 1 0 []))) ∷ marked 1 (Got 1) ∷
-    marked 1 (Sent 3 3 (messages.Answer 1 (answers.Granted 1 0 []))) ∷ marked 3 (Got 2) ∷ marked 3 (Got 3) ∷
+    marked 0 (Sent 2 3 (messages.Answer 0 (answers.Granted (grant_with 1 0 [])))) ∷ marked 1 (Got 1) ∷
+    marked 1 (Sent 3 3 (messages.Answer 1 (answers.Granted (grant_with 1 0 [])))) ∷ marked 3 (Got 2) ∷ marked 3 (Got 3) ∷
     marked 3 (Told (replies.Response 2)) ∷ marked 3 (Called commands.Commit) ∷
     marked 3 (Sent 4 0 (messages.Request (tx 0 1) 1 1 wants.Prepare)) ∷
     marked 3 (Sent 5 1 (messages.Request (tx 0 1) 1 1 wants.Prepare)) ∷ marked 0 (Got 4) ∷
@@ -417,8 +418,8 @@ record_more =
     marked 3 (Called (commands.Do 0 2)) ∷
     marked 3 (Sent 0 0 (messages.Request (tx 0 1) 1 0 (wants.Append 0 [] (own_line 1 0 3 ∷ [])))) ∷
     marked 3 (Sent 1 1 (messages.Request (tx 0 1) 1 0 (wants.Append 0 [] (own_line 1 0 3 ∷ [])))) ∷ marked 0 (Got 0) ∷
-    marked 0 (Sent 2 3 (messages.Answer 0 (answers.Granted 1 0 []))) ∷ marked 1 (Got 1) ∷
-    marked 1 (Sent 3 3 (messages.Answer 1 (answers.Granted 1 0 []))) ∷ marked 3 (Got 2) ∷ marked 3 (Got 3) ∷
+    marked 0 (Sent 2 3 (messages.Answer 0 (answers.Granted (grant_with 1 0 [])))) ∷ marked 1 (Got 1) ∷
+    marked 1 (Sent 3 3 (messages.Answer 1 (answers.Granted (grant_with 1 0 [])))) ∷ marked 3 (Got 2) ∷ marked 3 (Got 3) ∷
     marked 3 (Told (replies.Response 2)) ∷ marked 3 (Called commands.Commit) ∷
     marked 3 (Sent 4 0 (messages.Request (tx 0 1) 1 1 wants.Prepare)) ∷
     marked 3 (Sent 5 1 (messages.Request (tx 0 1) 1 1 wants.Prepare)) ∷ marked 0 (Got 4) ∷
@@ -444,8 +445,8 @@ begun_while_down =
     marked 3 (Told (replies.Began (tx 0 1))) ∷ marked 3 (Called (commands.Do 0 2)) ∷
     marked 3 (Sent 0 0 (messages.Request (tx 0 1) 1 0 (wants.Append 0 [] (own_line 1 0 3 ∷ [])))) ∷
     marked 3 (Sent 1 1 (messages.Request (tx 0 1) 1 0 (wants.Append 0 [] (own_line 1 0 3 ∷ [])))) ∷ marked 0 (Got 0) ∷
-    marked 0 (Sent 2 3 (messages.Answer 0 (answers.Granted 1 0 []))) ∷ marked 1 (Got 1) ∷
-    marked 1 (Sent 3 3 (messages.Answer 1 (answers.Granted 1 0 []))) ∷ marked 3 (Got 2) ∷ marked 3 (Got 3) ∷
+    marked 0 (Sent 2 3 (messages.Answer 0 (answers.Granted (grant_with 1 0 [])))) ∷ marked 1 (Got 1) ∷
+    marked 1 (Sent 3 3 (messages.Answer 1 (answers.Granted (grant_with 1 0 [])))) ∷ marked 3 (Got 2) ∷ marked 3 (Got 3) ∷
     marked 3 (Told (replies.Response 2)) ∷ marked 3 (Called commands.Commit) ∷
     marked 3 (Sent 4 0 (messages.Request (tx 0 1) 1 1 wants.Prepare)) ∷
     marked 3 (Sent 5 1 (messages.Request (tx 0 1) 1 1 wants.Prepare)) ∷ marked 0 (Got 4) ∷
@@ -469,8 +470,8 @@ stamp_again =
     marked 3 (Called (commands.Do 0 2)) ∷
     marked 3 (Sent 0 0 (messages.Request (tx 0 1) 1 0 (wants.Append 0 [] (own_line 1 0 3 ∷ [])))) ∷
     marked 3 (Sent 1 1 (messages.Request (tx 0 1) 1 0 (wants.Append 0 [] (own_line 1 0 3 ∷ [])))) ∷ marked 0 (Got 0) ∷
-    marked 0 (Sent 2 3 (messages.Answer 0 (answers.Granted 1 0 []))) ∷ marked 1 (Got 1) ∷
-    marked 1 (Sent 3 3 (messages.Answer 1 (answers.Granted 1 0 []))) ∷ marked 3 (Got 2) ∷ marked 3 (Got 3) ∷
+    marked 0 (Sent 2 3 (messages.Answer 0 (answers.Granted (grant_with 1 0 [])))) ∷ marked 1 (Got 1) ∷
+    marked 1 (Sent 3 3 (messages.Answer 1 (answers.Granted (grant_with 1 0 [])))) ∷ marked 3 (Got 2) ∷ marked 3 (Got 3) ∷
     marked 3 (Told (replies.Response 2)) ∷ marked 3 (Called commands.Commit) ∷
     marked 3 (Sent 4 0 (messages.Request (tx 0 1) 1 1 wants.Prepare)) ∷
     marked 3 (Sent 5 1 (messages.Request (tx 0 1) 1 1 wants.Prepare)) ∷ marked 0 (Got 4) ∷
@@ -489,8 +490,8 @@ stamp_again =
     marked 3 (Called (commands.Do 0 1)) ∷
     marked 3 (Sent 10 0 (messages.Request (tx_in 0 2 1) 1 0 (wants.Append 0 [] (own_line 1 0 2 ∷ [])))) ∷
     marked 3 (Sent 11 1 (messages.Request (tx_in 0 2 1) 1 0 (wants.Append 0 [] (own_line 1 0 2 ∷ [])))) ∷
-    marked 0 (Got 10) ∷ marked 0 (Sent 12 3 (messages.Answer 10 (answers.Granted 1 1 []))) ∷ marked 1 (Got 11) ∷
-    marked 1 (Sent 13 3 (messages.Answer 11 (answers.Granted 1 1 []))) ∷ marked 3 (Got 12) ∷ marked 3 (Got 13) ∷
+    marked 0 (Got 10) ∷ marked 0 (Sent 12 3 (messages.Answer 10 (answers.Granted (grant_with 1 1 [])))) ∷ marked 1 (Got 11) ∷
+    marked 1 (Sent 13 3 (messages.Answer 11 (answers.Granted (grant_with 1 1 [])))) ∷ marked 3 (Got 12) ∷ marked 3 (Got 13) ∷
     marked 3 (Told (replies.Response 2)) ∷ marked 3 (Called commands.Commit) ∷
     marked 3 (Sent 14 0 (messages.Request (tx_in 0 2 1) 1 1 wants.Prepare)) ∷
     marked 3 (Sent 15 1 (messages.Request (tx_in 0 2 1) 1 1 wants.Prepare)) ∷ marked 0 (Got 14) ∷

@@ -7,7 +7,7 @@ ghost use Rattle.qc_decl.specs.Named.{IsNamed};
 use qc_accept::{DeclFault, accept};
 use qc_decl::{Declaration, MOST_SCRIPT_BYTES};
 use qc_list::OutOfMemory;
-use qc_script::{LineKind, Script, ScriptFault, read};
+use qc_script::{LineKind, Script, ScriptFault, read_script};
 use std::alloc::{AllocError, Global};
 use std::process::Abort;
 
@@ -72,7 +72,7 @@ pub(crate) fn script_of(
     requires named { IsNamed decl.now }
 {
     assert!(rt; text.len() <= MOST_SCRIPT_BYTES as usize);
-    read(alloc, text.as_bytes(), decl)
+    read_script(alloc, text.as_bytes(), decl)
 }
 
 /// What is wrong with a text is this.

@@ -10,7 +10,7 @@ use crate::steps::{Short, shorts};
 use qc_decl::Declaration;
 use qc_node::{DriveEnd, Job, run_script};
 use qc_outside::{Gate, MemRack, RackFault, Tear};
-use qc_script::{Script, ScriptFault, read, scripts_name_what_is_declared};
+use qc_script::{Script, ScriptFault, read_script, scripts_name_what_is_declared};
 use std::alloc::Global;
 use std::sync::Wait;
 use std::thread::Threads;
@@ -32,7 +32,7 @@ pub fn script_of(alloc: Global, bytes: &[u8], decl: &Declaration) -> Result<Scri
     ensures { IfOk result (IsScriptFor decl.now) }
 {
     scripts_name_what_is_declared();
-    read(alloc, bytes, decl)
+    read_script(alloc, bytes, decl)
 }
 
 /// Runs the script over a rack of its own, whose disks lose what wasn't synced.

@@ -29,9 +29,9 @@ pub(crate) fn put_message(text: &mut String, message: &Message) -> Result<(), Ou
         Message::Inquiry { tx } => write!(text, "how is {}", Tx(*tx)),
         Message::Ask { tx } => write!(text, "ask {}", Tx(*tx)),
         Message::Close { epoch } => write!(text, "close {epoch}"),
-        Message::Install { epoch, clock, log } => {
-            write!(text, "install {epoch} clock {clock} ")?;
-            put_lines(text, log.lines())
+        Message::Install(start) => {
+            write!(text, "install {} clock {} ", start.epoch, start.clock)?;
+            put_lines(text, start.lines.lines())
         }
     }
 }
@@ -48,7 +48,7 @@ fn put_outcome(text: &mut String, outcome: Outcome) -> Result<(), OutOfMemory> {
 /// Adds what is wanted of a site.
 fn put_want(text: &mut String, want: &Want) -> Result<(), OutOfMemory> {
     match want {
-        Want::Read { object, inv } => write!(text, "read {object} {inv}"),
+        Want::Read(read) => write!(text, "read {} {}", read.object, read.inv),
         Want::Append { object, view, own } => {
             write!(text, "append {object} ")?;
             put_lines(text, view.lines())?;
@@ -61,9 +61,9 @@ fn put_want(text: &mut String, want: &Want) -> Result<(), OutOfMemory> {
 /// Adds an answer.
 fn put_answer(text: &mut String, answer: &Answer) -> Result<(), OutOfMemory> {
     match answer {
-        Answer::Granted { life, clock, log } => {
-            write!(text, "granted life {life} clock {clock} ")?;
-            put_lines(text, log.lines())
+        Answer::Granted(grant) => {
+            write!(text, "granted life {} clock {} ", grant.life, grant.clock)?;
+            put_lines(text, grant.log.lines())
         }
         Answer::Clash { holder, inv, event } => {
             write!(text, "clash {} {inv} {event}", Tx(*holder))
@@ -74,14 +74,10 @@ fn put_answer(text: &mut String, answer: &Answer) -> Result<(), OutOfMemory> {
         Answer::Stale => text.push_str("stale"),
         Answer::Fault => text.push_str("fault"),
         Answer::Yes { clock } => write!(text, "yes {clock}"),
-        Answer::Shut {
-            clock,
-            log,
-            prepared,
-        } => {
-            write!(text, "shut clock {clock} ")?;
-            put_lines(text, log.lines())?;
-            put_promises(text, prepared.items())
+        Answer::Shut(snapshot) => {
+            write!(text, "shut clock {} ", snapshot.clock)?;
+            put_lines(text, snapshot.log.lines())?;
+            put_promises(text, snapshot.prepared.items())
         }
         Answer::Installed => text.push_str("installed"),
         Answer::Answered { verdict } => put_outcome(text, *verdict),

@@ -12,9 +12,9 @@ pub(crate) fn put_record(text: &mut String, record: &Record) -> Result<(), OutOf
         Record::Prepare(promise) => put_promise(text, promise),
         Record::Done { tx, clock } => write!(text, "done {} clock {clock}", Tx(*tx)),
         Record::Close { epoch } => write!(text, "close {epoch}"),
-        Record::Install { epoch, .. } => write!(text, "install {epoch}"),
+        Record::Install(start) => write!(text, "install {}", start.epoch),
         Record::Commit(commit) => put_commit(text, commit),
-        Record::Decide { epoch, .. } => write!(text, "decide {epoch}"),
+        Record::Decide(start) => write!(text, "decide {}", start.epoch),
     }
 }
 

@@ -1,7 +1,7 @@
 use Rattle.std.proofs.Common.{sym, ◌∙◌}
 use Rattle.std.specs.Option.{option_copied}
 use Rattle.qc_front.proofs.Moves.{appending_went, reading_went}
-use Rattle.qc_front.proofs.front.Front.next.Goals as goal
+use Rattle.qc_front.proofs.front.Front.becomes.Goals as goal
 
 pub returns-in_ok-go_on_reading-in-Reading : goal.returns-in_ok-go_on_reading-in-Reading
 returns-in_ok-go_on_reading-in-Reading c =

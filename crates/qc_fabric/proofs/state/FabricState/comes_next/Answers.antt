@@ -1,7 +1,7 @@
 use Rattle.std.proofs.Common.{sym}
 use Rattle.qc_mailbox.proofs.Picking.{some_picked}
 use Rattle.qc_mailbox.specs.Vocabulary.{either}
-use Rattle.qc_fabric.proofs.state.FabricState.next.Goals as goal
+use Rattle.qc_fabric.proofs.state.FabricState.comes_next.Goals as goal
 
 pub returns-in-Some-next_actor-clause-named : goal.returns-in-Some-next_actor-clause-named
 returns-in-Some-next_actor-clause-named g c =

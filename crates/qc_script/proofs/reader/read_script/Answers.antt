@@ -6,7 +6,7 @@ use Rattle.std.proofs.lemmas.Iterator.Consumers.{YieldsList-turn, YieldsList-end
 use borrow.Author.Tests.{tests}
 use Rattle.qc_script.specs.Vocabulary.{IsTold, lines_of, numbered, with_line}
 use Rattle.qc_script.proofs.Reading.{reads_on, reads_refused, reads_all}
-use Rattle.qc_script.proofs.reader.read.Goals as goal
+use Rattle.qc_script.proofs.reader.read_script.Goals as goal
 
 pub loop-line-preserved : goal.loop-line-preserved
 loop-line-preserved c =
