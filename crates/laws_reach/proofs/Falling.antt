@@ -4,8 +4,9 @@ use Rattle.std.proofs.Common.{refl, sym, ap, subst, arith}
 use Rattle.qc_entry.specs.declared.line.Op.{Op}
 use Rattle.qc_entry.specs.declared.record.Commit.{Commit as CommitRecord}
 use Rattle.qc_list.specs.Vocabulary.{In}
-use Rattle.laws_reach.specs.Vocabulary.{AreCommitsTold, Deals, Tells, crashed, cut_off, decl, fallen, first, kept, mine}
-use Rattle.laws_reach.specs.Vocabulary.{none_read, read_it, reading_on, record_of, second, tx}
+use Rattle.laws_turns.specs.Vocabulary.{first, none_read, read_it, second, tx}
+use Rattle.laws_reach.specs.Vocabulary.{AreCommitsTold, Deals, Tells, crashed, cut_off, decl, fallen, kept, mine}
+use Rattle.laws_reach.specs.Vocabulary.{reading_on, record_of}
 use Rattle.qc_msg.specs.Vocabulary.{Entry, deeds}
 use Rattle.qc_msg.specs.declared.reply.Reply.{Reply}
 use Rattle.qc_msg.specs.declared.reply.Reply.TheVariants as replies

@@ -12,8 +12,8 @@ use Rattle.qc_msg.specs.declared.step.Command.TheVariants as commands
 use Rattle.qc_msg.specs.declared.step.Fall.TheVariants.{Script, Stop}
 use Rattle.qc_msg.specs.declared.step.Step.TheVariants.{Called, Fell, Rose, Told, Wrote}
 use Rattle.qc_promise.specs.Vocabulary.{AreDealt, AreTold, committed}
-use Rattle.qc_stamp.specs.declared.stamp.Stamp.{Stamp}
 use Rattle.qc_stamp.specs.declared.stamp.TxId.{TxId}
+use Rattle.laws_turns.specs.Vocabulary.{first, read_it, tx}
 
 -- the site is actor 0, the client is 1
 abbrev pub decl : Declaration
@@ -26,25 +26,9 @@ Tells h = AreTold decl (committed decl h) h
 abbrev pub Deals : List Entry → Type 0
 Deals h = AreDealt decl (committed decl h) h
 
--- its transaction, and the one of its next life
-
-abbrev pub tx : TxId
-tx = record { client = 0; life = 1; number = 1 }
-
+-- its transaction's next life
 abbrev pub next_tx : TxId
 next_tx = record { client = 0; life = 2; number = 1 }
-
-abbrev pub first : Stamp
-first = record { clock = 1; client = 0 }
-
-abbrev pub second : Stamp
-second = record { clock = 2; client = 0 }
-
-abbrev pub read_it : Op
-read_it = record { object = 0; inv = 0; resp = Some 0 }
-
-abbrev pub none_read : Op
-none_read = record { object = 0; inv = 0; resp = None }
 
 -- records of the transaction: the one with what was told, and others
 

@@ -1,8 +1,8 @@
 -- What proofs, and other crates, name of this crate's definitions.
 pub use Rattle.laws_reach.specs.Agreement.{AgreeOnVerdicts}
 pub use Rattle.laws_reach.specs.Ends.{AreCommitsTold, HasRecord, IsDeedTold, IsRecordTold, IsToldOf, TellsNext}
-pub use Rattle.laws_reach.specs.Falling.{Deals, Tells, crashed, cut_off, decl, fallen, first, kept, mine, none_read}
-pub use Rattle.laws_reach.specs.Falling.{read_it, reading_on, record_of, second, tx}
+pub use Rattle.laws_reach.specs.Falling.{Deals, Tells, crashed, cut_off, decl, fallen, kept, mine, reading_on}
+pub use Rattle.laws_reach.specs.Falling.{record_of}
 pub use Rattle.laws_reach.specs.Pending.{AreRightButWritten, IsRightButWritten}
 pub use Rattle.laws_reach.specs.Reached.{HasTaken, IsReachedWithFalls, TakesInputs, actor_in}
 pub use Rattle.laws_reach.specs.Recorded.{IsRecorded}

@@ -6,8 +6,9 @@ ghost use Rattle.laws_reach.specs.Ends.{AreCommitsTold};
 ghost use Rattle.qc_msg.specs.Deeds.{deeds};
 ghost use Rattle.qc_msg.specs.declared.reply.Reply.TheVariants as replies;
 ghost use Rattle.qc_msg.specs.declared.reply.AbortCause.TheVariants as causes;
-ghost use Rattle.laws_reach.specs.Falling.{Deals, Tells, crashed, cut_off, fallen, first, kept, mine};
-ghost use Rattle.laws_reach.specs.Falling.{none_read, read_it, reading_on, record_of, second};
+ghost use Rattle.laws_reach.specs.Falling.{Deals, Tells, crashed, cut_off, fallen, kept, mine, reading_on};
+ghost use Rattle.laws_reach.specs.Falling.{record_of};
+ghost use Rattle.laws_turns.specs.Wrong.{first, none_read, read_it, second};
 
 /// What a client was told isn't the end of its transaction.
 pub fn wrong_ends_through_falls_are_refused()
