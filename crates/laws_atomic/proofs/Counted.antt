@@ -242,5 +242,6 @@ passes n d life clock log o asks = by (find (is_open n) d.requests) refl
     by None none = absurd (not_found n d.requests none o)
     by (Some q) is =
         let f : IsFound n d.requests q = found n d.requests q is in
-        granted_passes (record d { requests = taken_for n (Some (answers.Granted (grant_with life clock log))) d.requests }) q.site
+        granted_passes (record d
+            { requests = taken_for n (Some (answers.Granted (grant_with life clock log))) d.requests }) q.site
         life clock log q.want (asks q f.among f.number_is (taken_is q.taken f.open_still))

@@ -114,7 +114,8 @@ module _ (commits : List Commit) (tx : TxId) (d : Account) (s : Sight) (wrote : 
 
   -- a grant's lines have records that its clock has passed, and none of its requests was for a promise
   pub record IsFounded (n : ℕ) (answer : Answer) : Type 0 where
-    pub lines : (life clock : ℕ) (log : List Line) → answer ≡ answers.Granted (grant_with life clock log) → (l : Line) → In l log
+    pub lines : (life clock : ℕ) (log : List Line) → answer ≡ answers.Granted (grant_with life clock log) → (l : Line)
+        → In l log
         → IsUpTo commits l.tx clock
     pub asked : (life clock : ℕ) (log : List Line) → answer ≡ answers.Granted (grant_with life clock log)
         → AsksForGrants n d.requests

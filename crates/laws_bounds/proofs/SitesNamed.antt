@@ -87,7 +87,8 @@ module _ (decl : Declaration) where
                 began = w.began;
                 log = w.log;
                 held =
-                    held_named decl s.held tx (record { object = read.object; inv = read.inv } ∷ []) [] w.held low (here, tt) tt;
+                    held_named decl s.held tx (record { object = read.object; inv = read.inv } ∷ []) [] w.held low
+                        (here, tt) tt;
                 prepared = w.prepared;
               };
           sends = (every-filter (LineNamed decl) (λ (l : Line). l.object == read.object) (known s) all_known, tt);

@@ -271,7 +271,8 @@ module _ (decl : Declaration) (m : Admin) (w : AdminPlanned decl m) where
 
 -- he rises with the last decision of his records
 
-keeps_planned : (decl : Declaration) (k : Option EpochStart) (r : Record) → IsRecordPlanned decl r → DecidedPlanned decl k
+keeps_planned : (decl : Declaration) (k : Option EpochStart) (r : Record) → IsRecordPlanned decl r
+    → DecidedPlanned decl k
     → DecidedPlanned decl (keeps k r)
 keeps_planned decl k records.Life planned w = w
 keeps_planned decl k (records.Prepare p) planned w = w

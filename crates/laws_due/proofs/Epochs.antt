@@ -139,7 +139,8 @@ appends_planned decl s from number tx view own (Some c) = says decl _ (tt, (tt, 
 grants_planned : (decl : Declaration) (s : SiteState) (from number : ℕ) (tx : TxId) (want : Want)
     → Answers decl (grants decl s from number tx want)
 grants_planned decl s from number tx (Read read) =
-    reads_planned decl s from number tx read.object read.inv (read_clash (relation_at decl read.object) s.held tx read.object read.inv)
+    reads_planned decl s from number tx read.object read.inv
+        (read_clash (relation_at decl read.object) s.held tx read.object read.inv)
 grants_planned decl s from number tx (Append object view own) =
     appends_planned decl s from number tx view own (append_clash (relation_at decl object) s.held tx own)
 grants_planned decl s from number tx Prepare = prepares_planned decl s from number tx
@@ -174,7 +175,8 @@ site_planned decl s from number (messages.Close k) told w =
     close_rows (Answers decl) s from number k (says decl _ (tt, tt)) (says decl _ (w.epoch, tt)) (says decl _ (tt, tt))
     (records_so decl from number (records.Close k) (shut_answer (closed s k)) told tt)
 site_planned decl s from number (messages.Install start) told w =
-    install_rows (Answers decl) s from number start.epoch start.clock start.lines (says decl _ (tt, tt)) (says decl _ (tt, tt))
+    install_rows (Answers decl) s from number start.epoch start.clock start.lines (says decl _ (tt, tt))
+        (says decl _ (tt, tt))
     (records_so decl from number (records.Install start) answers.Installed told tt)
 
 pub takes_planned : (decl : Declaration) (s : SiteState) (g : Input) → TakesPlanned decl g → SitePlanned decl s

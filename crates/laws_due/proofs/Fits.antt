@@ -123,7 +123,8 @@ nobody_frontal sends none = every-from_In (λ (p : Posting). IsFrontal p.message
     (λ p among. no_request p.message (none p among))
 
 asks_frontal : (b : Begun) (want : ℕ → Want) (calls : List Call) (round : RoundState) (sends : List Posting)
-    → ((site : ℕ) → NoPromise (want site)) → AsksAll b want calls round sends → Every (λ (p : Posting). IsFrontal p.message) sends
+    → ((site : ℕ) → NoPromise (want site)) → AsksAll b want calls round sends
+        → Every (λ (p : Posting). IsFrontal p.message) sends
 asks_frontal b want calls round sends ok (inl quiet) =
     subst (λ (ps : List Posting). Every (λ (p : Posting). IsFrontal p.message) ps) (sym quiet.0) tt
 asks_frontal b want calls round sends ok (inr asks) =

@@ -151,7 +151,8 @@ module _ (decl : Declaration) (number : ℕ) (d : Account) (desk : Desk) (t : Cu
       (run (record d { clock = max d.clock clock }) (lived t q.site life) object inv
       (taken_for n (Some (answers.Granted (grant_with life clock log))) qs))
       (by_front ahere
-      (append_counts decl (learns anow (Some (answers.Granted (grant_with life clock log)))) ax object inv event (calls_in qs)
+      (append_counts decl (learns anow (Some (answers.Granted (grant_with life clock log)))) ax object inv event
+          (calls_in qs)
       around n q.site (Some (answers.Granted (grant_with life clock log)))))
   agrants n life clock log q is =
       aon_with (record d { clock = max d.clock clock }) (lived t q.site life) kept chosen (λ hs. refl) (λ rs. refl) n

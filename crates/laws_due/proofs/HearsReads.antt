@@ -111,13 +111,16 @@ module _ (decl : Declaration) (number : ℕ) (d : Account) (desk : Desk) (t : Cu
       (by_front here
       (fronts.reads decl (learns now (Some (answers.Granted (grant_with life clock log))))
       (read_with x q.site object (Some (answers.Granted (grant_with life clock log)))) object inv
-      (without_call (calls_in qs) n) (note round q.site (standing_of (Some (answers.Granted (grant_with life clock log)))))))
+      (without_call (calls_in qs) n)
+          (note round q.site (standing_of (Some (answers.Granted (grant_with life clock log)))))))
   grants n life clock log q is =
       subst (λ (y : Transaction). Goes decl number (run e u object inv (taken_for n (Some (answers.Granted (grant_with life clock log))) qs))
       (by_front here
       (fronts.reads decl (learns now (Some (answers.Granted (grant_with life clock log)))) y object inv
-      (without_call (calls_in qs) n) (note round q.site (standing_of (Some (answers.Granted (grant_with life clock log))))))))
-      (sym b.is) (on_with e u y.begun.asked y.views kept (λ rs. refl) n (Some (answers.Granted (grant_with life clock log))) q is)
+      (without_call (calls_in qs) n)
+          (note round q.site (standing_of (Some (answers.Granted (grant_with life clock log))))))))
+      (sym b.is) (on_with e u y.begun.asked y.views kept (λ rs. refl) n
+          (Some (answers.Granted (grant_with life clock log))) q is)
     where
       e : Account
       e = record d { clock = max d.clock clock }

@@ -79,7 +79,8 @@ prepares_mute s from number tx = by (not (is_held s.held tx)) (is_prepared s.pre
 grants_mute : (decl : Declaration) (s : SiteState) (from number : ℕ) (tx : TxId) (want : Want)
     → IsMute (grants decl s from number tx want).turn
 grants_mute decl s from number tx (Read read) =
-    reads_mute decl s from number tx read.object read.inv (read_clash (relation_at decl read.object) s.held tx read.object read.inv)
+    reads_mute decl s from number tx read.object read.inv
+        (read_clash (relation_at decl read.object) s.held tx read.object read.inv)
 grants_mute decl s from number tx (Append object view own) = by (append_clash (relation_at decl object) s.held tx own)
   where
     by : (o : Option Conflict) → IsMute (appends_by decl s from number tx view own o).turn

@@ -35,7 +35,8 @@ pub told_cases : (d : Account) (q : ClientRequest) (P : Option Answer → Accoun
     → ((clock : ℕ) → P (Some (answers.Yes clock)) (promised d clock q.want)) → (answer : Option Answer)
     → P answer (told_by d q answer)
 told_cases d q P same grant close promise None = same None
-told_cases d q P same grant close promise (Some (answers.Granted grant_here)) = grant grant_here.life grant_here.clock grant_here.log
+told_cases d q P same grant close promise (Some (answers.Granted grant_here)) =
+    grant grant_here.life grant_here.clock grant_here.log
 told_cases d q P same grant close promise (Some (answers.Clash holder inv event)) = same _
 told_cases d q P same grant close promise (Some (answers.Closed epoch)) = close epoch
 told_cases d q P same grant close promise (Some (answers.Behind epoch)) = same _

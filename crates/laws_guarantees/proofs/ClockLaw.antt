@@ -141,7 +141,8 @@ module _ (decl : Declaration) where
 
   told_passes : (d : Account) (q : ClientRequest) (answer : Answer) (clock : ℕ) → TellsClock clock q.want answer
       → clock ≤ (told_by d q (Some answer)).clock
-  told_passes d q (answers.Granted grant) clock is = grant_passes d q.site grant.life grant.clock clock grant.log q.want is
+  told_passes d q (answers.Granted grant) clock is =
+      grant_passes d q.site grant.life grant.clock clock grant.log q.want is
   told_passes d q (answers.Clash holder inv event) clock is = absurd is
   told_passes d q (answers.Closed epoch) clock is = absurd is
   told_passes d q (answers.Behind epoch) clock is = absurd is

@@ -68,7 +68,8 @@ module _ (decl : Declaration) where
                 c.0,
                 c.1,
                 subst
-                    (λ (y : ClientRequest). WasSent (ds ++ Sends n to (messages.Request tx epoch life want) ∷ []) y c.0.tx)
+                    (λ (y : ClientRequest). WasSent (ds ++ Sends n to (messages.Request tx epoch life want) ∷ []) y
+                        c.0.tx)
                     (sym new)
                     (record {
                       epoch = epoch;

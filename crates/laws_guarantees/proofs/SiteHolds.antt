@@ -43,7 +43,8 @@ module _ (decl : Declaration) (accepted : IsAccepted decl) where
   stays s (inputs.Got e) tx mail a net same came calm held =
       elim (held_stays decl (passed s e.message) e.from e.number e.message tx calm held) [
         | inl still ↦ inl still
-        | inr ends ↦ inr (record { envelope = e; sent = subst (λ (ms : List Envelope). In e ms) same came.0; ends = ends })
+        | inr ends ↦
+            inr (record { envelope = e; sent = subst (λ (ms : List Envelope). In e ms) same came.0; ends = ends })
       ]
 
   -- an answer of a site's turn grants what is held after it

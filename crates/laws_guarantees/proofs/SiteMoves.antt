@@ -98,7 +98,8 @@ HoldsGranted tx m =
     → p.message ≡ messages.Answer k (answers.Granted (grant_with life clock log)) → is_held m.site.held tx ≡ true
 
 no_grant : (tx : TxId) (number : ℕ) (m : SiteMove) → Says number IsNoGrant m → HoldsGranted tx m
-no_grant tx number m says p k life clock log among is = absurd (says p k (answers.Granted (grant_with life clock log)) among is).1
+no_grant tx number m says p k life clock log among is =
+    absurd (says p k (answers.Granted (grant_with life clock log)) among is).1
 
 pub granted_is_held : (decl : Declaration) (s : SiteState) (from number : ℕ) (tx : TxId) (epoch life : ℕ) (want : Want)
     → IsFull want → HoldsGranted tx (site_at decl s from number (messages.Request tx epoch life want))
@@ -119,7 +120,8 @@ granted_is_held decl s from number tx epoch life want full =
 
     by : (w : Want) → IsFull w → HoldsGranted tx (grants decl s from number tx w)
     by (Read read) full = read_cases (HoldsGranted tx) decl s from number tx read.object read.inv
-        (λ free p k life clock log among is. given_now s.held tx (record { object = read.object; inv = read.inv } ∷ []) [] refl)
+        (λ free p k life clock log among is. given_now s.held tx (record { object = read.object; inv = read.inv } ∷ [])
+            [] refl)
         (λ c clash. no_grant tx number (moved s (clashing decl from number c))
         (says_clash IsNoGrant decl (moved s (clashing decl from number c)) from number c refl tt))
     by (Append object view own) full = append_cases (HoldsGranted tx) decl s from number tx object view own

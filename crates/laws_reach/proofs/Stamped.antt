@@ -132,7 +132,8 @@ module _ (decl : Declaration) (a : ℕ) (client : is_client decl a ≡ true) whe
                   (commits_of ((journal_after ds).records ++ records.Commit one.commit ∷ []))) (sym one.passed)
                   (subst (Every (IsUpTo one.commit.stamp.clock))
                   (sym (commits_more (journal_after ds).records (records.Commit one.commit ∷ [])))
-                  (every-append (IsUpTo one.commit.stamp.clock) (commits_of (journal_after ds).records) (one.commit ∷ [])
+                  (every-append (IsUpTo one.commit.stamp.clock) (commits_of (journal_after ds).records)
+                      (one.commit ∷ [])
                   (low_later t.state.desk.clock.value one.commit.stamp.clock
                   (let l : t.state.desk.clock.value < one.commit.stamp.clock = one.above in omega arith)
                   (commits_of (journal_after ds).records) now.passed)

@@ -148,7 +148,8 @@ module _ (decl : Declaration) (net : Net) (h : Refines decl net) where
             → Stood (kept_by (net.records (administrator decl) ++ option_to_list o))
         by None b = subst (λ (rs : List Record). Stood (kept_by rs))
             (sym (append-nil (net.records (administrator decl)))) as_it_was
-        by (Some r) b = subst (λ (k : Option EpochStart). Stood k) (sym (rule_more (net.records (administrator decl)) r))
+        by (Some r) b =
+            subst (λ (k : Option EpochStart). Stood k) (sym (rule_more (net.records (administrator decl)) r))
             (one r b)
 
     -- no commit record is his

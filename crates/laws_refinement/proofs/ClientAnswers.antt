@@ -119,25 +119,34 @@ module _ (decl : Declaration) where
     mid : Mid decl (state acts) acts (net.clients a).front.client
     mid = mid_first decl acts (net.clients a).front.client run
 
-    read_case : (from number : ℕ) (t : Transaction) (object inv : ℕ) (calls : List Call) (round : RoundState) (answer : Option Answer) → (net.clients a).front.transaction ≡ Some t → (net.clients a).front.doing ≡ Reading object inv calls round
+    read_case : (from number : ℕ) (t : Transaction) (object inv : ℕ) (calls : List Call) (round : RoundState)
+        (answer : Option Answer) → (net.clients a).front.transaction ≡ Some t
+        → (net.clients a).front.doing ≡ Reading object inv calls round
         → AnswerBacked decl (state acts) net.mail from number answer → (site : ℕ) → site_called calls number ≡ Some site
-        → Refines decl (after_client net a (by_front (net.clients a) (read_counts decl (learns (net.clients a).front answer) t object inv calls round number site answer)))
+        → Refines decl
+            (after_client net a
+              (by_front (net.clients a)
+                (read_counts decl (learns (net.clients a).front answer) t object inv calls round number site answer)))
     read_case from number t object inv calls round answer is doing backed site called = by answer backed
       where
         k : Core decl (state acts) a (net.clients a) t × RunningMirrors decl (state acts) net.mail (net.clients a) t
         k = core_of (state acts) net.mail a (net.clients a) t (m.clients a client up) is free
 
-        holds : RecordsHold decl t.views t.own t.begun.ops × ReadingHolds decl (net.clients a).front.client t object inv calls round
+        holds : RecordsHold decl t.views t.own t.begun.ops
+            × ReadingHolds decl (net.clients a).front.client t object inv calls round
         holds = (let h : RecordsHold decl t.views t.own t.begun.ops × DoingHolds decl (net.clients a).front.client t (net.clients a).front.doing = records_of (net.clients a).front t stands.holds is in (h.0, subst (λ (d : Doing). DoingHolds decl (net.clients a).front.client t d) doing h.1))
 
         chosen : (state acts).chosen t.begun.tx ≡ None
         chosen = subst (λ (d : Doing). IsChosen decl (state acts) t d) doing k.1.chosen
 
-        counted : IsNamedAt decl object inv × AreCounted (state acts).counted t.begun.tx (Lock (record { object = object; inv = inv })) round.asked
+        counted : IsNamedAt decl object inv
+            × AreCounted (state acts).counted t.begun.tx (Lock (record { object = object; inv = inv })) round.asked
         counted = subst (λ (d : Doing). IsRoundCounted decl (state acts) t d) doing k.1.counted
 
         asked : (call : Call) → In call calls → IsAskedBy decl net.mail t (Reading object inv calls round) call
-        asked = subst (λ (d : Doing). (call : Call) → In call (calls_in d) → IsAskedBy decl net.mail t d call) doing k.1.calls
+        asked =
+            subst (λ (d : Doing). (call : Call) → In call (calls_in d) → IsAskedBy decl net.mail t d call) doing
+            k.1.calls
 
         round_is : IsRound decl (net.clients a).front.client t.begun.epoch (read_need_of decl t.begun.epoch object inv) round
         round_is = holds.1.round_is

@@ -89,7 +89,8 @@ module _ (decl : Declaration) where
           subst (λ (xs : List Record). IsClientKeptBy d (kept_by xs)) (sym (append-nil rs)) (record {
             life = life ∙ k.life ∙ m.life;
             commits = λ r among. subst (λ (cs : List CommitRecord). In r cs) (sym (same ∙ still)) (m.commits r among);
-            none = λ t none. subst (λ (cs : List CommitRecord). record_of cs t ≡ None) (sym (same ∙ still)) (m.none t none);
+            none = λ t none. subst (λ (cs : List CommitRecord). record_of cs t ≡ None) (sym (same ∙ still))
+                (m.none t none);
           })
       by _ (commits_one r more) =
           subst (λ (x : Kept). IsClientKeptBy d x) (sym (client_kept_more rs (records.Commit r))) (record {
@@ -97,7 +98,8 @@ module _ (decl : Declaration) where
             commits = λ x among. subst (λ (cs : List CommitRecord). In x cs) (sym (same ∙ more)) (elim (in_split x (filter (λ (y : CommitRecord). not (same_tx y.tx r.tx)) (kept_by rs).commits) (r ∷ []) among) [
               | inl old ↦
                   In-first x c.desk.commits (r ∷ [])
-                  (m.commits x (In-unfiltered (λ (y : CommitRecord). not (same_tx y.tx r.tx)) x (kept_by rs).commits old))
+                  (m.commits x
+                      (In-unfiltered (λ (y : CommitRecord). not (same_tx y.tx r.tx)) x (kept_by rs).commits old))
               | inr new ↦ In-second x c.desk.commits (r ∷ []) new
             ]);
             none = λ t none. (let f : (record_of (kept_by rs).commits t ≡ None) × (same_tx r.tx t ≡ false) = found_with (kept_by rs).commits r t none in

@@ -29,7 +29,8 @@ pub read_counted : (decl : Declaration) (w : State) (a : ℕ) (c : Client) (t : 
     → slice_get t.views object ≡ Some v → Core decl w a c t
     → Core decl (after_act w (Count k.grant)) a (learned c clock) (with_granted (lived t site life) object log)
 read_counted decl w a c t site life clock object inv log k lives v is core =
-    counted_core decl w a c t (with_granted (lived t site life) object log) site life clock log (Read (read_of object inv)) k
+    counted_core decl w a c t (with_granted (lived t site life) object log) site life clock log
+        (Read (read_of object inv)) k
     lives core (granted_given t site life object log) sorted shown whole
   where
     here : view_log (with_granted (lived t site life) object log) object ≡ union (view_log t object) log

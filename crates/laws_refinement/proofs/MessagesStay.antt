@@ -269,7 +269,8 @@ module _ (decl : Declaration) (w v : State) (l : Later w v) where
       (h.0, h.1, h.2, snapshots_later k shuts h.3, h.4, λ q among. question_later ms more q (h.5 q among))
   doing_later ms more epoch (Installing closed awaited calls installed) h = tt
 
-  pub decision_later : (epoch : ℕ) (d : Option EpochStart) → DecidedMirrors decl w epoch d → DecidedMirrors decl v epoch d
+  pub decision_later : (epoch : ℕ) (d : Option EpochStart) → DecidedMirrors decl w epoch d
+      → DecidedMirrors decl v epoch d
   decision_later epoch None h = tt
   decision_later epoch (Some d) h = (h.0, decided_later d.epoch d.clock d.lines h.1)
 

@@ -129,7 +129,8 @@ module _ (decl : Declaration) (accepted : IsAccepted decl) (net : Net) (reached 
       elim (in_split l snapshot.log (lines_promised snapshot.prepared) among) [
         | inl told ↦ snapshot_lines from b.epoch snapshot.clock snapshot.log snapshot.prepared l b.told told
         | inr brought ↦ (let p : (p : Prepared) × In p snapshot.prepared × In l p.lines = of_promise l snapshot.prepared brought in
-            snapshot_lines from b.epoch snapshot.clock snapshot.log snapshot.prepared l b.told (b.told.lined p.0 p.1 l p.2))
+            snapshot_lines from b.epoch snapshot.clock snapshot.log snapshot.prepared l b.told
+                (b.told.lined p.0 p.1 l p.2))
       ]
   answer_lines from number answers.Installed l b among = absurd among
   answer_lines from number (answers.Answered verdict) l b among = absurd among

@@ -148,14 +148,16 @@ module _ (decl : Declaration) (acts : List Act) (net : Net) (a : ℕ) (run : IsR
       → ((object inv : ℕ) → want ≡ Read (read_of object inv) → (l : Line) → In l (site_after ((state acts).deeds a)).volatile
       → l.object ≡ object → In l log)
       → Continues decl acts
-      (after_site net a (moved now (answers_with from number (answers.Granted (grant_with (net.sites a).life clock log)))))
+      (after_site net a
+          (moved now (answers_with from number (answers.Granted (grant_with (net.sites a).life clock log)))))
   grants_it clock from number tx epoch named want asks log now alike going born request lived here holders sorted lines
       shown whole = record {
         more = Grant g ∷ [];
         refines = record {
           run = going;
           agrees =
-              site_goes decl w v net a (moved now (answers_with from number (answers.Granted (grant_with (net.sites a).life clock log))))
+              site_goes decl w v net a
+                  (moved now (answers_with from number (answers.Granted (grant_with (net.sites a).life clock log))))
               m site up (record {
                 later =
                     record {
@@ -197,16 +199,19 @@ module _ (decl : Declaration) (acts : List Act) (net : Net) (a : ℕ) (run : IsR
                     (w.deeds a ++ Grants tx (items_wanted want) (view_in want) ∷ [])) (sym (append-nil (net.records a)))
                     (kept_same decl (kept_by (net.records a)) w.status (w.life a) (w.deeds a)
                     (Grants tx (items_wanted want) (view_in want))
-                    (leaves_epoch (w.deeds a) (Grants tx (items_wanted want) (view_in want)) tt) (m.kept a site) refl refl
+                    (leaves_epoch (w.deeds a) (Grants tx (items_wanted want) (view_in want)) tt) (m.kept a site) refl
+                        refl
                     (λ x never. absurd never)));
-                alike = subst (λ (rs : List Record). IsKeptBy now (kept_by rs)) (sym (append-nil (net.records a))) alike;
+                alike =
+                    subst (λ (rs : List Record). IsKeptBy now (kept_by rs)) (sym (append-nil (net.records a))) alike;
                 here =
                     subst (λ (ds : List Deed). SiteMirrors decl now ds (w.life a))
                     (sym (put_here w.deeds a (w.deeds a ++ Grants tx (items_wanted want) (view_in want) ∷ []))) here;
                 there = λ b other. put_other w.deeds a _ b other;
                 alive = λ b other. refl;
                 holders = holders;
-                turn = one_answer decl v net.mail a from number (answers.Granted (grant_with (net.sites a).life clock log)) (record {
+                turn = one_answer decl v net.mail a from number
+                    (answers.Granted (grant_with (net.sites a).life clock log)) (record {
                   tx = tx;
                   want = want;
                   begun = born;

@@ -175,11 +175,13 @@ shorten decl front m accepted sites holds asks =
           fits decl (record m.front { count = 0 }) accepted holds (omega arith) in
           f.few
 
-      short : (length m.turn.sends ≤ count_in m.front.doing) ⊎ (length m.turn.sends ≤ length (asked_by front.transaction))
+      short : (length m.turn.sends ≤ count_in m.front.doing)
+          ⊎ (length m.turn.sends ≤ length (asked_by front.transaction))
           → length m.turn.sends ≤ 16
       short (inl low) = let few : count_in m.front.doing ≤ 16 = few_in m.front.doing asks_few in omega arith
       short (inr low) =
-          let few : length (asked_by front.transaction) ≤ decl.sites = few_sites decl (asked_by front.transaction) before in
+          let few : length (asked_by front.transaction) ≤ decl.sites =
+                  few_sites decl (asked_by front.transaction) before in
           let most : decl.sites ≤ 16 = accepted.sites in
           omega arith
 

@@ -138,7 +138,8 @@ module _ (k : ℕ) (tx : TxId) (clock : ℕ) (records : List Commit) (d : Dealin
         append_by-after t object inv event [] (round_for decl front t (append_need_of decl t.begun.epoch object event))
         (verdict (round_for decl front t (append_need_of decl t.begun.epoch object event))) like asked
 
-    pub read_by-after : (t : Transaction) (object inv : ℕ) (calls : List Call) (r : RoundState) (v : Verdict) → IsLike t b
+    pub read_by-after : (t : Transaction) (object inv : ℕ) (calls : List Call) (r : RoundState) (v : Verdict)
+        → IsLike t b
         → d.asked ≡ Some (commands.Do object inv)
         → FrontAfter k tx clock records d (read_by decl front t object inv calls r v)
     read_by-after t object inv calls r verdicts.Waiting like asked =

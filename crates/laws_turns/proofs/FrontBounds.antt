@@ -176,7 +176,12 @@ module _ (bound : ℕ) where
     performs-within None object inv views = w
     performs-within (Some t) object inv views =
         by t.begun.doomed (nat_le most_transaction_operations (length t.begun.ops)) where
-          by : (doomed long : Bool) → FrontWithin bound (cond doomed (moved front (telling replies.Doomed)) (cond long (moved front (telling replies.TooLong)) (reads decl front t object inv [] (round_for decl front t (read_need_of decl t.begun.epoch object inv))))).front
+          by : (doomed long : Bool)
+              → FrontWithin bound
+                (cond doomed (moved front (telling replies.Doomed))
+                  (cond long (moved front (telling replies.TooLong))
+                    (reads decl front t object inv []
+                      (round_for decl front t (read_need_of decl t.begun.epoch object inv))))).front
           by true long = w
           by false true = w
           by false false =
@@ -202,10 +207,12 @@ module _ (bound : ℕ) where
   takes_in-within decl front Idle (Some t) number answer w views here = w
   takes_in-within decl front (Reading object inv calls round) (Some t) number answer w views here =
       by (site_called calls number) where
-        by : (o : Option ℕ) → FrontWithin bound (reading_takes decl front t object inv calls round number answer o).front
+        by : (o : Option ℕ)
+            → FrontWithin bound (reading_takes decl front t object inv calls round number answer o).front
         by None = w
         by (Some site) =
-            read_by-within decl (learns front answer) (learned-within front answer w here) (read_with t site object answer)
+            read_by-within decl (learns front answer) (learned-within front answer w here)
+                (read_with t site object answer)
             object inv (without_call calls number) (note round site (standing_of answer))
             (verdict (note round site (standing_of answer)))
             (read-within t site object answer views here)
@@ -215,7 +222,8 @@ module _ (bound : ℕ) where
             → FrontWithin bound (appending_takes decl front t object inv event calls round number answer o).front
         by None = w
         by (Some site) =
-            append_by-within decl (learns front answer) (learned-within front answer w here) (appended_with t site answer)
+            append_by-within decl (learns front answer) (learned-within front answer w here)
+                (appended_with t site answer)
             object inv event (without_call calls number) (note round site (standing_of answer))
             (verdict (note round site (standing_of answer)))
             (appended_within t site answer views)

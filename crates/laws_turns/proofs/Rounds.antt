@@ -103,7 +103,8 @@ module _ (decl : Declaration) (accepted : IsAccepted decl) (k : ℕ) (within : k
       && is i
 
   requests_proper : (b : Begun) (want : ℕ → Want) (sites : List ℕ)
-      → ((site : ℕ) → names_declared decl b.tx (want site) ≡ true) → AreSites decl sites → AreProper decl (map (request_of b want) sites)
+      → ((site : ℕ) → names_declared decl b.tx (want site) ≡ true) → AreSites decl sites
+          → AreProper decl (map (request_of b want) sites)
   requests_proper b want [] names all = tt
   requests_proper b want (s ∷ sites) names all = ((all.0, names s), requests_proper b want sites names all.1)
 

@@ -103,7 +103,8 @@ record HasItem (want : Want) : Type 0 where
   among : In item (items_wanted want)
 
 some_item : (want : Want) → IsGrantable want → IsFull want → HasItem want
-some_item (Read read) asks full = record { item = Lock (record { object = read.object; inv = read.inv }); among = inl refl }
+some_item (Read read) asks full =
+    record { item = Lock (record { object = read.object; inv = read.inv }); among = inl refl }
 some_item (Append object view []) asks full = absurd (let low : 0 < 0 = full in let never : ⊥ = omega arith in never)
 some_item (Append object view (o ∷ own)) asks full = record { item = Own o; among = inl refl }
 some_item Prepare asks full = absurd asks

@@ -157,7 +157,8 @@ module _ (decl : Declaration) where
               | inl old ↦ k.votes q old prepare
               | inr new ↦
                   subst (HasParticipant d.current) (sym new)
-                  (asked_participant d n to tx epoch life want (sym (ap (λ (y : ClientRequest). y.want) new) ∙ prepare) is)
+                  (asked_participant d n to tx epoch life want (sym (ap (λ (y : ClientRequest). y.want) new) ∙ prepare)
+                      is)
             ];
         full =
             λ q among. elim (In-more q (record { number = n; site = to; life = life; want = want; taken = None })

@@ -131,7 +131,9 @@ module _ (decl : Declaration) (s : SiteState) (old : HoldsLocks s) (from number 
   prepare_by tx true false false = stays s (answers from number Stale) refl old
 
   grant : (tx : TxId) (want : Want) → MoveKeeps s (grants decl s from number tx want)
-  grant tx (Read read_here) = read tx read_here.object read_here.inv (read_clash (relation_at decl read_here.object) s.held tx read_here.object read_here.inv)
+  grant tx (Read read_here) =
+      read tx read_here.object read_here.inv
+      (read_clash (relation_at decl read_here.object) s.held tx read_here.object read_here.inv)
   grant tx (Append object view own) = append tx view own (append_clash (relation_at decl object) s.held tx own)
   grant tx Prepare =
       prepare_by tx (is_held s.held tx) (is_prepared s.prepared tx)

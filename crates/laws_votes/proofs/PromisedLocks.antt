@@ -75,7 +75,8 @@ module _ (decl : Declaration) where
   heard s from number (messages.Install start) old =
       install_keeps (passed s (messages.Install start)) old
     where
-      install_keeps : (at : SiteState) → HoldsLocks at → MoveKeeps at (installs at from number start.epoch start.clock start.lines)
+      install_keeps : (at : SiteState) → HoldsLocks at
+          → MoveKeeps at (installs at from number start.epoch start.clock start.lines)
       install_keeps at had =
           install_cases (MoveKeeps at) at from number start.epoch start.clock start.lines
           (λ answer. stays at (answers from number answer) refl had)

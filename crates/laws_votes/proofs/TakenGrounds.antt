@@ -103,7 +103,8 @@ module _ (ds : List Deed) (x : Deed) (d : Account) (n : ℕ) (answer : Option An
             clock = clock;
             log = log;
             taken =
-                subst (λ (number : ℕ). WasTaken (ds ++ x ∷ []) number (answers.Granted (grant_with life clock log))) (sym number)
+                subst (λ (number : ℕ). WasTaken (ds ++ x ∷ []) number (answers.Granted (grant_with life clock log)))
+                    (sym number)
                 (now_taken (answers.Granted (grant_with life clock log)) is);
           })
 

@@ -90,7 +90,8 @@ closes_fit decl m epoch calls round shuts accepted was are fit = by (verdict rou
 
 -- commands
 
-again_fits : (decl : Declaration) (m : Admin) (o : Option EpochStart) → IsAccepted decl → AdminFits (again decl m o).admin
+again_fits : (decl : Declaration) (m : Admin) (o : Option EpochStart) → IsAccepted decl
+    → AdminFits (again decl m o).admin
 again_fits decl m None accepted = tt
 again_fits decl m (Some d) accepted = installs_begin decl [] accepted (omega arith)
 

@@ -80,7 +80,8 @@ more_other held tx t locks own other =
 
 hold_same : (held : List Held) (tx t : TxId) (want : Want) → same_tx t tx ≡ true
     → without_held (holding held t want) tx ≡ without_held held tx
-hold_same held tx t (Read read) same = more_same held tx t (record { object = read.object; inv = read.inv } ∷ []) [] same
+hold_same held tx t (Read read) same =
+    more_same held tx t (record { object = read.object; inv = read.inv } ∷ []) [] same
 hold_same held tx t (Append object view own) same = more_same held tx t [] own same
 hold_same held tx t Prepare same = refl
 

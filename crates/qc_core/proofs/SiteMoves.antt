@@ -60,7 +60,8 @@ module _ (decl : Declaration) (site : ℕ) (ds : List Deed) (n : ℕ) where
     given_want want = letter number from to (messages.Request tx epoch life want)
 
     grant : (want : Want) → IsStep site ds (given_want want) n (grants decl (state want) from number tx want)
-    grant (Read read_here) = by (read_clash (relation_at decl read_here.object) (shown site ds).held tx read_here.object read_here.inv)
+    grant (Read read_here) =
+        by (read_clash (relation_at decl read_here.object) (shown site ds).held tx read_here.object read_here.inv)
       where
         by : (o : Option Conflict) → IsStep site ds (given_want (Read read_here)) n
             (reads_by decl (state (Read read_here)) from number tx read_here.object read_here.inv o)

@@ -101,7 +101,8 @@ module _ (decl : Declaration) (s : SiteState) (e : Envelope) (asks : asks_answer
 
   reads_written : (object inv : ℕ) (o : Option Conflict)
       → IsSiteTurn (inputs.Got e) (reads_by decl s e.from e.number tx object inv o).turn
-  reads_written object inv None = answers_well (answers.Granted (grant_with s.life s.clock (of_object (known s) object)))
+  reads_written object inv None =
+      answers_well (answers.Granted (grant_with s.life s.clock (of_object (known s) object)))
   reads_written object inv (Some c) = clashes_well c
 
   appends_written : (view : List _) (own : List _) (o : Option Conflict)

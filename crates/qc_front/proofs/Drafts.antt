@@ -157,7 +157,11 @@ pub read_is_draft : (t : Transaction) (object site : ℕ) (answer : Option Answe
     → IsDraftOf t object (read_draft (draft_of t object) site answer)
 read_is_draft t object site None = record { object_is = refl; view = refl; ops = refl }
 read_is_draft t object site (Some (answers.Granted grant)) =
-    record { object_is = refl; view = same_some (slice_get t.views object) (λ (v : View). with_log v grant.log); ops = refl }
+    record {
+          object_is = refl;
+          view = same_some (slice_get t.views object) (λ (v : View). with_log v grant.log);
+          ops = refl
+        }
 read_is_draft t object site (Some (answers.Clash holder inv event)) =
     record { object_is = refl; view = refl; ops = refl }
 read_is_draft t object site (Some (answers.Closed epoch)) = record { object_is = refl; view = refl; ops = refl }

@@ -98,7 +98,8 @@ pub entry_at : {A : Type 0} (tx_of : A → TxId) (es : List (ℕ × A)) (tx : Tx
 entry_at tx_of [] tx n rises is = absurd (none_some n is)
 entry_at tx_of (e ∷ es) tx n rises is =
     by (same_tx (tx_of e.1) tx) (entry_at tx_of es tx n (sorted_tail nat_cmp e.0 (keys_of es) rises)) is where
-      by : (t : Bool) → (number_of tx_of es tx ≡ Some n → lookup (is_at (nat_cmp n)) es ≡ one_of tx_of (values_of es) tx)
+      by : (t : Bool)
+          → (number_of tx_of es tx ≡ Some n → lookup (is_at (nat_cmp n)) es ≡ one_of tx_of (values_of es) tx)
           → cond t (Some e.0) (number_of tx_of es tx) ≡ Some n
           → cond (is_eq (nat_cmp n e.0)) (Some e.1) (lookup (is_at (nat_cmp n)) es)
           ≡ cond t (Some e.1) (one_of tx_of (values_of es) tx)
@@ -137,11 +138,13 @@ values_known tx_of (e ∷ es) h n rises is =
           → (number_of tx_of es (tx_of h) ≡ Some n
           → values_of (insert_entry nat_cmp es n h) ≡ put_one tx_of (values_of es) h)
           → cond t (Some e.0) (number_of tx_of es (tx_of h)) ≡ Some n
-          → values_of (match_ordering (nat_cmp n e.0) ((n, h) ∷ e ∷ es) ((e.0, h) ∷ es) (e ∷ insert_entry nat_cmp es n h))
+          → values_of
+              (match_ordering (nat_cmp n e.0) ((n, h) ∷ e ∷ es) ((e.0, h) ∷ es) (e ∷ insert_entry nat_cmp es n h))
           ≡ cond t (h ∷ values_of es) (e.1 ∷ put_one tx_of (values_of es) h)
       by true rest is =
           let here : nat_cmp n e.0 ≡ Equal = subst (λ m. nat_cmp m e.0 ≡ Equal) (some_is 0 e.0 n is) (nat_self e.0) in
-          ap (λ o. values_of (match_ordering o ((n, h) ∷ e ∷ es) ((e.0, h) ∷ es) (e ∷ insert_entry nat_cmp es n h))) here
+          ap (λ o. values_of (match_ordering o ((n, h) ∷ e ∷ es) ((e.0, h) ∷ es) (e ∷ insert_entry nat_cmp es n h)))
+              here
       by false rest is =
           ap (λ o. values_of (match_ordering o ((n, h) ∷ e ∷ es) ((e.0, h) ∷ es) (e ∷ insert_entry nat_cmp es n h)))
           (later tx_of e es (tx_of h) n rises is) ∙ ap (λ hs. e.1 ∷ hs) (rest is)
@@ -167,5 +170,6 @@ number_known tx_of (e ∷ es) h n tx rises is =
           ∙ ap (λ u. cond (same_tx u tx) (Some e.0) (number_of tx_of es tx)) (sym (tx_apart (tx_of e.1) (tx_of h) same))
       by false same rest is =
           ap
-          (λ o. number_of tx_of (match_ordering o ((n, h) ∷ e ∷ es) ((e.0, h) ∷ es) (e ∷ insert_entry nat_cmp es n h)) tx)
+          (λ o. number_of tx_of (match_ordering o ((n, h) ∷ e ∷ es) ((e.0, h) ∷ es) (e ∷ insert_entry nat_cmp es n h))
+              tx)
           (later tx_of e es (tx_of h) n rises is) ∙ ap (cond (same_tx (tx_of e.1) tx) (Some e.0)) (rest is)

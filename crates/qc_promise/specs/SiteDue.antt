@@ -97,7 +97,8 @@ refusal_due decl ds tx epoch life want = option_or (epoch_refusal ds epoch life)
 -- the answer to a request that nothing refuses
 
 abbrev pub grant_due : List Deed → Want → Answer
-grant_due ds (Read read) = answers.Granted (grant_with (life_shown ds) (clock_shown ds) (of_object (log_shown ds) read.object))
+grant_due ds (Read read) =
+    answers.Granted (grant_with (life_shown ds) (clock_shown ds) (of_object (log_shown ds) read.object))
 grant_due ds (Append object view own) = answers.Granted (grant_with (life_shown ds) (clock_shown ds) [])
 grant_due ds Prepare = answers.Yes (clock_shown ds)
 

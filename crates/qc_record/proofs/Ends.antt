@@ -57,7 +57,8 @@ cut (records.Done tx clock) (suc n) legal inside =
 cut (records.Close epoch) (suc n) legal inside =
     whole_cut records.Close epoch_form epoch_exact epoch n legal (omega (arith, inside))
 cut (records.Install start) (suc n) legal inside =
-    whole_cut install_of start_form start_exact (start.epoch, (start.clock, start.lines)) n legal (omega (arith, inside))
+    whole_cut install_of start_form start_exact (start.epoch, (start.clock, start.lines)) n legal
+        (omega (arith, inside))
 cut (records.Commit c) (suc n) legal inside =
     whole_cut records.Commit commit_form commit_exact c n legal (omega (arith, inside))
 cut (records.Decide start) (suc n) legal inside =

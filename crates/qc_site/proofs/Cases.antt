@@ -28,7 +28,9 @@ use Rattle.qc_site.proofs.RequestCases.{join_cases, close_cases}
 pub install_cases : (P : SiteMove → Type 0) (s : SiteState) (from number k clock : ℕ) (lines : List Line)
     → ((answer : Answer) → P (moved s (answers from number answer)))
     → (nat_le k s.epoch ≡ false → nat_le (epoch_length lines) most_record_bytes ≡ true
-    → P (moved (installed s k clock lines) (recording from number (records.Install (start_with k clock lines)) says.Installed)))
+    → P
+        (moved (installed s k clock lines)
+          (recording from number (records.Install (start_with k clock lines)) says.Installed)))
     → P (installs s from number k clock lines)
 install_cases P s from number k clock lines told made =
     choose P (nat_le k s.epoch) _ _ (λ is. told says.Installed)
@@ -56,7 +58,8 @@ pub state_cases : (P : SiteState → Type 0) (decl : Declaration) (s : SiteState
 state_cases P decl s from number (messages.Request tx epoch life (Read read_here)) same read append promise drop join
     close install =
     request_cases (λ m. P m.site) decl s from number tx epoch life (Read read_here) same (λ fault is. same)
-    (λ is. read_cases (λ m. P m.site) decl s from number tx read_here.object read_here.inv (λ free. read tx epoch life read_here.object read_here.inv refl)
+    (λ is. read_cases (λ m. P m.site) decl s from number tx read_here.object read_here.inv
+        (λ free. read tx epoch life read_here.object read_here.inv refl)
     (λ c clash. same))
 state_cases P decl s from number (messages.Request tx epoch life (Append object view own)) same read append promise drop
     join close install =
@@ -101,7 +104,8 @@ pub lasting_cases : (P : SiteState → Type 0) (decl : Declaration) (s : SiteSta
     → P (site_at decl s from number message).site
 lasting_cases P decl s from number message same read append promise drop join close = by message refl
   where
-    others : (m : Message) → message ≡ m → ((k clock : ℕ) (lines : List Line) → m ≡ messages.Install (start_with k clock lines) → ⊥)
+    others : (m : Message) → message ≡ m
+        → ((k clock : ℕ) (lines : List Line) → m ≡ messages.Install (start_with k clock lines) → ⊥)
         → P (site_at decl s from number m).site
     others m is never =
         state_cases P decl s from number m same
@@ -121,7 +125,8 @@ lasting_cases P decl s from number message same read append promise drop join cl
     by (messages.Ask tx) is lasts = same
     by (messages.Close k) is lasts = others (messages.Close k) is (λ n clock lines this. let none : ⊥ = cc in none)
     by (messages.Install start) is lasts =
-        install_cases (λ m. installs_in m.turn ≡ false → P m.site) s from number start.epoch start.clock start.lines (λ answer none. same)
+        install_cases (λ m. installs_in m.turn ≡ false → P m.site) s from number start.epoch start.clock start.lines
+            (λ answer none. same)
         (λ later fits none. absurd (let clash : ⊥ = cc in clash)) lasts
 
 -- and where it closes none either

@@ -160,7 +160,8 @@ pub read_holds : (decl : Declaration) (s : SiteState) (from number : ℕ) (tx : 
     → Locks s tx (record { object = object; inv = inv })
     (site_on decl s from number (messages.Request tx epoch life (Read (read_of object inv))))
 read_holds decl s from number tx epoch life object inv =
-    read_holds_at decl (passed s (messages.Request tx epoch life (Read (read_of object inv)))) from number tx epoch life object
+    read_holds_at decl (passed s (messages.Request tx epoch life (Read (read_of object inv)))) from number tx epoch life
+        object
     inv
 
 abbrev Owns : SiteState → TxId → List OwnLine → SiteMove → Type 0

@@ -49,7 +49,8 @@ pub read_conflicts_not : (decl : Declaration) (s : SiteState) (from number : ℕ
     → In holder s.held → same_tx holder.tx tx ≡ false → In line holder.own → line.object ≡ object
     → depends (relation_at decl object) inv line.event ≡ false
 read_conflicts_not decl s from number tx epoch life object inv holder line granted holds another own here =
-    read_free_at decl (passed s (messages.Request tx epoch life (Read (read_of object inv)))) from number tx epoch life object inv
+    read_free_at decl (passed s (messages.Request tx epoch life (Read (read_of object inv)))) from number tx epoch life
+        object inv
     holder line holds another own here granted
 
 append_free_at : (decl : Declaration) (s : SiteState) (from number : ℕ) (tx : TxId) (epoch life object : ℕ)
@@ -110,7 +111,8 @@ refused_at decl s from number (messages.Ask tx) = never
 refused_at decl s from number (messages.Close k) =
     close_cases (Unchanged s) s from number k (λ answer yes. (refl, refl)) (λ near later. never)
 refused_at decl s from number (messages.Install start) =
-    install_cases (Unchanged s) s from number start.epoch start.clock start.lines (λ answer yes. (refl, refl)) (λ later fits. never)
+    install_cases (Unchanged s) s from number start.epoch start.clock start.lines (λ answer yes. (refl, refl))
+        (λ later fits. never)
 
 pub refusal_changes_nothing : (decl : Declaration) (s : SiteState) (from number : ℕ) (message : Message)
     → refuses_in (site_on decl s from number message).turn ≡ true
@@ -169,7 +171,8 @@ pub read_clash_is_smallest : (decl : Declaration) (s : SiteState) (from number :
     → ToldRead decl s from number tx object inv d
     (site_on decl s from number (messages.Request tx epoch life (Read (read_of object inv)))).turn
 read_clash_is_smallest decl s from number tx epoch life object inv d =
-    read_clash_at decl (passed s (messages.Request tx epoch life (Read (read_of object inv)))) from number tx epoch life object
+    read_clash_at decl (passed s (messages.Request tx epoch life (Read (read_of object inv)))) from number tx epoch life
+        object
     inv d
 
 abbrev ToldAppend : Declaration → SiteState → ℕ → ℕ → TxId → ℕ → List OwnLine → Conflict → Turn → Type 0

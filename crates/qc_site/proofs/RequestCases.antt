@@ -149,7 +149,9 @@ close_rows P s from number k behind closed again made =
 pub install_rows : (P : SiteMove → Type 0) (s : SiteState) (from number k clock : ℕ) (lines : List Line)
     → P (moved s (answers from number says.Installed))
     → P (moved s (answers from number (says.Behind s.epoch)))
-    → P (moved (installed s k clock lines) (recording from number (records.Install (start_with k clock lines)) says.Installed))
+    → P
+        (moved (installed s k clock lines)
+          (recording from number (records.Install (start_with k clock lines)) says.Installed))
     → P (installs s from number k clock lines)
 install_rows P s from number k clock lines known long made =
     choose P (nat_le k s.epoch) _ _ (λ is. known)

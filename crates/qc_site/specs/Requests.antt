@@ -73,7 +73,8 @@ relation_at decl object = option_map_or (λ (k : Kind). k.relation) (kind_at dec
 -- a request of the site's epoch and life
 abbrev pub grants : Declaration → SiteState → ℕ → ℕ → TxId → Want → SiteMove
 grants decl s from number tx (Read read) =
-    reads_by decl s from number tx read.object read.inv (read_clash (relation_at decl read.object) s.held tx read.object read.inv)
+    reads_by decl s from number tx read.object read.inv
+        (read_clash (relation_at decl read.object) s.held tx read.object read.inv)
 grants decl s from number tx (Append object view own) =
     appends_by decl s from number tx view own (append_clash (relation_at decl object) s.held tx own)
 grants decl s from number tx Prepare = prepares s from number tx

@@ -44,47 +44,82 @@ abbrev number_of_commit : Option Commit → ℕ
 number_of_commit None = 0
 number_of_commit (Some c) = 1
 
-pub is_told_unknown_with_the_record_written_refused : AreRepliesDue three 0 wrong_records.is_told_unknown_with_the_record_written → ⊥
-is_told_unknown_with_the_record_written_refused all = differs_1_0 (ap (λ c. number_of_commit c) (due_at 16 three 0 wrong_records.is_told_unknown_with_the_record_written all).1)
+pub is_told_unknown_with_the_record_written_refused : AreRepliesDue three 0
+    wrong_records.is_told_unknown_with_the_record_written → ⊥
+is_told_unknown_with_the_record_written_refused all =
+    differs_1_0 (ap (λ c. number_of_commit c)
+    (due_at 16 three 0 wrong_records.is_told_unknown_with_the_record_written all).1)
 
-pub is_told_unknown_with_nothing_pending_refused : AreRepliesDue three 0 wrong_records.is_told_unknown_with_nothing_pending → ⊥
-is_told_unknown_with_nothing_pending_refused all = differs_9_8 (ap (λ r. figure 0 (of_reply r)) (due_at 15 three 0 wrong_records.is_told_unknown_with_nothing_pending all).0)
+pub is_told_unknown_with_nothing_pending_refused : AreRepliesDue three 0
+    wrong_records.is_told_unknown_with_nothing_pending → ⊥
+is_told_unknown_with_nothing_pending_refused all =
+    differs_9_8 (ap (λ r. figure 0 (of_reply r))
+    (due_at 15 three 0 wrong_records.is_told_unknown_with_nothing_pending all).0)
 
-pub is_told_unknown_with_another_stamp_pending_refused : AreRepliesDue three 0 wrong_records.is_told_unknown_with_another_stamp_pending → ⊥
-is_told_unknown_with_another_stamp_pending_refused all = differs_3_2 (ap (λ r. figure 1 (of_pending r)) (due_at 15 three 0 wrong_records.is_told_unknown_with_another_stamp_pending all).2)
+pub is_told_unknown_with_another_stamp_pending_refused : AreRepliesDue three 0
+    wrong_records.is_told_unknown_with_another_stamp_pending → ⊥
+is_told_unknown_with_another_stamp_pending_refused all =
+    differs_3_2 (ap (λ r. figure 1 (of_pending r))
+    (due_at 15 three 0 wrong_records.is_told_unknown_with_another_stamp_pending all).2)
 
-pub is_told_unknown_with_another_list_of_operations_pending_refused : AreRepliesDue three 0 wrong_records.is_told_unknown_with_another_list_of_operations_pending → ⊥
-is_told_unknown_with_another_list_of_operations_pending_refused all = differs_1_2 (ap (λ r. figure 4 (of_pending r)) (due_at 15 three 0 wrong_records.is_told_unknown_with_another_list_of_operations_pending all).2)
+pub is_told_unknown_with_another_list_of_operations_pending_refused : AreRepliesDue three 0
+    wrong_records.is_told_unknown_with_another_list_of_operations_pending → ⊥
+is_told_unknown_with_another_list_of_operations_pending_refused all =
+    differs_1_2 (ap (λ r. figure 4 (of_pending r))
+    (due_at 15 three 0 wrong_records.is_told_unknown_with_another_list_of_operations_pending all).2)
 
-pub is_told_unknown_with_a_life_record_pending_refused : AreRepliesDue three 0 wrong_records.is_told_unknown_with_a_life_record_pending → ⊥
-is_told_unknown_with_a_life_record_pending_refused all = differs_2_5 (ap (λ r. figure 0 (of_pending r)) (due_at 15 three 0 wrong_records.is_told_unknown_with_a_life_record_pending all).2)
+pub is_told_unknown_with_a_life_record_pending_refused : AreRepliesDue three 0
+    wrong_records.is_told_unknown_with_a_life_record_pending → ⊥
+is_told_unknown_with_a_life_record_pending_refused all =
+    differs_2_5 (ap (λ r. figure 0 (of_pending r))
+    (due_at 15 three 0 wrong_records.is_told_unknown_with_a_life_record_pending all).2)
 
 pub is_told_unknown_and_goes_on_refused : AreRepliesDue three 0 wrong_records.is_told_unknown_and_goes_on → ⊥
-is_told_unknown_and_goes_on_refused all = differs_9_8 (ap (λ r. figure 0 (of_reply r)) (due_at 15 three 0 wrong_records.is_told_unknown_and_goes_on all).0)
+is_told_unknown_and_goes_on_refused all =
+    differs_9_8 (ap (λ r. figure 0 (of_reply r)) (due_at 15 three 0 wrong_records.is_told_unknown_and_goes_on all).0)
 
-pub is_told_unknown_and_falls_by_the_script_refused : AreRepliesDue three 0 wrong_records.is_told_unknown_and_falls_by_the_script → ⊥
-is_told_unknown_and_falls_by_the_script_refused all = differs_9_8 (ap (λ r. figure 0 (of_reply r)) (due_at 15 three 0 wrong_records.is_told_unknown_and_falls_by_the_script all).0)
+pub is_told_unknown_and_falls_by_the_script_refused : AreRepliesDue three 0
+    wrong_records.is_told_unknown_and_falls_by_the_script → ⊥
+is_told_unknown_and_falls_by_the_script_refused all =
+    differs_9_8 (ap (λ r. figure 0 (of_reply r))
+    (due_at 15 three 0 wrong_records.is_told_unknown_and_falls_by_the_script all).0)
 
-pub is_told_committed_and_falls_as_it_writes_refused : AreRepliesDue three 0 wrong_records.is_told_committed_and_falls_as_it_writes → ⊥
-is_told_committed_and_falls_as_it_writes_refused all = differs_8_9 (ap (λ r. figure 0 (of_reply r)) (due_at 15 three 0 wrong_records.is_told_committed_and_falls_as_it_writes all).0)
+pub is_told_committed_and_falls_as_it_writes_refused : AreRepliesDue three 0
+    wrong_records.is_told_committed_and_falls_as_it_writes → ⊥
+is_told_committed_and_falls_as_it_writes_refused all =
+    differs_8_9 (ap (λ r. figure 0 (of_reply r))
+    (due_at 15 three 0 wrong_records.is_told_committed_and_falls_as_it_writes all).0)
 
-pub is_told_aborted_and_falls_as_it_writes_refused : AreRepliesDue three 0 wrong_records.is_told_aborted_and_falls_as_it_writes → ⊥
-is_told_aborted_and_falls_as_it_writes_refused all = differs_8_7 (ap (λ r. figure 0 (of_reply r)) (due_at 15 three 0 wrong_records.is_told_aborted_and_falls_as_it_writes all).0)
+pub is_told_aborted_and_falls_as_it_writes_refused : AreRepliesDue three 0
+    wrong_records.is_told_aborted_and_falls_as_it_writes → ⊥
+is_told_aborted_and_falls_as_it_writes_refused all =
+    differs_8_7 (ap (λ r. figure 0 (of_reply r))
+    (due_at 15 three 0 wrong_records.is_told_aborted_and_falls_as_it_writes all).0)
 
-pub writes_its_record_and_falls_as_it_writes_another_of_the_transaction_refused : AreRepliesDue three 0 wrong_records.writes_its_record_and_falls_as_it_writes_another_of_the_transaction → ⊥
-writes_its_record_and_falls_as_it_writes_another_of_the_transaction_refused all = differs_8_9 (ap (λ r. figure 0 (of_reply r)) (due_at 18 three 0 wrong_records.writes_its_record_and_falls_as_it_writes_another_of_the_transaction all).0)
+pub writes_its_record_and_falls_as_it_writes_another_of_the_transaction_refused : AreRepliesDue three 0
+    wrong_records.writes_its_record_and_falls_as_it_writes_another_of_the_transaction → ⊥
+writes_its_record_and_falls_as_it_writes_another_of_the_transaction_refused all =
+    differs_8_9 (ap (λ r. figure 0 (of_reply r))
+    (due_at 18 three 0 wrong_records.writes_its_record_and_falls_as_it_writes_another_of_the_transaction all).0)
 
-pub writes_a_record_of_a_transaction_whose_pending_one_rose_refused : AreRepliesDue three 0 wrong_records.writes_a_record_of_a_transaction_whose_pending_one_rose → ⊥
-writes_a_record_of_a_transaction_whose_pending_one_rose_refused all = differs_5_9 (ap (λ r. figure 0 (of_reply r)) (due_at 20 three 0 wrong_records.writes_a_record_of_a_transaction_whose_pending_one_rose all).0)
+pub writes_a_record_of_a_transaction_whose_pending_one_rose_refused : AreRepliesDue three 0
+    wrong_records.writes_a_record_of_a_transaction_whose_pending_one_rose → ⊥
+writes_a_record_of_a_transaction_whose_pending_one_rose_refused all =
+    differs_5_9 (ap (λ r. figure 0 (of_reply r))
+    (due_at 20 three 0 wrong_records.writes_a_record_of_a_transaction_whose_pending_one_rose all).0)
 
-pub writes_a_record_of_a_transaction_of_its_former_life_refused : AreRepliesDue three 0 wrong_records.writes_a_record_of_a_transaction_of_its_former_life → ⊥
-writes_a_record_of_a_transaction_of_its_former_life_refused all = differs_5_9 (ap (λ r. figure 0 (of_reply r)) (due_at 20 three 0 wrong_records.writes_a_record_of_a_transaction_of_its_former_life all).0)
+pub writes_a_record_of_a_transaction_of_its_former_life_refused : AreRepliesDue three 0
+    wrong_records.writes_a_record_of_a_transaction_of_its_former_life → ⊥
+writes_a_record_of_a_transaction_of_its_former_life_refused all =
+    differs_5_9 (ap (λ r. figure 0 (of_reply r))
+    (due_at 20 three 0 wrong_records.writes_a_record_of_a_transaction_of_its_former_life all).0)
 
 pub sends_as_it_rises_refused : AreRepliesDue three 0 wrong_records.sends_as_it_rises → ⊥
 sends_as_it_rises_refused all = differs_3_0 (ap (figure_of 1 0) (due_at 9 three 0 wrong_records.sends_as_it_rises all))
 
 pub rises_and_writes_no_life_refused : AreRepliesDue three 0 wrong_records.rises_and_writes_no_life → ⊥
-rises_and_writes_no_life_refused all = differs_0_2 (ap (figure_of 0 0) (due_at 9 three 0 wrong_records.rises_and_writes_no_life all))
+rises_and_writes_no_life_refused all =
+    differs_0_2 (ap (figure_of 0 0) (due_at 9 three 0 wrong_records.rises_and_writes_no_life all))
 
 pub writes_life_twice_refused : AreRepliesDue three 0 wrong_records.writes_life_twice → ⊥
 writes_life_twice_refused all = differs_2_0 (ap (figure_of 1 0) (due_at 9 three 0 wrong_records.writes_life_twice all))

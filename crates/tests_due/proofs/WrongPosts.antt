@@ -10,7 +10,8 @@ use Rattle.qc_msg.specs.declared.message.Answer.TheVariants as answers
 use Rattle.qc_msg.specs.Vocabulary.{grant_with}
 use Rattle.tests_due.specs.WrongPosts as wrong_posts
 
-promises_to_a_read_differs : ◌≡◌ {A = Option Answer} (Some (answers.Yes 0)) (Some (answers.Granted (grant_with 1 0 []))) → ⊥
+promises_to_a_read_differs : ◌≡◌ {A = Option Answer} (Some (answers.Yes 0)) (Some (answers.Granted (grant_with 1 0 [])))
+    → ⊥
 promises_to_a_read_differs e = let never : ⊥ = cc in never
 
 pub promises_to_a_read_refused : AreDue three [] (deeds 0 [] wrong_posts.promises_to_a_read) → ⊥

@@ -16,27 +16,31 @@ stale_differs e = let never : ⊥ = cc in never
 pub stale_refused : AreDue three [] (deeds 0 [] wrong_refusals.stale) → ⊥
 stale_refused all = stale_differs (ap first_answer (site_due_at 2 three [] (deeds 0 [] wrong_refusals.stale) all))
 
-held_off_differs : ◌≡◌ {A = Option Answer} (Some (answers.Clash (tx 1 1) 0 3)) (Some (answers.Granted (grant_with 1 0 []))) → ⊥
+held_off_differs : ◌≡◌ {A = Option Answer} (Some (answers.Clash (tx 1 1) 0 3))
+    (Some (answers.Granted (grant_with 1 0 []))) → ⊥
 held_off_differs e = let never : ⊥ = cc in never
 
 pub held_off_refused : AreDue three [] (deeds 0 [] wrong_refusals.held_off) → ⊥
 held_off_refused all =
     held_off_differs (ap first_answer (site_due_at 0 three [] (deeds 0 [] wrong_refusals.held_off) all))
 
-lets_in_differs : ◌≡◌ {A = Option Answer} (Some (answers.Granted (grant_with 1 0 []))) (Some (answers.Clash (tx 0 1) 0 3)) → ⊥
+lets_in_differs : ◌≡◌ {A = Option Answer} (Some (answers.Granted (grant_with 1 0 [])))
+    (Some (answers.Clash (tx 0 1) 0 3)) → ⊥
 lets_in_differs e = let never : ⊥ = cc in never
 
 pub lets_in_refused : AreDue three [] (deeds 1 [] wrong_refusals.lets_in) → ⊥
 lets_in_refused all = lets_in_differs (ap first_answer (site_due_at 2 three [] (deeds 1 [] wrong_refusals.lets_in) all))
 
-lets_append_in_differs : ◌≡◌ {A = Option Answer} (Some (answers.Granted (grant_with 1 0 []))) (Some (answers.Clash (tx 0 1) 0 3)) → ⊥
+lets_append_in_differs : ◌≡◌ {A = Option Answer} (Some (answers.Granted (grant_with 1 0 [])))
+    (Some (answers.Clash (tx 0 1) 0 3)) → ⊥
 lets_append_in_differs e = let never : ⊥ = cc in never
 
 pub lets_append_in_refused : AreDue three [] (deeds 1 [] wrong_refusals.lets_append_in) → ⊥
 lets_append_in_refused all =
     lets_append_in_differs (ap first_answer (site_due_at 2 three [] (deeds 1 [] wrong_refusals.lets_append_in) all))
 
-keeps_out_differs : ◌≡◌ {A = Option Answer} (Some (answers.Clash (tx 0 1) 0 3)) (Some (answers.Granted (grant_with 1 0 []))) → ⊥
+keeps_out_differs : ◌≡◌ {A = Option Answer} (Some (answers.Clash (tx 0 1) 0 3))
+    (Some (answers.Granted (grant_with 1 0 []))) → ⊥
 keeps_out_differs e = let never : ⊥ = cc in never
 
 pub keeps_out_refused : AreDue three [] (deeds 1 [] wrong_refusals.keeps_out) → ⊥

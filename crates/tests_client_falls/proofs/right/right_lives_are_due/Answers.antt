@@ -15,7 +15,8 @@ returns c = record {
   a_record_that_was_pending_rises_it_committed = lemmas.a_record_that_was_pending_rises_it_committed_due;
   it_rises_twice_it_committed_once = lemmas.it_rises_twice_it_committed_once_due;
   it_does_not_rise_it_did_not_commit = lemmas.it_does_not_rise_it_did_not_commit_due;
-  the_pending_record_stays_pending_while_the_journal_is_not_opened = lemmas.the_pending_record_stays_pending_while_the_journal_is_not_opened_due;
+  the_pending_record_stays_pending_while_the_journal_is_not_opened =
+      lemmas.the_pending_record_stays_pending_while_the_journal_is_not_opened_due;
   what_was_shown_in_a_former_life_is_not_seen = lemmas.what_was_shown_in_a_former_life_is_not_seen_due;
   a_reader_sees_what_rose = lemmas.a_reader_sees_what_rose_due;
 }

@@ -15,7 +15,8 @@ returns c = record {
   a_record_that_was_pending_rises_it_committed = lemmas.a_record_that_was_pending_rises_it_committed_right;
   it_rises_twice_it_committed_once = lemmas.it_rises_twice_it_committed_once_right;
   it_does_not_rise_it_did_not_commit = lemmas.it_does_not_rise_it_did_not_commit_right;
-  the_pending_record_stays_pending_while_the_journal_is_not_opened = lemmas.the_pending_record_stays_pending_while_the_journal_is_not_opened_right;
+  the_pending_record_stays_pending_while_the_journal_is_not_opened =
+      lemmas.the_pending_record_stays_pending_while_the_journal_is_not_opened_right;
   what_was_shown_in_a_former_life_is_not_seen = lemmas.what_was_shown_in_a_former_life_is_not_seen_right;
   a_reader_sees_what_rose = lemmas.a_reader_sees_what_rose_right;
 }

@@ -4,13 +4,15 @@ use Rattle.tests_client_falls.proofs.wrong.wrong_lives_are_refused.Goals as goal
 pub returns : goal.returns
 returns c = record {
   goes_on_with_its_transaction_after_a_fall = lemmas.goes_on_with_its_transaction_after_a_fall_refused;
-  is_told_response_of_a_do_that_it_called_before_its_fall = lemmas.is_told_response_of_a_do_that_it_called_before_its_fall_refused;
+  is_told_response_of_a_do_that_it_called_before_its_fall =
+      lemmas.is_told_response_of_a_do_that_it_called_before_its_fall_refused;
   begins_a_name_of_life_1_after_its_rise = lemmas.begins_a_name_of_life_1_after_its_rise_refused;
   begins_the_same_name_again_after_its_rise = lemmas.begins_the_same_name_again_after_its_rise_refused;
   counts_on_from_the_number_before_its_rise = lemmas.counts_on_from_the_number_before_its_rise_refused;
   begins_life_3_after_one_rise = lemmas.begins_life_3_after_one_rise_refused;
   its_clock_begins_at_0_its_stamp_comes_twice = lemmas.its_clock_begins_at_0_its_stamp_comes_twice_refused;
-  its_clock_counts_on_what_grants_showed_before_its_fall = lemmas.its_clock_counts_on_what_grants_showed_before_its_fall_refused;
+  its_clock_counts_on_what_grants_showed_before_its_fall =
+      lemmas.its_clock_counts_on_what_grants_showed_before_its_fall_refused;
   asks_in_epoch_2_after_its_rise_and_is_told_quorum = lemmas.asks_in_epoch_2_after_its_rise_and_is_told_quorum_refused;
   counts_answers_to_what_it_asked_before_its_fall = lemmas.counts_answers_to_what_it_asked_before_its_fall_refused;
   is_told_down_while_it_is_up = lemmas.is_told_down_while_it_is_up_refused;
