@@ -15,7 +15,8 @@ ghost use Rattle.qc_msg.specs.declared.reply.Reply.TheVariants as replies;
 ghost use Rattle.qc_msg.specs.declared.turn.Turn.{Turn};
 ghost use Rattle.qc_promise.specs.Account.{ClientRequest, Current, is_append};
 ghost use Rattle.qc_promise.specs.Accounting.{account_of};
-ghost use Rattle.qc_promise.specs.Rounds.{answer_of, resp_of};
+ghost use Rattle.qc_promise.specs.Rounds.{answer_of};
+ghost use Rattle.qc_decl.specs.Lookup.{resp_of};
 ghost use Rattle.qc_promise.specs.Rows.{due};
 
 /// Where a client has no open input, its running command waits for an open

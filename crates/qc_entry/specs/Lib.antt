@@ -1,3 +1,4 @@
 pub mod Line
 pub mod Log
+pub mod Orders
 pub mod Vocabulary

@@ -12,6 +12,7 @@ use Rattle.qc_table.specs.Vocabulary.{Rules, events_of}
 use Rattle.qc_view.specs.declared.view.View.{View}
 use Rattle.qc_view.specs.Vocabulary.{answer_in, with_log, with_own}
 use Rattle.qc_front.specs.declared.transaction.Transaction.{Transaction}
+pub use Rattle.qc_decl.specs.Vocabulary.{resp_of}
 
 -- the event with the invocation's first response that is legal after the object's view
 abbrev pub answer_of : Declaration → Transaction → ℕ → ℕ → Option ℕ
@@ -42,13 +43,6 @@ with_op t op = record t { begun = record t.begun { ops = t.begun.ops ++ op ∷ [
 -- the own line of the next operation: operations are numbered from 1, those without a response too
 abbrev pub next_own : Transaction → ℕ → ℕ → OwnLine
 next_own t object event = record { op = length t.begun.ops + 1; object = object; event = event }
-
--- the response of an event, or 0 where there is no such event
-abbrev pub resp_of : Declaration → ℕ → ℕ → ℕ
-resp_of decl object event =
-    unwrap_or
-    (option_and_then (λ (rules : Rules). option_map (λ (e : Event). e.resp) (slice_get (events_of rules.rows) event))
-    (table_at decl object)) 0
 
 -- one operation more, with its event: its own line, which the object's view has too
 abbrev pub with_event : Transaction → ℕ → ℕ → ℕ → ℕ → Transaction

@@ -16,6 +16,7 @@ use Rattle.qc_msg.specs.Vocabulary.{read_of}
 use Rattle.qc_front.specs.declared.front.Front.{Front}
 use Rattle.qc_front.specs.declared.transaction.Transaction.{Transaction}
 use Rattle.qc_front.specs.Answering.{next_own, view_log}
+pub use Rattle.qc_decl.specs.Vocabulary.{weights_of}
 
 -- whether an own line is of the object, and its event needs weight to append
 abbrev pub weighs : Declaration → ℕ → ℕ → OwnLine → Bool
@@ -37,10 +38,6 @@ append_want decl t object event site = Append object (view_log t object) (own_ap
 abbrev pub request_of : Begun → (ℕ → Want) → ℕ → Posting
 request_of b want site =
     record { to = site; message = messages.Request b.tx b.epoch (life_of b.lives site) (want site) }
-
--- the weights of an epoch's plan; no transaction runs in an epoch that isn't declared
-abbrev pub weights_of : Declaration → ℕ → List ℕ
-weights_of decl epoch = option_map_or (λ (p : Plan). p.weights) (plan_in decl epoch) []
 
 -- a round by the plan of the transaction's epoch, in the client's order of sites
 abbrev pub round_for : Declaration → Front → Transaction → ℕ → RoundState

@@ -1,7 +1,8 @@
 //! What the view of an object answers an invocation with.
 
 ghost use Rattle.std.specs.Prelude.{◌≡◌, [], IfOk, option_map, slice_get, unwrap_or};
-ghost use Rattle.qc_front.specs.Answering.{answer_of, resp_of, view_log};
+ghost use Rattle.qc_front.specs.Answering.{answer_of, view_log};
+ghost use Rattle.qc_decl.specs.Lookup.{resp_of};
 ghost use Rattle.qc_front.specs.Drafts.{answer_in_draft, log_in_draft};
 ghost use Rattle.qc_table.specs.declared.row.Event.{Event};
 ghost use Rattle.qc_table.specs.Rules.{events_of};

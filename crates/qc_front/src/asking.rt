@@ -3,7 +3,8 @@
 ghost use Rattle.std.specs.Prelude.{◌≡◌, ◌<◌, ℕ, IfOk, OnOk, fold, map};
 ghost use Rattle.qc_decl.specs.Accepted.{IsAccepted};
 ghost use Rattle.qc_decl.specs.Actors.{first_site};
-ghost use Rattle.qc_front.specs.Appending.{request_of, weights_of};
+ghost use Rattle.qc_front.specs.Appending.{request_of};
+ghost use Rattle.qc_decl.specs.Lookup.{weights_of};
 ghost use Rattle.qc_front.specs.Drafts.{asked_draft};
 ghost use Rattle.qc_msg.specs.Begun.{with_site};
 ghost use Rattle.qc_msg.specs.Turns.{sending};

@@ -1,6 +1,6 @@
 -- What deeds and what they hold have to say, each kind read once: a definition that asks for one kind is a line by
 -- these.
-use Rattle.std.specs.Prelude.{ℕ, Bool, true, false, List, Option, Some, None, option_and_then}
+use Rattle.std.specs.Prelude.{ℕ, Bool, true, false, List, [], Option, Some, None, option_and_then}
 use Rattle.qc_stamp.specs.declared.stamp.TxId.{TxId}
 use Rattle.qc_entry.specs.declared.line.Line.{Line}
 use Rattle.qc_entry.specs.declared.record.Prepared.{Prepared}
@@ -10,7 +10,9 @@ use Rattle.qc_msg.specs.declared.message.Envelope.{Envelope}
 use Rattle.qc_msg.specs.declared.message.Message.{Message}
 use Rattle.qc_msg.specs.declared.message.Message.TheVariants as messages
 use Rattle.qc_msg.specs.declared.message.Outcome.{Outcome}
+use Rattle.qc_msg.specs.declared.message.Outcome.TheVariants as outcomes
 use Rattle.qc_msg.specs.declared.message.Want.{Want}
+use Rattle.qc_msg.specs.declared.message.Want.TheVariants as wants
 use Rattle.qc_msg.specs.declared.payload.EpochStart.{EpochStart}
 use Rattle.qc_msg.specs.declared.payload.Grant.{Grant}
 use Rattle.qc_msg.specs.declared.payload.Snapshot.{Snapshot}
@@ -276,3 +278,17 @@ wants_answer (messages.Inquiry tx) = false
 wants_answer (messages.Ask tx) = true
 wants_answer (messages.Close epoch) = true
 wants_answer (messages.Install start) = true
+
+-- the view that a request carries
+
+abbrev pub view_in : Want → List Line
+view_in (wants.Read read) = []
+view_in (wants.Append object view own) = view
+view_in wants.Prepare = []
+
+-- whether an outcome is an end
+
+abbrev pub is_final : Outcome → Bool
+is_final (outcomes.Committed stamp) = true
+is_final outcomes.Aborted = true
+is_final outcomes.Active = false

@@ -19,7 +19,7 @@ pub use Rattle.qc_msg.specs.Readings.{Answered, Clashing, Decided, Finished, Req
 pub use Rattle.qc_msg.specs.Readings.{answer_in, asking_in, clash_in, close_in, closed_in, closing_in, decide_in}
 pub use Rattle.qc_msg.specs.Readings.{decision_in, done_in, granted_in, has_installed, inquiry_in, install_in}
 pub use Rattle.qc_msg.specs.Readings.{installing_in, is_life, prepare_in, promised_in, request_in, shut_in, verdict_in}
-pub use Rattle.qc_msg.specs.Readings.{wants_answer}
+pub use Rattle.qc_msg.specs.Readings.{is_final, view_in, wants_answer}
 pub use Rattle.qc_msg.specs.ReplyReadings.{already_in, began_in, committed_in, is_end, is_given_up, is_in_doubt}
 pub use Rattle.qc_msg.specs.ReplyReadings.{is_refused, response_in, short_in}
 pub use Rattle.qc_msg.specs.StepReadings.{Arming, Fallen, Mailed, armed_in, commanded_in, damaged_in, fell_in, lost_in}

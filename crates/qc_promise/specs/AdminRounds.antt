@@ -25,6 +25,7 @@ use Rattle.qc_msg.specs.declared.payload.EpochStart.{EpochStart}
 use Rattle.qc_msg.specs.declared.payload.Snapshot.{Snapshot}
 use Rattle.qc_promise.specs.AdminAccount.{AdminAccount, AdminRequest, answer_to, closes, decided_epoch, is_ask_of}
 use Rattle.qc_promise.specs.SiteLogs.{lines_of}
+pub use Rattle.qc_msg.specs.Vocabulary.{is_final}
 
 -- the round of Closes: by the plan of the epoch that is closed, in the order of the sites, for the weight that meets
 -- each quorum of it. A site that tells that it is closed counts, each other one that answered or was lost is missing
@@ -88,11 +89,6 @@ ask_of d tx = find (λ (q : AdminRequest). is_ask_of tx q.want) d.requests
 
 abbrev pub verdict_of : AdminAccount → TxId → Option Outcome
 verdict_of d tx = option_and_then verdict_in (option_and_then answer_to (ask_of d tx))
-
-abbrev pub is_final : Outcome → Bool
-is_final (Committed stamp) = true
-is_final Aborted = true
-is_final Active = false
 
 abbrev pub is_in_doubt : AdminAccount → Promised → Bool
 is_in_doubt d p = not (option_map_or is_final (verdict_of d p.tx) false)

@@ -23,6 +23,7 @@ use Rattle.qc_msg.specs.declared.reply.AbortCause.TheVariants as causes
 use Rattle.qc_msg.specs.Vocabulary.{has_granted, Answered, Clashing, clash_in, closed_in, granted_in}
 use Rattle.qc_msg.specs.declared.payload.Grant.{Grant}
 use Rattle.qc_promise.specs.Account.{Account, Current, ClientRequest, is_prepare, requests_for, view_of}
+pub use Rattle.qc_decl.specs.Vocabulary.{resp_of, weights_of}
 
 -- what came of a request, for a round: a site that neither grants, nor clashes, nor is closed, is missing
 abbrev pub standing_of : Option Answer → Standing
@@ -33,10 +34,6 @@ standing_of answer =
 
 abbrev pub asked_by : ClientRequest → Asked
 asked_by q = record { site = q.site; standing = option_map standing_of q.taken }
-
--- the weights of an epoch's plan
-abbrev pub weights_of : Declaration → ℕ → List ℕ
-weights_of decl epoch = option_map_or (λ (p : Plan). p.weights) (plan_in decl epoch) []
 
 -- the round of a half, by the plan of the transaction's epoch and in the client's order of sites, as far as it has come
 abbrev pub round_of : Declaration → Account → Current → (Want → Bool) → ℕ → RoundState
@@ -60,13 +57,6 @@ answer_by t object inv rules =
 
 abbrev pub answer_of : Declaration → Current → ℕ → ℕ → Option ℕ
 answer_of decl t object inv = option_and_then (answer_by t object inv) (table_at decl object)
-
--- the response of an event
-abbrev pub resp_of : Declaration → ℕ → ℕ → ℕ
-resp_of decl object event =
-    unwrap_or
-    (option_and_then (λ (rules : Rules). option_map (λ (e : Event). e.resp) (slice_get (events_of rules.rows) event))
-    (table_at decl object)) 0
 
 -- the own line of the next operation: operations are numbered from 1, those without a response too
 abbrev pub next_own : Current → ℕ → ℕ → OwnLine

@@ -17,9 +17,7 @@ use Rattle.qc_msg.specs.Vocabulary.{Decided, Deed, Finished, Requested, decision
 use Rattle.qc_msg.specs.declared.payload.EpochStart.{EpochStart}
 use Rattle.qc_msg.specs.Vocabulary.{install_in, installing_in, prepare_in, request_in, written_in}
 use Rattle.qc_promise.specs.Lifetimes.{lifetime}
-
-abbrev pub clocks_of : List Line → List ℕ
-clocks_of lines = map (λ (l : Line). l.stamp.clock) lines
+pub use Rattle.qc_entry.specs.Vocabulary.{clocks_of}
 
 -- what was taken
 

@@ -39,6 +39,8 @@ use Rattle.qc_promise.specs.SiteHeld.{held_shown}
 use Rattle.qc_promise.specs.SiteLogs.{log_shown, recorded_shown, since_shown}
 use Rattle.qc_promise.specs.SitePromises.{is_promised, prepared_shown}
 use Rattle.qc_promise.specs.SiteRecords.{closed_shown, epoch_shown, life_shown}
+pub use Rattle.qc_entry.specs.Vocabulary.{in_order, promise_cmp}
+pub use Rattle.qc_decl.specs.Vocabulary.{relation_at}
 
 -- the refusal that the request's epoch and life are due, if any
 
@@ -74,9 +76,6 @@ fits_record p = nat_le (prepare_length p) most_record_bytes
 
 -- the refusal that the want is due, if any: the least of what is in its way; a Prepare of what isn't held, and one
 -- whose promise would be longer than a record
-
-abbrev pub relation_at : Declaration → ℕ → List ℕ
-relation_at decl object = option_map_or (λ (k : Kind). k.relation) (kind_at decl object) []
 
 abbrev pub clash_told : Conflict → Answer
 clash_told c = answers.Clash c.holder c.inv c.event
@@ -176,9 +175,6 @@ telling_turn e answer = sending (record { to = e.from; message = messages.Answer
 
 -- that of a Close: a closed site tells its clock, its log, and its promises in the order of their transactions
 
-abbrev pub promise_cmp : Prepared → Prepared → Ordering
-promise_cmp = on (λ (p : Prepared). p.tx) tx_cmp
-
 abbrev pub promises_told : List Prepared → List Prepared
 promises_told ps = fold (inserted promise_cmp) [] ps
 
@@ -217,9 +213,6 @@ turn_due decl ds given = option_map_or (heard_turn decl ds) (heard_in given) qui
 
 -- that of a rise: it writes so, and then asks the clients of the transactions that it has promised, in their order, of
 -- no more than the first 65,536
-
-abbrev pub in_order : List TxId → List TxId
-in_order txs = fold (inserted tx_cmp) [] txs
 
 abbrev pub rising_turn : Declaration → List Deed → TurnDue
 rising_turn decl ds =

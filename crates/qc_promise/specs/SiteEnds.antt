@@ -9,17 +9,13 @@ use Rattle.qc_msg.specs.declared.message.Outcome.{Outcome}
 use Rattle.qc_msg.specs.declared.message.Outcome.TheVariants.{Committed, Aborted, Active}
 use Rattle.qc_msg.specs.declared.record.Record.{Record}
 use Rattle.qc_msg.specs.Vocabulary.{Decided, Deed, Finished, decided_in, done_in, install_in, prepare_in, written_in}
+pub use Rattle.qc_msg.specs.Vocabulary.{is_final}
 
 -- a Decision on the transaction of which the test holds
 abbrev pub is_decision : (Outcome → Bool) → TxId → Deed → Bool
 is_decision test tx d = option_map_or (λ (x : Decided). same_tx x.tx tx && test x.verdict) (decided_in d) false
 
 -- a transaction ends as a Decision on it is taken, other than Active
-
-abbrev pub is_final : Outcome → Bool
-is_final (Committed stamp) = true
-is_final Aborted = true
-is_final Active = false
 
 abbrev pub is_ended : TxId → List Deed → Bool
 is_ended tx ds = list_any (is_decision is_final tx) ds

@@ -18,6 +18,8 @@ use Rattle.qc_msg.specs.Vocabulary.{request_in, written_in}
 use Rattle.qc_promise.specs.Lifetimes.{lifetime, records_in}
 use Rattle.qc_promise.specs.SiteHeld.{is_granted}
 use Rattle.qc_promise.specs.SiteRecords.{last_prepare}
+pub use Rattle.qc_msg.specs.Vocabulary.{view_in}
+pub use Rattle.qc_entry.specs.Vocabulary.{stamped}
 
 -- what an epoch began with, and the lines since
 pub record Lines : Type 0 where
@@ -36,9 +38,6 @@ learning l lines = record l { since = union l.since (without lines l.began) }
 
 -- The lines that records give: a Prepare its lines; a Done the own lines of the last Prepare of its transaction before
 -- it, with its clock and the transaction's client as their stamp. With an Install another epoch begins.
-
-abbrev pub stamped : Stamp → TxId → OwnLine → Line
-stamped stamp tx o = record { stamp = stamp; tx = tx; op = o.op; object = o.object; event = o.event }
 
 abbrev pub lines_of : Stamp → TxId → List OwnLine → List Line
 lines_of stamp tx own = fold (λ (lines : List Line) (o : OwnLine). union lines (stamped stamp tx o ∷ [])) [] own
@@ -77,11 +76,6 @@ recorded_shown ds = (recorded_by (records_in ds)).since
 
 -- The log: what the records give that the site rose with, and since then the views of granted Appends and what the Done
 -- records give, until an Install. What came with grants is lost at a rise.
-
-abbrev pub view_in : Want → List Line
-view_in (Read read) = []
-view_in (Append object view own) = view
-view_in Prepare = []
 
 abbrev pub view_by : List Deed → Envelope → List Line
 view_by after e =

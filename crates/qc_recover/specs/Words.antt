@@ -11,6 +11,7 @@ use Rattle.qc_msg.specs.Vocabulary.{Finished, done_in, install_in, prepare_in, i
 use Rattle.qc_msg.specs.declared.payload.EpochStart.{EpochStart}
 use Rattle.qc_entry.specs.declared.record.Prepared.{Prepared}
 use Rattle.qc_entry.specs.declared.record.Commit.{Commit}
+pub use Rattle.qc_entry.specs.Vocabulary.{clocks_of}
 
 -- whether a life begins with the record: that of a rise, or of a closed epoch
 abbrev pub begins_life : Record → Bool
@@ -19,9 +20,6 @@ begins_life written = is_life written || is_some (close_in written)
 -- whether it is that of a rise
 abbrev pub is_rise : Record → Bool
 is_rise written = is_life written
-
-abbrev pub clocks_of : List Line → List ℕ
-clocks_of lines = map (λ (l : Line). l.stamp.clock) lines
 
 -- the clocks in a site's record
 abbrev pub clocks_in : Record → List ℕ

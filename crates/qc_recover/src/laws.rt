@@ -20,7 +20,7 @@ ghost use Rattle.qc_msg.specs.declared.record.Record.TheVariants.{Close, Commit,
 ghost use Rattle.qc_msg.specs.Payloads.{start_with};
 ghost use Rattle.qc_recover.specs.Clients.{client_of, client_rises};
 ghost use Rattle.qc_recover.specs.Sites.{site_of, site_rises};
-ghost use Rattle.qc_site.specs.Epochs.{in_order};
+ghost use Rattle.qc_entry.specs.Orders.{in_order};
 ghost use Rattle.qc_recover.specs.Words.{IsRecordSorted, begins_life, clocks_in, is_rise};
 ghost use Rattle.qc_site.specs.Conduct.{latest};
 ghost use Rattle.qc_site.specs.Promise.{is_prepared, prepared_of};

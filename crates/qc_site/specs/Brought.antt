@@ -17,12 +17,7 @@ use Rattle.qc_msg.specs.Vocabulary.{Deed, Falls, Rises, Sends, Takes, Tells, Wri
 use Rattle.qc_msg.specs.declared.payload.EpochStart.{EpochStart}
 use Rattle.qc_msg.specs.Vocabulary.{decision_in, installing_in, request_in}
 use Rattle.qc_site.specs.Promise.{lines_of, prepared_of}
-
--- the view that a request carries
-abbrev pub view_in : Want → List Line
-view_in (Read read) = []
-view_in (Append object view own) = view
-view_in Prepare = []
+pub use Rattle.qc_msg.specs.Vocabulary.{view_in}
 
 -- stamps: those of the lines of an Append's view and of an Install, and that of a committed transaction
 

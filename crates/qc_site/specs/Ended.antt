@@ -7,11 +7,7 @@ use Rattle.qc_msg.specs.declared.message.Message.{Message}
 use Rattle.qc_msg.specs.declared.message.Outcome.{Outcome}
 use Rattle.qc_msg.specs.declared.message.Outcome.TheVariants.{Committed, Aborted, Active}
 use Rattle.qc_msg.specs.Vocabulary.{Decided, decision_in}
-
-abbrev pub is_final : Outcome → Bool
-is_final (Committed stamp) = true
-is_final Aborted = true
-is_final Active = false
+pub use Rattle.qc_msg.specs.Vocabulary.{is_final}
 
 abbrev pub ends : Message → TxId → Bool
 ends message tx = option_map_or (λ (v : Decided). is_final v.verdict && same_tx v.tx tx) (decision_in message) false

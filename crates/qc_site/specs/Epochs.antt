@@ -17,14 +17,9 @@ use Rattle.qc_msg.specs.declared.record.Record.TheVariants as records
 use Rattle.qc_msg.specs.Vocabulary.{epoch_length}
 use Rattle.qc_msg.specs.Vocabulary.{snapshot_with, start_with}
 use Rattle.qc_site.specs.Site.{SiteState, SiteMove, moved, answers, known, recording}
+pub use Rattle.qc_entry.specs.Vocabulary.{in_order, promise_cmp}
 
 -- transactions in their order, and promises in that of their transactions
-
-abbrev pub in_order : List TxId → List TxId
-in_order txs = fold (inserted tx_cmp) [] txs
-
-abbrev pub promise_cmp : Prepared → Prepared → Ordering
-promise_cmp = on (λ (p : Prepared). p.tx) tx_cmp
 
 abbrev pub promises_in_order : List Prepared → List Prepared
 promises_in_order promises = fold (inserted promise_cmp) [] promises

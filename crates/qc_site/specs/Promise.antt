@@ -21,6 +21,7 @@ use Rattle.qc_msg.specs.declared.turn.Turn.{Turn}
 pub use Rattle.qc_msg.specs.Lengths.{prepare_length}
 use Rattle.qc_msg.specs.Vocabulary.{quiet}
 use Rattle.qc_site.specs.Site.{SiteState, SiteMove, learned, moved, answers, recording}
+pub use Rattle.qc_entry.specs.Vocabulary.{stamped}
 
 -- what the site would promise: all that the transaction holds, and the lines that no record gives yet
 abbrev pub promise_of : SiteState → TxId → Prepared
@@ -69,9 +70,6 @@ dropped s tx =
     record s { held = without_held s.held tx; prepared = without_prepared s.prepared tx }
 
 -- the lines of a committed transaction's own lines
-
-abbrev pub stamped : Stamp → TxId → OwnLine → Line
-stamped stamp tx o = record { stamp = stamp; tx = tx; op = o.op; object = o.object; event = o.event }
 
 abbrev pub with_stamped : Stamp → TxId → List Line → OwnLine → List Line
 with_stamped stamp tx lines o = union lines (stamped stamp tx o ∷ [])

@@ -21,6 +21,7 @@ use Rattle.qc_msg.specs.Vocabulary.{sending}
 use Rattle.qc_msg.specs.Vocabulary.{grant_with}
 use Rattle.qc_site.specs.Site.{SiteState, SiteMove, moved, answering, answers, known, learned}
 use Rattle.qc_site.specs.Promise.{prepares}
+pub use Rattle.qc_decl.specs.Vocabulary.{relation_at}
 
 -- what refuses a request of this epoch, which names this life: the first row that applies
 
@@ -65,10 +66,6 @@ appends s from number tx view own =
 abbrev pub appends_by : Declaration → SiteState → ℕ → ℕ → TxId → List Line → List OwnLine → Option Conflict → SiteMove
 appends_by decl s from number tx view own None = appends s from number tx view own
 appends_by decl s from number tx view own (Some c) = moved s (clashing decl from number c)
-
--- the dependency relation of an object's type; no run asks for an object that isn't declared, which depends on nothing
-abbrev pub relation_at : Declaration → ℕ → List ℕ
-relation_at decl object = option_map_or (λ (k : Kind). k.relation) (kind_at decl object) []
 
 -- a request of the site's epoch and life
 abbrev pub grants : Declaration → SiteState → ℕ → ℕ → TxId → Want → SiteMove

@@ -1,7 +1,8 @@
 //! How a site learns that a transaction ended.
 
 ghost use Rattle.std.specs.Prelude.{◌≡◌, IfOk, OnErr};
-ghost use Rattle.qc_site.specs.Promise.{dropped, finishes, joins, lines_of, prepared_of, records_done, stamped};
+ghost use Rattle.qc_site.specs.Promise.{dropped, finishes, joins, lines_of, prepared_of, records_done};
+ghost use Rattle.qc_entry.specs.Line.{stamped};
 
 use crate::Site;
 use qc_entry::{Line, Log, OwnLine};

@@ -9,7 +9,8 @@ ghost use Rattle.qc_entry.specs.Log.{of_object};
 ghost use Rattle.qc_lock.specs.Clash.{append_clash, read_clash};
 ghost use Rattle.qc_msg.specs.declared.message.Answer.TheVariants.{Granted};
 ghost use Rattle.qc_msg.specs.Payloads.{grant_with};
-ghost use Rattle.qc_site.specs.Requests.{appends_by, clashing, grants, names_declared, reads_by, relation_at};
+ghost use Rattle.qc_site.specs.Requests.{appends_by, clashing, grants, names_declared, reads_by};
+ghost use Rattle.qc_decl.specs.Lookup.{relation_at};
 ghost use Rattle.qc_site.specs.Site.{moved};
 
 use crate::Site;

@@ -3,7 +3,7 @@
 
 ghost use Rattle.std.specs.Prelude.{◌≡◌, List, OnOk, IfOk, length, map};
 ghost use Rattle.qc_stamp.specs.declared.stamp.TxId.{TxId};
-ghost use Rattle.qc_promise.specs.SiteEnds.{is_final};
+ghost use Rattle.qc_msg.specs.Readings.{is_final};
 ghost use Rattle.qc_promise.specs.SiteHeld.{is_granted};
 ghost use Rattle.qc_text.specs.Deeds.{deed_of};
 ghost use Rattle.qc_text.specs.Holders.{IsSetOf, ends_post, holders_at, holders_by, is_holding, sends_grant};

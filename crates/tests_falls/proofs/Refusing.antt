@@ -2,6 +2,8 @@
 use Rattle.std.proofs.Common.{◌≡◌, ℕ, List, [], ◌∷◌, length, Some, sym, ap, ◌∙◌}
 use Rattle.qc_core.specs.Vocabulary.{actor_after, turn_with_falls, with_record}
 use Rattle.qc_decl.specs.declared.declaration.Declaration.{Declaration}
+use Rattle.qc_msg.specs.declared.message.Answer.TheVariants as answers
+use Rattle.qc_msg.specs.declared.message.Message.TheVariants as messages
 use Rattle.qc_msg.specs.declared.record.Record.TheVariants as records
 use Rattle.qc_msg.specs.declared.reply.Reply.TheVariants as replies
 use Rattle.qc_msg.specs.declared.step.Step.{Step}
@@ -35,11 +37,16 @@ refused decl a h steps is done failed stopped turn lawful = by turn.append
     by Failed posts = failed (ap (λ (t : Turn). posted_as Failed (length (mail h)) t) here ∙ posts)
     by Stopped posts = stopped (ap (λ (t : Turn). posted_as Stopped (length (mail h)) t) here ∙ posts)
 
--- what tells posts apart: the life of the transaction that begins, the clock of the stamp that is written
+-- what tells posts apart: the life of the transaction that begins, the life that a grant tells, the clock of the stamp
+-- that is written
 
 abbrev pub life_begun : List Step → ℕ
 life_begun (steps.Told (replies.Began tx) ∷ xs) = tx.life
 life_begun _ = 0
+
+abbrev pub life_granted : List Step → ℕ
+life_granted (steps.Sent number to (messages.Answer request (answers.Granted grant)) ∷ xs) = grant.life
+life_granted _ = 0
 
 abbrev pub clock_written : List Step → ℕ
 clock_written (steps.Wrote (records.Commit c) ∷ xs) = c.stamp.clock

@@ -3,12 +3,14 @@ use Rattle.std.proofs.Common.{◌≡◌, ℕ, inl, inr, refl, ap}
 use Rattle.qc_decl.specs.Vocabulary.{three}
 use Rattle.tests_falls.specs.Refused.{IsNoPost, IsNoRise}
 use Rattle.tests_falls.specs.WrongFalls as wrong
-use Rattle.tests_falls.proofs.Refusing.{clock_written, life_begun, refused}
+use Rattle.tests_falls.proofs.Refusing.{clock_written, life_begun, life_granted, refused}
 
 pub old_life_refused : IsNoPost three 1 wrong.old_life wrong.old_life_then
 old_life_refused =
-    refused three 1 wrong.old_life wrong.old_life_then refl (λ e. let never : ⊥ = cc in never)
-    (λ e. let never : ⊥ = cc in never) (λ e. let never : ⊥ = cc in never)
+    refused three 1 wrong.old_life wrong.old_life_then refl
+    (λ e. let same : ◌≡◌ {A = ℕ} 2 1 = ap life_granted e in let never : ⊥ = cc in never)
+    (λ e. let same : ◌≡◌ {A = ℕ} 2 1 = ap life_granted e in let never : ⊥ = cc in never)
+    (λ e. let same : ◌≡◌ {A = ℕ} 2 1 = ap life_granted e in let never : ⊥ = cc in never)
 
 pub old_grant_refused : IsNoPost three 1 wrong.old_grant wrong.old_grant_then
 old_grant_refused =
