@@ -138,6 +138,7 @@ module _ (decl : Declaration) (accepted : IsAccepted decl) (acts : List Act) (ne
                 next = next ∙ ap (λ (n : ℕ). suc n) (sym ms.epoch);
                 lines = ms.log;
                 only = ms.logged;
+                passed = λ l among. ms.passed l (ms.logged l among);
                 sorted = known_ascends (net.sites a).began (net.sites a).log ms.sorted;
                 promised =
                     λ t. subst (λ (o : Option Prepared). IsPromiseOf (promise_of t
@@ -211,6 +212,7 @@ module _ (decl : Declaration) (accepted : IsAccepted decl) (acts : List Act) (ne
                 next = next ∙ ap (λ (n : ℕ). suc n) (sym here.epoch);
                 lines = here.log;
                 only = here.logged;
+                passed = λ l among. here.passed l (here.logged l among);
                 sorted = known_ascends (net.sites a).began (net.sites a).log ms.sorted;
                 promised = λ t. subst (λ (o : Option Prepared). IsPromiseOf (promise_of t (site_after more).prepared) o) (sym (order_found (net.sites a).prepared t ms.apart)) (here.promised t);
                 apart = order_apart (net.sites a).prepared ms.apart;

@@ -165,6 +165,7 @@ module _ (decl : Declaration) (w v : State) (l : Later w v) where
     next = s.next;
     lines = s.lines;
     only = s.only;
+    passed = s.passed;
     sorted = s.sorted;
     promised = s.promised;
     apart = s.apart;

@@ -1,5 +1,5 @@
 -- The laws of the machine, of every net that may come about.
-use Rattle.std.proofs.Common.{◌≡◌, ◌↔◌, ℕ, true, inl, inr, List, [], ◌∷◌, Option, Some, None, refl, sym, subst}
+use Rattle.std.proofs.Common.{◌≡◌, ◌≤◌, ◌↔◌, ℕ, true, inl, inr, List, [], ◌∷◌, Option, Some, None, refl, sym, subst}
 use Rattle.qc_stamp.specs.declared.stamp.Stamp.{Stamp}
 use Rattle.qc_stamp.specs.declared.stamp.TxId.{TxId}
 use Rattle.qc_list.specs.Vocabulary.{In}
@@ -18,6 +18,7 @@ use Rattle.qc_msg.specs.declared.message.Outcome.{Outcome}
 use Rattle.qc_msg.specs.declared.message.Outcome.TheVariants as outcomes
 use Rattle.qc_msg.specs.declared.message.Want.{Want}
 use Rattle.qc_msg.specs.declared.message.Want.TheVariants.{Read, Append, Prepare}
+use Rattle.qc_msg.specs.declared.payload.Snapshot.{Snapshot}
 use Rattle.theory_onecopy.specs.Vocabulary.{AreApart, IsLogged, IsOrdered, IsStampedBefore, OneCopy, sorted}
 use Rattle.theory_onecopy.proofs.Committed.{records_are_sorted}
 use Rattle.theory_onecopy.proofs.Lists.{in_split}
@@ -177,4 +178,17 @@ module _ (decl : Declaration) (accepted : IsAccepted decl) (net : Net) (reached 
       → e.message ≡ messages.Decision tx verdict → IsTrueVerdict net.written tx verdict
   decisions_agree_with_records e tx verdict sent is =
       told_of e tx verdict (subst (λ (x : Message). Backed decl (state mirrored.acts) net.mail e.from e.to x) is
+      (mirrored.agrees.mail e sent))
+
+  passed_of : (e : Envelope) (to : ℕ) (snapshot : Snapshot)
+      → Backed decl (state mirrored.acts) net.mail e.from e.to (messages.Answer to (answers.Shut snapshot))
+      → (l : Line) → In l snapshot.log → l.stamp.clock ≤ snapshot.clock
+  passed_of e to snapshot b = b.told.passed
+
+  pub closed_sites_pass_their_lines : (e : Envelope) (to : ℕ) (snapshot : Snapshot) → In e net.mail
+      → e.message ≡ messages.Answer to (answers.Shut snapshot) → (l : Line) → In l snapshot.log
+      → l.stamp.clock ≤ snapshot.clock
+  closed_sites_pass_their_lines e to snapshot sent is =
+      passed_of e to snapshot
+      (subst (λ (x : Message). Backed decl (state mirrored.acts) net.mail e.from e.to x) is
       (mirrored.agrees.mail e sent))

@@ -1,5 +1,5 @@
 -- What stands behind each message: what its sender has done in the machine.
-use Rattle.std.specs.Prelude.{◌≡◌, ◌≢◌, ◌⊎◌, ℕ, suc, ◌<◌, true, List, Some, None, slice_get}
+use Rattle.std.specs.Prelude.{◌≡◌, ◌≢◌, ◌⊎◌, ℕ, suc, ◌<◌, ◌≤◌, true, List, Some, None, slice_get}
 use Rattle.qc_stamp.specs.declared.stamp.TxId.{TxId}
 use Rattle.qc_list.specs.Vocabulary.{In}
 use Rattle.qc_entry.specs.declared.line.Line.{Line}
@@ -80,7 +80,7 @@ pub record IsVoteTo (votes : List YesVote) (mail : List Envelope) (site number :
   pub request : IsRequest mail number site tx Prepare
   pub vote : In (record { tx = tx; site = site }) votes
 
--- what a closed site told is a snapshot of the machine's site, in the epoch before this one
+-- what a closed site told is a snapshot of the machine's site, in the epoch before this one; its clock passed its lines
 pub record IsSnapshot (decl : Declaration) (now : State) (site epoch clock : ℕ) (log : List Line)
     (prepared : List Prepared) : Type 0 where
   pub snapshot : Snapshot
@@ -90,6 +90,7 @@ pub record IsSnapshot (decl : Declaration) (now : State) (site epoch clock : ℕ
   pub next : epoch ≡ suc (epoch_from 1 snapshot.before)
   pub lines : (l : Line) → In l (site_after snapshot.before).volatile → In l log
   pub only : (l : Line) → In l log → In l (site_after snapshot.before).volatile
+  pub passed : (l : Line) → In l log → l.stamp.clock ≤ clock
   pub sorted : IsAscending log
   pub promised : (t : TxId) → IsPromiseOf (promise_of t (site_after snapshot.before).prepared) (prepared_of prepared t)
   pub apart : AreApart prepared

@@ -2,16 +2,18 @@
 //! nothing to do: that it is a run's of the machine, and what follows of records
 //! and lines.
 
-ghost use Rattle.std.specs.Prelude.{◌≡◌, ℕ, true};
+ghost use Rattle.std.specs.Prelude.{◌≡◌, ◌≤◌, ℕ, true};
 ghost use Rattle.qc_decl.specs.Accepted.{IsAccepted};
 ghost use Rattle.qc_decl.specs.Actors.{administrator, is_site};
 ghost use Rattle.qc_decl.specs.declared.declaration.Declaration.{Declaration};
 ghost use Rattle.qc_entry.specs.declared.line.Line.{Line};
 ghost use Rattle.qc_list.specs.Members.{In};
 ghost use Rattle.qc_msg.specs.Begun.{first_epoch};
+ghost use Rattle.qc_msg.specs.declared.message.Answer.TheVariants.{Shut};
 ghost use Rattle.qc_msg.specs.declared.message.Envelope.{Envelope};
-ghost use Rattle.qc_msg.specs.declared.message.Message.TheVariants.{Decision};
+ghost use Rattle.qc_msg.specs.declared.message.Message.TheVariants.{Answer, Decision};
 ghost use Rattle.qc_msg.specs.declared.message.Outcome.{Outcome};
+ghost use Rattle.qc_msg.specs.declared.payload.Snapshot.{Snapshot};
 ghost use Rattle.qc_msg.specs.declared.step.Input.{Input};
 ghost use Rattle.theory_onecopy.specs.Committed.{AreApart, sorted};
 ghost use Rattle.theory_onecopy.specs.Logged.{IsLogged};
@@ -68,6 +70,14 @@ pub fn decisions_agree_with_records()
     ensures { (decl : Declaration) (net : Net) (e : Envelope) (tx : TxId) (verdict : Outcome) → IsAccepted decl
         → Reaches decl net → In e net.mail → e.message ≡ Decision tx verdict
         → IsTrueVerdict net.written tx verdict }
+{}
+
+/// What a site tells as it closes its epoch has a clock that has passed the stamp
+/// of each line in its log (Lamport 1978).
+pub fn closed_sites_pass_their_lines()
+    ensures { (decl : Declaration) (net : Net) → IsAccepted decl → Reaches decl net → (e : Envelope) (to : ℕ)
+        (snapshot : Snapshot) → In e net.mail → e.message ≡ Answer to (Shut snapshot) → (line : Line)
+        → In line snapshot.log → line.stamp.clock ≤ snapshot.clock }
 {}
 
 /// Each Decide record of the administrator is of the epoch after the last one,

@@ -18,7 +18,8 @@
 //! 3. So what the machine's runs keep, the system keeps: its commit records are
 //!    one copy's and apart (`nets_are_one_copy`), lines are operations of them
 //!    (`lines_are_operations`), Decisions agree with them
-//!    (`decisions_agree_with_records`).
+//!    (`decisions_agree_with_records`), and the clock that a site tells as it
+//!    closes has passed its lines (`closed_sites_pass_their_lines`).
 //! 4. What was promised is kept across falls: a vote stands on a record that its
 //!    site keeps (`votes_stand_on_records`), and is cast in the life that its
 //!    request names (`asked_sites_remember`, `later_votes_name_later_lives`).
@@ -33,6 +34,6 @@ pub use falls::{
     asked_sites_remember, decisions_may_wait, later_votes_name_later_lives, votes_stand_on_records,
 };
 pub use laws::{
-    decisions_agree_with_records, epochs_are_decided_in_turn, front_ends_stand,
-    lines_are_operations, nets_are_one_copy, nets_refine, sites_refine,
+    closed_sites_pass_their_lines, decisions_agree_with_records, epochs_are_decided_in_turn,
+    front_ends_stand, lines_are_operations, nets_are_one_copy, nets_refine, sites_refine,
 };
