@@ -14,7 +14,8 @@
 //!    and the net agrees with the state after them (`nets_refine`,
 //!    `sites_refine`).
 //! 2. Between two of its steps a front end is as its own laws say
-//!    (`front_ends_stand`).
+//!    (`front_ends_stand`), and no two open requests of a client are for one site
+//!    (`clients_have_one_open_request_at_a_site`).
 //! 3. So what the machine's runs keep, the system keeps: its commit records are
 //!    one copy's and apart (`nets_are_one_copy`), lines are operations of them
 //!    (`lines_are_operations`), Decisions agree with them
@@ -34,6 +35,7 @@ pub use falls::{
     asked_sites_remember, decisions_may_wait, later_votes_name_later_lives, votes_stand_on_records,
 };
 pub use laws::{
-    closed_sites_pass_their_lines, decisions_agree_with_records, epochs_are_decided_in_turn,
-    front_ends_stand, lines_are_operations, nets_are_one_copy, nets_refine, sites_refine,
+    clients_have_one_open_request_at_a_site, closed_sites_pass_their_lines,
+    decisions_agree_with_records, epochs_are_decided_in_turn, front_ends_stand,
+    lines_are_operations, nets_are_one_copy, nets_refine, sites_refine,
 };
