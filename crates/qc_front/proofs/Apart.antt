@@ -6,11 +6,7 @@ use Rattle.std.specs.List.{range_with_len}
 use Rattle.qc_list.specs.Vocabulary.{In}
 use Rattle.qc_list.proofs.Members.{In-first, In-second, In-unfiltered}
 use Rattle.qc_plan.specs.Vocabulary.{cyclic, weighing, weight_at}
-
--- no two are the same
-abbrev pub AreApart : List ℕ → Type 0
-AreApart [] = Unit {0}
-AreApart (x ∷ xs) = ((y : ℕ) → In y xs → x ≢ y) × AreApart xs
+pub use Rattle.qc_front.specs.Holds.{AreApart}
 
 pub apart_first : (xs ys : List ℕ) → AreApart (xs ++ ys) → AreApart xs
 apart_first [] ys apart = tt

@@ -20,3 +20,4 @@ pub mod Drafts
 pub mod Learning
 pub mod Moves
 pub mod Unwritten
+pub mod OpenSites

@@ -112,10 +112,10 @@ numbers-filter number (c ∷ calls) = by (c.number == number) (numbers-filter nu
 
 -- the open requests are as they should be once one of them is noted
 
-prefix_apart : (xs ys : List ℕ) → IsPrefix xs ys → AreApart ys → AreApart xs
+pub prefix_apart : (xs ys : List ℕ) → IsPrefix xs ys → AreApart ys → AreApart xs
 prefix_apart xs ys p apart = apart_first xs p.more (subst AreApart (sym p.is) apart)
 
-unnoted_apart : (asked : List Asked) → AreApart (sites_of asked) → AreApart (unnoted asked)
+pub unnoted_apart : (asked : List Asked) → AreApart (sites_of asked) → AreApart (unnoted asked)
 unnoted_apart [] apart = tt
 unnoted_apart (a ∷ rest) apart = by a.standing (unnoted_apart rest apart.1)
   where

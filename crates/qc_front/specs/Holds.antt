@@ -1,6 +1,6 @@
 -- What holds of a front end in every run.
-use Rattle.std.specs.Prelude.{◌≡◌, ℕ, ◌<◌, ◌≤◌, false, List, [], ◌++◌, filter, length, map, slice_get, ◌==◌, Option}
-use Rattle.std.specs.Prelude.{Some, None}
+use Rattle.std.specs.Prelude.{◌≡◌, ◌≢◌, ℕ, ◌<◌, ◌≤◌, false, List, [], ◌∷◌, ◌++◌, filter, length, map, slice_get, ◌==◌}
+use Rattle.std.specs.Prelude.{Option, Some, None}
 use Rattle.std.specs.Ordering.{nat_cmp}
 use Rattle.qc_list.specs.Vocabulary.{Ascends, In}
 use Rattle.qc_decl.specs.declared.declaration.Declaration.{Declaration}
@@ -42,6 +42,11 @@ pub record IsPrefix (xs ys : List ℕ) : Type 0 where
 
 abbrev pub sites_called : List Call → List ℕ
 sites_called calls = map (λ (c : Call). c.site) calls
+
+-- no two are the same
+abbrev pub AreApart : List ℕ → Type 0
+AreApart [] = Unit {0}
+AreApart (x ∷ xs) = ((y : ℕ) → In y xs → x ≢ y) × AreApart xs
 
 -- the open requests have ascending numbers. They went to awaited sites, in the order of asking: as many of them as have
 -- their numbers so far

@@ -14,7 +14,7 @@ pub use Rattle.qc_front.specs.Fits.{AsksFew, FrontFits, HasRoom}
 pub use Rattle.qc_front.specs.Front.{FrontMove, aborts, begins, ended, fresh, gives_up, moved, new_front, next_tx}
 pub use Rattle.qc_front.specs.Front.{turned}
 pub use Rattle.qc_front.specs.Going.{GoesOn, calls_in, is_idle}
-pub use Rattle.qc_front.specs.Holds.{AppendingHolds, AreOpen, BegunHolds, DoingHolds, FrontHolds, IsAwaiting}
+pub use Rattle.qc_front.specs.Holds.{AppendingHolds, AreApart, AreOpen, BegunHolds, DoingHolds, FrontHolds, IsAwaiting}
 pub use Rattle.qc_front.specs.Holds.{IsNumbered, IsPrefix, IsRound, ReadingHolds, RecordsHold, own_on, sites_called}
 pub use Rattle.qc_front.specs.Holds.{sites_of}
 pub use Rattle.qc_front.specs.Replies.{AppendCame, DoTold, ReadCame}

@@ -9,7 +9,7 @@ ghost use Rattle.qc_front.specs.Counted.{KeepsLives, Learns, asked_at, lives_of}
 ghost use Rattle.qc_front.specs.Fits.{FrontFits};
 ghost use Rattle.qc_front.specs.Front.{ended, moved, new_front};
 ghost use Rattle.qc_front.specs.Going.{GoesOn, calls_in, is_idle};
-ghost use Rattle.qc_front.specs.Holds.{FrontHolds, IsNumbered};
+ghost use Rattle.qc_front.specs.Holds.{AreApart, FrontHolds, IsNumbered, sites_called};
 ghost use Rattle.qc_front.specs.Replies.{DoTold};
 ghost use Rattle.qc_front.specs.Requests.{AreSent, AsksAtOnce, IsNextCall};
 ghost use Rattle.qc_front.specs.declared.front.Front.{Front};
@@ -99,6 +99,12 @@ pub fn dos_go_on()
         → is_idle front.doing ≡ false → GoesOn (takes decl front number answer) }
     ensures waits { (decl : Declaration) (front : Front) → FrontHolds decl front → IsNumbered front.doing
         → is_idle front.doing ≡ false → 0 < length (calls_in front.doing) }
+{}
+
+/// No two open requests are for one site: a round asks each site once.
+pub fn sites_have_one_open_request()
+    ensures { (decl : Declaration) (front : Front) → FrontHolds decl front
+        → AreApart (sites_called (calls_in front.doing)) }
 {}
 
 /// The first thing that comes of an open request counts, and all else changes

@@ -23,6 +23,6 @@ pub use laws::{
     answers_ask_at_once, answers_keep_hold, clocks_pass_grants, commands_ask_at_once,
     commands_keep_hold, counts_rise_by_one, dos_go_on, first_grants_give_lives, front_ends_fit,
     new_front_ends_hold, numbers_keep_hold, replies_are_as_rounds_come, requests_count_once,
-    turns_send_requests_and_verdicts,
+    sites_have_one_open_request, turns_send_requests_and_verdicts,
 };
 pub use transaction::{Transaction, Views};
