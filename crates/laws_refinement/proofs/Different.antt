@@ -9,8 +9,8 @@ use Rattle.qc_msg.specs.declared.begun.Begun.{Begun}
 use Rattle.qc_msg.specs.Vocabulary.{has_granted}
 use Rattle.qc_plan.specs.Vocabulary.{cyclic}
 use Rattle.qc_commit.specs.Vocabulary.{participants}
+use Rattle.qc_front.specs.Vocabulary.{AreApart}
 use Rattle.qc_front.proofs.Apart.{apart_filter, in_split}
-use Rattle.laws_refinement.specs.Vocabulary.{AreDifferent}
 
 -- what is left of a list has different numbers too
 
@@ -25,13 +25,13 @@ kept_among {A = A} f test (x ∷ xs) k among = by (test x) among (kept_among f t
     by true (inr rest) more = inr (more rest)
     by false rest more = inr (more rest)
 
-pub kept_different : {A : Type 0} (f : A → ℕ) (test : A → Bool) (xs : List A) → AreDifferent (map f xs)
-    → AreDifferent (map f (filter test xs))
+pub kept_different : {A : Type 0} (f : A → ℕ) (test : A → Bool) (xs : List A) → AreApart (map f xs)
+    → AreApart (map f (filter test xs))
 kept_different f test [] different = tt
 kept_different {A = A} f test (x ∷ xs) different = by (test x) (kept_different f test xs different.1)
   where
-    by : (b : Bool) → AreDifferent (map f (filter test xs))
-        → AreDifferent (map f (cond b (x ∷ filter test xs) (filter test xs)))
+    by : (b : Bool) → AreApart (map f (filter test xs))
+        → AreApart (map f (cond b (x ∷ filter test xs) (filter test xs)))
     by true rest = (λ y among. different.0 y (kept_among f test xs y among), rest)
     by false rest = rest
 
@@ -45,7 +45,7 @@ in_range first (suc count) x (inr among) =
     let more : (first + 1 ≤ x) × (x < (first + 1) + count) = in_range (first + 1) count x among in
     (let low : first + 1 ≤ x = more.0 in omega arith, let high : x < (first + 1) + count = more.1 in omega arith)
 
-range_different : (first count : ℕ) → AreDifferent (range_with_len first count)
+range_different : (first count : ℕ) → AreApart (range_with_len first count)
 range_different first zero = tt
 range_different first (suc count) = (
   λ y among same. (let more : (first + 1 ≤ y) × (y < (first + 1) + count) = in_range (first + 1) count y among in
@@ -53,8 +53,8 @@ range_different first (suc count) = (
   range_different (first + 1) count,
 )
 
-both_different : (xs ys : List ℕ) → AreDifferent xs → AreDifferent ys → ((x y : ℕ) → In x xs → In y ys → x ≢ y)
-    → AreDifferent (xs ++ ys)
+both_different : (xs ys : List ℕ) → AreApart xs → AreApart ys → ((x y : ℕ) → In x xs → In y ys → x ≢ y)
+    → AreApart (xs ++ ys)
 both_different [] ys first second across = second
 both_different (x ∷ xs) ys first second across = (
   λ y among. by y (in_split y xs ys among),
@@ -65,7 +65,7 @@ both_different (x ∷ xs) ys first second across = (
     by y (inl among) = first.0 y among
     by y (inr among) = across x y (inl refl) among
 
-cyclic_different : (sites first : ℕ) → AreDifferent (cyclic sites first)
+cyclic_different : (sites first : ℕ) → AreApart (cyclic sites first)
 cyclic_different sites first =
     both_different (range_with_len first (sites - first)) (range_with_len 0 first)
     (range_different first (sites - first)) (range_different 0 first)
@@ -76,7 +76,7 @@ cyclic_different sites first =
 
 -- a commit asks each participant once
 pub participants_different : (decl : Declaration) (client : ℕ) (b : Begun)
-    → AreDifferent (participants decl client b)
+    → AreApart (participants decl client b)
 participants_different decl client b =
     apart_filter (has_granted b.lives) (cyclic decl.sites (first_site decl client))
     (cyclic_different decl.sites (first_site decl client))

@@ -12,11 +12,11 @@ use Rattle.qc_msg.specs.declared.step.Input.TheVariants.{Called, Got, Lost}
 use Rattle.qc_commit.specs.declared.desk.Voting.{Voting}
 use Rattle.qc_front.specs.declared.doing.Doing.{Doing}
 use Rattle.qc_front.specs.Conduct as fronts
-use Rattle.qc_front.specs.Vocabulary.{calls_in, sites_called}
+use Rattle.qc_front.specs.Vocabulary.{AreApart, calls_in, sites_called}
 use Rattle.qc_client.specs.Vocabulary.{answered_by, client_takes, heard}
 use Rattle.qc_client.specs.declared.client.Client.{Client}
 use Rattle.qc_recover.specs.Vocabulary.{client_rises}
-use Rattle.laws_refinement.specs.Vocabulary.{AreDifferent, MayCommand, Net, Reaches, calls_voting, open_requests}
+use Rattle.laws_refinement.specs.Vocabulary.{MayCommand, Net, Reaches, calls_voting, open_requests}
 use Rattle.laws_refinement.specs.Vocabulary.{sent_all}
 use Rattle.laws_refinement.specs.Net as nets
 use Rattle.laws_refinement.proofs.Machine.{put_one}
@@ -24,12 +24,12 @@ use Rattle.laws_refinement.proofs.OneRequests.{Stands, VotesStand, begun_differe
 use Rattle.laws_refinement.proofs.OneRequests.{vote_stands}
 use Rattle.laws_refinement.proofs.Standing.{front_ends_stand}
 
-both_different : (d : Doing) (o : Option Voting) → AreDifferent (sites_called (calls_in d)) → VotesStand d o
-    → AreDifferent (sites_called (calls_in d ++ calls_voting o))
+both_different : (d : Doing) (o : Option Voting) → AreApart (sites_called (calls_in d)) → VotesStand d o
+    → AreApart (sites_called (calls_in d ++ calls_voting o))
 both_different d None different s =
-    subst (λ (cs : List Call). AreDifferent (sites_called cs)) (sym (append-nil (calls_in d))) different
+    subst (λ (cs : List Call). AreApart (sites_called cs)) (sym (append-nil (calls_in d))) different
 both_different d (Some v) different s =
-    subst (λ (x : Doing). AreDifferent (sites_called (calls_in x ++ v.calls))) (sym s.0) s.1
+    subst (λ (x : Doing). AreApart (sites_called (calls_in x ++ v.calls))) (sym s.0) s.1
 
 module _ (decl : Declaration) where
   answered_stands : (c : Client) (number : ℕ) (answer : Option Answer) (n : ℕ) (o : Option Voting)
@@ -86,7 +86,7 @@ module _ (decl : Declaration) where
   each_stands net (nets.admin_rises_in_vain back before r down given) a = each_stands before r a
 
   pub clients_have_one_open_request_at_a_site : (net : Net) → Reaches decl net → (a : ℕ)
-      → AreDifferent (sites_called (open_requests (net.clients a)))
+      → AreApart (sites_called (open_requests (net.clients a)))
   clients_have_one_open_request_at_a_site net r a =
       both_different (net.clients a).front.doing (net.clients a).desk.voting
       (begun_different decl (net.clients a).front.client (net.clients a).front.transaction (net.clients a).front.doing

@@ -31,12 +31,12 @@ use Rattle.qc_front.specs.declared.front.Front.{Front}
 use Rattle.qc_front.specs.declared.transaction.Transaction.{Transaction}
 use Rattle.qc_front.specs.Conduct as fronts
 use Rattle.qc_front.specs.Holds.{BegunHolds, DoingHolds}
-use Rattle.qc_front.specs.Vocabulary.{FrontMove, IsPrefix, IsRound, awaited, calls_in, sites_called}
+use Rattle.qc_front.specs.Vocabulary.{AreApart, FrontMove, IsPrefix, IsRound, awaited, calls_in, sites_called}
 use Rattle.qc_front.proofs.Apart.{apart_first}
 use Rattle.qc_front.proofs.NotedRounds.{round_apart}
 use Rattle.qc_client.specs.Vocabulary.{IsFree, by_desk, by_front, called, commits, requested, sent_one}
 use Rattle.qc_client.specs.declared.client.Client.{Client}
-use Rattle.laws_refinement.specs.Vocabulary.{AreDifferent, sent_all}
+use Rattle.laws_refinement.specs.Vocabulary.{sent_all}
 use Rattle.laws_refinement.proofs.Different.{kept_different, participants_different}
 
 -- a round
@@ -46,14 +46,14 @@ site_of a = a.site
 
 round_different : (decl : Declaration) (client epoch need : ℕ) (calls : List Call) (r : RoundState)
     → IsRound decl client epoch need r → IsPrefix (sites_called calls) (awaited r)
-    → AreDifferent (sites_called calls)
+    → AreApart (sites_called calls)
 round_different decl client epoch need calls r is prefix =
     apart_first (sites_called calls) prefix.more
-    (subst AreDifferent (sym prefix.is)
+    (subst AreApart (sym prefix.is)
     (kept_different site_of (λ (a : Asked). is_none a.standing) r.asked (round_apart decl client epoch need r is)))
 
 doing_different : (decl : Declaration) (client : ℕ) (t : Transaction) (d : Doing) → DoingHolds decl client t d
-    → AreDifferent (sites_called (calls_in d))
+    → AreApart (sites_called (calls_in d))
 doing_different decl client t Idle holds = tt
 doing_different decl client t (Reading object inv calls round) holds =
     round_different decl client _ _ calls round holds.round_is holds.calls_are.sites
@@ -61,16 +61,16 @@ doing_different decl client t (Appending object inv event calls round) holds =
     round_different decl client _ _ calls round holds.round_is holds.calls_are.sites
 
 pub begun_different : (decl : Declaration) (client : ℕ) (o : Option Transaction) (d : Doing)
-    → BegunHolds decl client o d → AreDifferent (sites_called (calls_in d))
+    → BegunHolds decl client o d → AreApart (sites_called (calls_in d))
 begun_different decl client None d idle =
-    subst (λ (x : Doing). AreDifferent (sites_called (calls_in x))) (sym idle) tt
+    subst (λ (x : Doing). AreApart (sites_called (calls_in x))) (sym idle) tt
 begun_different decl client (Some t) d holds = doing_different decl client t d holds.1
 
 -- a vote: nothing of the front end is open, and its requests are for different sites
 
 abbrev pub VotesStand : Doing → Option Voting → Type 0
 VotesStand doing None = Unit {0}
-VotesStand doing (Some v) = (doing ≡ Idle) × AreDifferent (sites_called v.calls)
+VotesStand doing (Some v) = (doing ≡ Idle) × AreApart (sites_called v.calls)
 
 abbrev pub Stands : Client → Type 0
 Stands c = VotesStand c.front.doing c.desk.voting
@@ -110,12 +110,12 @@ ends c n ps none = unvoted (sent_all c n ps) (all_none c n ps none)
 -- Prepares are sent to different sites
 
 asks : (front : Front) (desk : Desk) (v : Voting) (b : Begun) (sites : List ℕ) (n : ℕ) → front.doing ≡ Idle
-    → AreDifferent (sites_called v.calls ++ sites)
+    → AreApart (sites_called v.calls ++ sites)
     → Stands (sent_all (record { front = front; desk = with_voting desk (Some v) }) n (map (prepares b) sites))
-asks front desk v b [] n idle different = (idle, subst AreDifferent (append-nil (sites_called v.calls)) different)
+asks front desk v b [] n idle different = (idle, subst AreApart (append-nil (sites_called v.calls)) different)
 asks front desk v b (site ∷ sites) n idle different =
     asks front desk (record v { calls = with_call v.calls n site }) b sites (n + 1) idle
-    (subst AreDifferent
+    (subst AreApart
     (sym (ap (λ (ss : List ℕ). ss ++ sites)
     (map-append (λ (c : Call). c.site) v.calls (record { number = n; site = site } ∷ []))
     ∙ append_assoc (sites_called v.calls) (site ∷ []) sites)) different)

@@ -1,6 +1,5 @@
 -- The open requests of a client, by the sites that they are for.
-use Rattle.std.specs.Prelude.{◌≢◌, ℕ, List, [], ◌∷◌, ◌++◌, Option, Some, None}
-use Rattle.qc_list.specs.Vocabulary.{In}
+use Rattle.std.specs.Prelude.{List, [], ◌++◌, Option, Some, None}
 use Rattle.qc_msg.specs.declared.call.Call.{Call}
 use Rattle.qc_commit.specs.declared.desk.Voting.{Voting}
 use Rattle.qc_front.specs.Vocabulary.{calls_in}
@@ -14,8 +13,3 @@ calls_voting (Some v) = v.calls
 -- the calls of a client: those of the running round, and those of the running vote
 abbrev pub open_requests : Client → List Call
 open_requests c = calls_in c.front.doing ++ calls_voting c.desk.voting
-
--- no two of the numbers are the same
-abbrev pub AreDifferent : List ℕ → Type 0
-AreDifferent [] = Unit {0}
-AreDifferent (x ∷ xs) = ((y : ℕ) → In y xs → x ≢ y) × AreDifferent xs

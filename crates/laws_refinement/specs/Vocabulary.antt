@@ -16,7 +16,7 @@ pub use Rattle.laws_refinement.specs.Net.{IsGivenBack, IsNamed, IsNamedAt, MayAd
 pub use Rattle.laws_refinement.specs.Net.{Reaches, after_admin, after_admin_rise, after_client, after_client_rise}
 pub use Rattle.laws_refinement.specs.Net.{after_fall, after_site, after_site_rise, after_vain_rise, all_sent}
 pub use Rattle.laws_refinement.specs.Net.{commits_in, first_net, sent_all}
-pub use Rattle.laws_refinement.specs.Requests.{AreDifferent, calls_voting, open_requests}
+pub use Rattle.laws_refinement.specs.Requests.{calls_voting, open_requests}
 pub use Rattle.laws_refinement.specs.Rules.{AreInTurn, IsNextRule, rule_after}
 pub use Rattle.laws_refinement.specs.Sites.{AreApart, AreLined, AreSingle, IsApart, IsClosing, IsDecided, IsFinishing}
 pub use Rattle.laws_refinement.specs.Sites.{IsHeld, IsKeptBy, IsPendingAt, IsPlanned, IsPreparing, IsPromiseOf}

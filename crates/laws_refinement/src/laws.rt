@@ -7,6 +7,7 @@ ghost use Rattle.qc_decl.specs.Accepted.{IsAccepted};
 ghost use Rattle.qc_decl.specs.Actors.{administrator, is_site};
 ghost use Rattle.qc_decl.specs.declared.declaration.Declaration.{Declaration};
 ghost use Rattle.qc_entry.specs.declared.line.Line.{Line};
+ghost use Rattle.qc_front.specs.Holds as requests;
 ghost use Rattle.qc_front.specs.Holds.{sites_called};
 ghost use Rattle.qc_list.specs.Members.{In};
 ghost use Rattle.qc_msg.specs.Begun.{first_epoch};
@@ -25,7 +26,7 @@ ghost use Rattle.qc_stamp.specs.declared.stamp.TxId.{TxId};
 ghost use Rattle.laws_refinement.specs.Lines.{IsTrueVerdict, lines_in};
 ghost use Rattle.laws_refinement.specs.Mirrors.{FrontStands, Refines};
 ghost use Rattle.laws_refinement.specs.Net.{MayCome, Net, Reaches, after_site};
-ghost use Rattle.laws_refinement.specs.Requests.{AreDifferent, open_requests};
+ghost use Rattle.laws_refinement.specs.Requests.{open_requests};
 ghost use Rattle.laws_refinement.specs.Rules.{AreInTurn};
 
 /// Every net of sites, clients and an administrator that may come about, with
@@ -53,7 +54,7 @@ pub fn front_ends_stand()
 /// those of its vote together.
 pub fn clients_have_one_open_request_at_a_site()
     ensures { (decl : Declaration) (net : Net) (a : ℕ) → Reaches decl net
-        → AreDifferent (sites_called (open_requests (net.clients a))) }
+        → requests.AreApart (sites_called (open_requests (net.clients a))) }
 {}
 
 /// The commit records that stand are one copy's, in the order of their stamps;

@@ -13,6 +13,7 @@ pub mod Recording
 pub mod Promising
 pub mod Stamps
 pub mod SiteClocks
+pub mod ShutLines
 pub mod PromisesKept
 pub mod LocksPromised
 pub mod PromisedLocks

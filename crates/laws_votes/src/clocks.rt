@@ -9,7 +9,11 @@ ghost use Rattle.qc_entry.specs.declared.record.Commit.{Commit};
 ghost use Rattle.laws_votes.specs.Counted.{IsCountedInLife};
 ghost use Rattle.laws_votes.specs.Recorded.{IsRecorded};
 ghost use Rattle.qc_list.specs.Members.{In};
-ghost use Rattle.qc_msg.specs.Deeds.{deeds};
+ghost use Rattle.qc_msg.specs.Deeds.{deeds, mail};
+ghost use Rattle.qc_msg.specs.declared.message.Answer.TheVariants.{Shut};
+ghost use Rattle.qc_msg.specs.declared.message.Envelope.{Envelope};
+ghost use Rattle.qc_msg.specs.declared.message.Message.TheVariants.{Answer};
+ghost use Rattle.qc_msg.specs.declared.payload.Snapshot.{Snapshot};
 ghost use Rattle.qc_msg.specs.declared.record.Record.TheVariants.{Done};
 ghost use Rattle.qc_promise.specs.SiteClocks.{clock_shown};
 ghost use Rattle.qc_promise.specs.SiteLogs.{log_shown};
@@ -43,4 +47,12 @@ pub fn sites_clocks_pass_their_dones_through_falls<C: ConductWithFalls>()
     ensures { OfEachKeptRun C.fits (λ decl script h open_inputs. (site : ℕ) (tx : TxId) (clock : ℕ)
         → is_site decl site ≡ true → slice_get open_inputs site ≡ Some false → is_up (deeds site [] h) ≡ true
         → In (Done tx clock) (records_of h site) → clock ≤ clock_shown (deeds site [] h)) }
+{}
+
+/// What a site tells as it closes its epoch has a clock that has passed the stamp
+/// of each line in its log (Lamport 1978).
+pub fn shuts_pass_their_lines_through_falls<C: ConductWithFalls>()
+    ensures { OfEachKeptRun C.fits (λ decl script h open_inputs. (e : Envelope) (to : ℕ) (snapshot : Snapshot)
+        → In e (mail h) → e.message ≡ Answer to (Shut snapshot) → (line : Line) → In line snapshot.log
+        → line.stamp.clock ≤ snapshot.clock) }
 {}

@@ -21,7 +21,9 @@
 //!    its client counted before in that life
 //!    (`stamps_pass_what_was_counted_in_their_lives`); a site's clock has passed
 //!    the lines that it knows (`sites_clocks_pass_their_lines_through_falls`), and
-//!    the Dones on its disk (`sites_clocks_pass_their_dones_through_falls`).
+//!    the Dones on its disk (`sites_clocks_pass_their_dones_through_falls`). What a
+//!    site tells as it closes has a clock that has passed its lines
+//!    (`shuts_pass_their_lines_through_falls`).
 //! 5. With a line, the log that a Read is granted has each committed line of its
 //!    object before it on which its invocation depends
 //!    (`granted_logs_are_closed_through_falls`).
@@ -111,7 +113,8 @@ pub use asked_votes::{
     granted_sites_hold_through_falls,
 };
 pub use clocks::{
-    sites_clocks_pass_their_dones_through_falls, sites_clocks_pass_their_lines_through_falls,
+    shuts_pass_their_lines_through_falls, sites_clocks_pass_their_dones_through_falls,
+    sites_clocks_pass_their_lines_through_falls,
     stamps_pass_what_was_counted_in_their_lives,
 };
 pub use count_laws::{committed_operations_are_counted, records_that_rise_are_counted};
