@@ -176,6 +176,12 @@ def make(source, head, groups):
     return modules, lemmas
 
 
+def spans(count):
+    """Where each group begins and ends. The longest histories stand in smaller ones, so that files stay short."""
+    starts = [k for k in range(0, count, GROUP // 2) if k % GROUP == 0 or k > count - GROUP]
+    return list(zip(starts, starts[1:] + [count]))
+
+
 def histories_in(model):
     """The worked and the random histories: names, scripts, takers."""
     sys.path.insert(0, model)
@@ -198,11 +204,10 @@ def main(words):
     modules, lemmas = make("worked", "Histories that were worked by hand first.", [
         ("worked_histories", "worked histories", "", "Worked", worked)])
     groups = []
-    for k in range(0, len(random), GROUP):
-        group = random[k:k + GROUP]
-        span = k + 1, k + len(group)
-        groups.append(("histories_%d_to_%d" % span, "random histories %d to %d" % span, str(k // GROUP + 1),
-                       "Random%dTo%d" % span, group))
+    for k, end in spans(len(random)):
+        span = k + 1, end
+        groups.append(("histories_%d_to_%d" % span, "random histories %d to %d" % span, str(len(groups) + 1),
+                       "Random%dTo%d" % span, random[k:end]))
     more = make("random", "Random histories of the model, from the shortest to the longest.", groups)
     write("specs/Lib.antt", "".join("pub mod %s\n" % m for m in ["Perform", "Whole", "Words"] + modules + more[0]))
     write("proofs/Lib.antt", "".join("pub mod %s\n" % m for m in ["Sound"] + lemmas + more[1]))

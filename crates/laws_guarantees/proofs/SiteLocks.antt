@@ -74,7 +74,7 @@ drop_back held u tx x h = by (same_tx u tx) refl
     by false other = subst (λ (e : Held). In x e.locks) (held-without_other held u tx other) h
 
 abbrev pub Asks : Message → TxId → ReadLock → Type 0
-Asks m tx x = (epoch : ℕ) × (life : ℕ) × (m ≡ messages.Request tx epoch life (Read x))
+Asks m tx x = (epoch : ℕ) × (life : ℕ) × (m ≡ messages.Request tx epoch life (Read (read_of x.object x.inv)))
 
 pub locks_were_asked : (decl : Declaration) (s : SiteState) (from number : ℕ) (m : Message) (tx : TxId) (x : ReadLock)
     → IsCalmMessage m → In x (held_of (site_at decl s from number m).site.held tx).locks

@@ -21,6 +21,7 @@ use Rattle.qc_msg.specs.declared.message.Outcome.TheVariants as outcomes
 use Rattle.qc_msg.specs.declared.message.Want.{Want}
 use Rattle.qc_msg.specs.declared.message.Want.TheVariants.{Read, Prepare}
 use Rattle.qc_msg.specs.Vocabulary.{Entry, Sends, answered, deeds, first_epoch, has_granted, mail, operations_of}
+use Rattle.qc_msg.specs.Vocabulary.{read_of}
 use Rattle.qc_plan.specs.Vocabulary.{cyclic}
 use Rattle.qc_promise.specs.Vocabulary.{Account, ClientRequest, Current, account, is_append}
 use Rattle.theory_machine.specs.Vocabulary.{IsOutcome, Status, Voting as IsVoting, state}
@@ -59,8 +60,8 @@ module _ (decl : Declaration) (d : Account) (c : Client) (q : ClientRequest) (k 
   -- its client waits for votes
   pub voting_tie : Ties decl d c → Votes decl d c
   voting_tie (rests r) = absurd (subst (λ (qs : List ClientRequest). In q qs) r.requests k.among)
-  voting_tie (reads r) = absurd (let read : q.want ≡ Read r =
-      every-In (λ (x : ClientRequest). x.want ≡ Read r) q d.requests r.reads k.among in
+  voting_tie (reads r) = absurd (let read : q.want ≡ Read (read_of r.object r.inv) =
+      every-In (λ (x : ClientRequest). x.want ≡ Read (read_of r.object r.inv)) q d.requests r.reads k.among in
       let p : q.want ≡ Prepare = k.want in let never : ⊥ = cc in never)
   voting_tie (appends r) = absurd (
       let half : is_append q.want ≡ true = every-In (IsOpenIn is_append) q d.requests r.appends k.among

@@ -53,4 +53,5 @@ pub mod Random38
 pub mod Random39
 pub mod Random40
 pub mod Random31To40Scripts
-pub mod WrongFalls
+pub mod WrongSites
+pub mod WrongClients

@@ -7,5 +7,7 @@ pub mod Histories11To20AreRuns
 pub mod TakersOfHistories11To20AreRight
 pub mod Histories21To30AreRuns
 pub mod TakersOfHistories21To30AreRight
-pub mod Histories31To40AreRuns
-pub mod TakersOfHistories31To40AreRight
+pub mod Histories31To35AreRuns
+pub mod TakersOfHistories31To35AreRight
+pub mod Histories36To40AreRuns
+pub mod TakersOfHistories36To40AreRight

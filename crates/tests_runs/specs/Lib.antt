@@ -10,5 +10,7 @@ pub mod Random11To20Scripts
 pub mod Random11To20Takers
 pub mod Random21To30Scripts
 pub mod Random21To30Takers
-pub mod Random31To40Scripts
-pub mod Random31To40Takers
+pub mod Random31To35Scripts
+pub mod Random31To35Takers
+pub mod Random36To40Scripts
+pub mod Random36To40Takers

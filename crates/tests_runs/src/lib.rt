@@ -26,8 +26,9 @@ pub use laws::{
 };
 pub use random::{
     histories_1_to_10_are_runs, histories_11_to_20_are_runs, histories_21_to_30_are_runs,
-    histories_31_to_40_are_runs, takers_of_histories_1_to_10_are_right,
-    takers_of_histories_11_to_20_are_right, takers_of_histories_21_to_30_are_right,
-    takers_of_histories_31_to_40_are_right,
+    histories_31_to_35_are_runs, histories_36_to_40_are_runs,
+    takers_of_histories_1_to_10_are_right, takers_of_histories_11_to_20_are_right,
+    takers_of_histories_21_to_30_are_right, takers_of_histories_31_to_35_are_right,
+    takers_of_histories_36_to_40_are_right,
 };
 pub use worked::{takers_of_worked_histories_are_right, worked_histories_are_runs};

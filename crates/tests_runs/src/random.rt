@@ -43,13 +43,15 @@ ghost use Rattle.tests_histories.specs.Random32 as random32;
 ghost use Rattle.tests_histories.specs.Random33 as random33;
 ghost use Rattle.tests_histories.specs.Random34 as random34;
 ghost use Rattle.tests_histories.specs.Random35 as random35;
+ghost use Rattle.tests_runs.specs.Random31To35Scripts as scripts4;
+ghost use Rattle.tests_runs.specs.Random31To35Takers as takers4;
 ghost use Rattle.tests_histories.specs.Random36 as random36;
 ghost use Rattle.tests_histories.specs.Random37 as random37;
 ghost use Rattle.tests_histories.specs.Random38 as random38;
 ghost use Rattle.tests_histories.specs.Random39 as random39;
 ghost use Rattle.tests_histories.specs.Random40 as random40;
-ghost use Rattle.tests_runs.specs.Random31To40Scripts as scripts4;
-ghost use Rattle.tests_runs.specs.Random31To40Takers as takers4;
+ghost use Rattle.tests_runs.specs.Random36To40Scripts as scripts5;
+ghost use Rattle.tests_runs.specs.Random36To40Takers as takers5;
 
 /// The random histories 1 to 10 are whole runs of their scripts.
 pub fn histories_1_to_10_are_runs()
@@ -135,30 +137,38 @@ pub fn takers_of_histories_21_to_30_are_right()
     ensures random30 { all_takers random30.decl scripts3.random30 random30.moves ≡ takers3.random30 }
 {}
 
-/// The random histories 31 to 40 are whole runs of their scripts.
-pub fn histories_31_to_40_are_runs()
+/// The random histories 31 to 35 are whole runs of their scripts.
+pub fn histories_31_to_35_are_runs()
     ensures random31 { run_by random31.decl scripts4.random31 random31.moves ≡ Some random31.history }
     ensures random32 { run_by random32.decl scripts4.random32 random32.moves ≡ Some random32.history }
     ensures random33 { run_by random33.decl scripts4.random33 random33.moves ≡ Some random33.history }
     ensures random34 { run_by random34.decl scripts4.random34 random34.moves ≡ Some random34.history }
     ensures random35 { run_by random35.decl scripts4.random35 random35.moves ≡ Some random35.history }
-    ensures random36 { run_by random36.decl scripts4.random36 random36.moves ≡ Some random36.history }
-    ensures random37 { run_by random37.decl scripts4.random37 random37.moves ≡ Some random37.history }
-    ensures random38 { run_by random38.decl scripts4.random38 random38.moves ≡ Some random38.history }
-    ensures random39 { run_by random39.decl scripts4.random39 random39.moves ≡ Some random39.history }
-    ensures random40 { run_by random40.decl scripts4.random40 random40.moves ≡ Some random40.history }
 {}
 
-/// In the random histories 31 to 40 those that may take an input are the model's.
-pub fn takers_of_histories_31_to_40_are_right()
+/// In the random histories 31 to 35 those that may take an input are the model's.
+pub fn takers_of_histories_31_to_35_are_right()
     ensures random31 { all_takers random31.decl scripts4.random31 random31.moves ≡ takers4.random31 }
     ensures random32 { all_takers random32.decl scripts4.random32 random32.moves ≡ takers4.random32 }
     ensures random33 { all_takers random33.decl scripts4.random33 random33.moves ≡ takers4.random33 }
     ensures random34 { all_takers random34.decl scripts4.random34 random34.moves ≡ takers4.random34 }
     ensures random35 { all_takers random35.decl scripts4.random35 random35.moves ≡ takers4.random35 }
-    ensures random36 { all_takers random36.decl scripts4.random36 random36.moves ≡ takers4.random36 }
-    ensures random37 { all_takers random37.decl scripts4.random37 random37.moves ≡ takers4.random37 }
-    ensures random38 { all_takers random38.decl scripts4.random38 random38.moves ≡ takers4.random38 }
-    ensures random39 { all_takers random39.decl scripts4.random39 random39.moves ≡ takers4.random39 }
-    ensures random40 { all_takers random40.decl scripts4.random40 random40.moves ≡ takers4.random40 }
+{}
+
+/// The random histories 36 to 40 are whole runs of their scripts.
+pub fn histories_36_to_40_are_runs()
+    ensures random36 { run_by random36.decl scripts5.random36 random36.moves ≡ Some random36.history }
+    ensures random37 { run_by random37.decl scripts5.random37 random37.moves ≡ Some random37.history }
+    ensures random38 { run_by random38.decl scripts5.random38 random38.moves ≡ Some random38.history }
+    ensures random39 { run_by random39.decl scripts5.random39 random39.moves ≡ Some random39.history }
+    ensures random40 { run_by random40.decl scripts5.random40 random40.moves ≡ Some random40.history }
+{}
+
+/// In the random histories 36 to 40 those that may take an input are the model's.
+pub fn takers_of_histories_36_to_40_are_right()
+    ensures random36 { all_takers random36.decl scripts5.random36 random36.moves ≡ takers5.random36 }
+    ensures random37 { all_takers random37.decl scripts5.random37 random37.moves ≡ takers5.random37 }
+    ensures random38 { all_takers random38.decl scripts5.random38 random38.moves ≡ takers5.random38 }
+    ensures random39 { all_takers random39.decl scripts5.random39 random39.moves ≡ takers5.random39 }
+    ensures random40 { all_takers random40.decl scripts5.random40 random40.moves ≡ takers5.random40 }
 {}
