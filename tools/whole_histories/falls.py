@@ -24,7 +24,7 @@ from falling import moves
 from modules import COLUMNS, IMPORTS, filled, imported, module, told, variants, words_of
 from runs import low, module as scripts_module
 from spelling import kind, record as spelled_record, step as spelled_step
-from wrong_falls import NEVER, PARTS
+from wrong_falls import EACH, NEVER, PARTS
 
 CRATE = os.path.join(os.path.dirname(os.path.abspath(__file__)), "..", "..", "crates", "tests_falls")
 GROUP = 10
@@ -190,37 +190,45 @@ def make_random(picked):
 
 # Wrong histories.
 
+def wrong_of(actor):
+    """The module of histories in which this actor goes wrong, and its word."""
+    return ("WrongSites", "wrong_sites") if actor < 3 else ("WrongClients", "wrong_clients")
+
+
 def make_wrong(stories):
-    """The wrong posts and rises: a module of histories, one of lemmas, and a law for each kind."""
-    body, lemmas, clauses = "", "", {"posts": [], "rises": []}
+    """The wrong posts and rises: modules of histories, one of lemmas, and a law for each kind."""
+    bodies, lemmas, clauses = {"WrongSites": "", "WrongClients": ""}, "", {"posts": [], "rises": []}
     for name, says, what, actor, before, wrong in stories:
         entries = filled(["marked %d %s" % (a, spelled_step(x)) for a, x in before], "[]")
         given, kind_of = (spelled_step, "Step") if what == "posts" else (spelled_record, "Record")
-        body += "\n-- %s\n\nabbrev pub %s : List Entry\n%s =\n%s\n" % (says, name, name, entries)
-        body += "\nabbrev pub %s_then : List %s\n%s_then =\n%s\n" % (
+        module, word = wrong_of(actor)
+        bodies[module] += "\n-- %s\n\nabbrev pub %s : List Entry\n%s =\n%s\n" % (says, name, name, entries)
+        bodies[module] += "\nabbrev pub %s_then : List %s\n%s_then =\n%s\n" % (
             name, kind_of, name, filled([given(x) for x in wrong], "[]"))
-        said = "%s three %d wrong.%s wrong.%s_then" % (
-            "IsNoPost" if what == "posts" else "IsNoRise", actor, name, name)
+        said = "%s three %d %s.%s %s.%s_then" % (
+            "IsNoPost" if what == "posts" else "IsNoRise", actor, word, name, word, name)
         clauses[what].append((name, said))
         never = NEVER
         if name in PARTS:
             never = "let same : ◌≡◌ {A = ℕ} %d %d = ap %s e in %s" % (*PARTS[name][1:], PARTS[name][0], NEVER)
-        proof = "refused three %d wrong.%s wrong.%s_then refl (λ e. %s) (λ e. %s) (λ e. %s)" % (
-            actor, name, name, never, NEVER, NEVER)
+        others = never if name in EACH else NEVER
+        proof = "refused three %d %s.%s %s.%s_then refl (λ e. %s) (λ e. %s) (λ e. %s)" % (
+            actor, word, name, word, name, never, others, others)
         lemmas += "\npub %s_refused : %s\n" % (name, said)
         lemmas += "%s_refused = %s\n" % (name, proof) if what == "posts" else "".join(
             "%s_refused (%s e) = %s\n" % (name, side, NEVER) for side in ("inl", "inr"))
-    used = words_of("\n".join(line for line in body.split("\n") if not line.startswith("--")))
-    out = "-- Right beginnings of histories with falls, and what is wrong behind them.\n"
-    for where, names in (PLAY[0], *PLAY[2:], ("Rattle.qc_msg.specs.declared.step.Step", ("Step",)),
-                         ("Rattle.qc_msg.specs.declared.record.Record", ("Record",))):
-        out += imported(where, [n for n in names if n in used or n == "◌∷◌"])
-    write("specs/WrongFalls.antt", out + variants(used) + body)
-    paths = [THREE, "Rattle.tests_falls.specs.Refused.{IsNoPost, IsNoRise}",
-             "Rattle.tests_falls.specs.WrongFalls as wrong"]
+    for module, body in bodies.items():
+        used = words_of("\n".join(line for line in body.split("\n") if not line.startswith("--")))
+        out = "-- Right beginnings of histories with falls of %s, and what is wrong behind them.\n" % module[5:].lower()
+        for where, names in (PLAY[0], *PLAY[2:], ("Rattle.qc_msg.specs.declared.step.Step", ("Step",)),
+                             ("Rattle.qc_msg.specs.declared.record.Record", ("Record",))):
+            out += imported(where, [n for n in names if n in used or n == "◌∷◌"])
+        write("specs/%s.antt" % module, out + variants(used) + body)
+    paths = [THREE, "Rattle.tests_falls.specs.Refused.{IsNoPost, IsNoRise}"]
+    paths += ["Rattle.tests_falls.specs.%s as %s" % wrong_of(actor) for actor in (3, 0)]
     write("proofs/WrongFalls.antt", (
         "-- No wrong history with falls is right.\nuse Rattle.std.proofs.Common.{◌≡◌, ℕ, inl, inr, refl, ap}\n%s"
-        "use Rattle.tests_falls.proofs.Refusing.{clock_written, life_begun, refused}\n%s" % (
+        "use Rattle.tests_falls.proofs.Refusing.{clock_written, life_begun, life_granted, refused}\n%s" % (
             "".join("use %s\n" % path for path in paths), lemmas)))
     text = ""
     for what, doc, name in (
@@ -230,7 +238,7 @@ def make_wrong(stories):
         text += law(doc, name, clauses[what])
     write("src/wrong.rt", "//! Wrong histories with falls, each refused.\n\n%s%s" % (
         "".join("ghost use %s;\n" % path for path in paths), text))
-    return ["WrongFalls"], ["WrongFalls"]
+    return list(bodies), ["WrongFalls"]
 
 
 def main(words):
