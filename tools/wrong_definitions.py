@@ -26,9 +26,9 @@ CONDUCT = "qc_epoch/specs/Conduct.antt"
 NET = "laws_refinement/specs/Net.antt"
 
 CLOSE = "keeps k (records.Close epoch) = record k { life = k.life + 1; closed_for = Some epoch }"
-INSTALL_CLOCK = "clock = max (latest k.clock lines) clock;"
-INSTALL_LINES = "      began = lines;\n      lines = [];"
-INSTALL_EPOCH = "      epoch = epoch;\n      closed_for = None;"
+INSTALL_CLOCK = "clock = max (latest k.clock start.lines) start.clock;"
+INSTALL_LINES = "      began = start.lines;\n      lines = [];"
+INSTALL_EPOCH = "      epoch = start.epoch;\n      closed_for = None;"
 RISE = "    let records : List Record = net.records a ++ option_to_list back in\n    record {\n      mail = net.mail ++"
 
 # what is wrong, the file, the text, and what takes its place
@@ -53,16 +53,16 @@ EDITS = [
     ("a Close record begins no life", SITES, CLOSE, CLOSE.replace("life = k.life + 1; ", "")),
     ("a Close record is forgotten", SITES, CLOSE, CLOSE.replace("; closed_for = Some epoch", "")),
     ("an Install record leaves the site closed", SITES, INSTALL_EPOCH, INSTALL_EPOCH.replace("None", "k.closed_for")),
-    ("an Install record is of the next epoch", SITES, INSTALL_EPOCH, INSTALL_EPOCH.replace("= epoch", "= k.epoch + 1")),
+    ("an Install record is of the next epoch", SITES, INSTALL_EPOCH, INSTALL_EPOCH.replace("= start.epoch", "= k.epoch + 1")),
     ("an Install record leaves the promises", SITES, "      prepares = [];\n      promises = [];\n      clock = max",
      "      prepares = k.prepares;\n      promises = k.promises;\n      clock = max"),
-    ("an Install record gives no lines", SITES, INSTALL_LINES, INSTALL_LINES.replace("began = lines", "began = []")),
+    ("an Install record gives no lines", SITES, INSTALL_LINES, INSTALL_LINES.replace("began = start.lines", "began = []")),
     ("an Install record leaves the lines", SITES, INSTALL_LINES, INSTALL_LINES.replace("[]", "k.lines")),
-    ("an Install record's own clock is forgotten", SITES, INSTALL_CLOCK, "clock = latest k.clock lines;"),
-    ("an Install record's clock forgets the one before", SITES, INSTALL_CLOCK, "clock = max (latest 0 lines) clock;"),
+    ("an Install record's own clock is forgotten", SITES, INSTALL_CLOCK, "clock = latest k.clock start.lines;"),
+    ("an Install record's clock forgets the one before", SITES, INSTALL_CLOCK, "clock = max (latest 0 start.lines) start.clock;"),
     # the administrator's
-    ("the administrator forgets his decision", ADMINS, "keeps k (records.Decide epoch clock lines) = Some"
-     " (record { epoch = epoch; clock = clock; lines = lines })", "keeps k (records.Decide epoch clock lines) = k"),
+    ("the administrator forgets his decision", ADMINS, "(λ (start : EpochStart). Some start)",
+     "(λ (start : EpochStart). k)"),
     ("the administrator rises in another epoch than he decided", ADMINS, "epoch_by (Some d) = d.epoch",
      "epoch_by (Some d) = d.clock"),
     ("the administrator rises in his epoch without its record", ADMINS, "decided = k; doing", "decided = None; doing"),
@@ -72,7 +72,7 @@ EDITS = [
     ("Shut is told though the Close isn't written", SITE, "failed_sends = answering from number Fault",
      "failed_sends = answering from number answer"),
     ("a site that closes begins no life", ROWS, "record s { life = s.life + 1; closed_for", "record s { closed_for"),
-    ("a closed site tells the lines since alone", ROWS, "Shut s.clock (known s)", "Shut s.clock s.log"),
+    ("a closed site tells the lines since alone", ROWS, "snapshot_with s.clock (known s)", "snapshot_with s.clock s.log"),
     ("a site that installs leaves its lines", ROWS, "      log = [];", "      log = s.log;"),
     ("a site that installs takes no lines", ROWS, "      began = lines;", "      began = [];"),
     ("a rise may lose all records", NET, RISE, RISE.replace("net.records a ++ ", "")),

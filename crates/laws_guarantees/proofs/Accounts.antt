@@ -80,7 +80,7 @@ granted_more ds x tx site g = record {
   life = g.life;
   clock = g.clock;
   log = g.log;
-  taken = taken_more ds x g.number (answers.Granted g) g.taken;
+  taken = taken_more ds x g.number (answers.Granted (grant_with g.life g.clock g.log)) g.taken;
 }
 
 -- the same account

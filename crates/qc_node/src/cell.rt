@@ -5,6 +5,7 @@ ghost use Rattle.qc_decl.specs.Actors.{actors};
 ghost use Rattle.qc_pass.specs.Made.{IsNew};
 ghost use Rattle.qc_pass.specs.Tokens.{number};
 ghost use Rattle.qc_process.specs.Stored.{IsProcess};
+ghost use Rattle.qc_node.specs.Runnable.{IsRunnable};
 ghost use Rattle.qc_node.specs.Cells.{IsTurn};
 
 use crate::ends::TurnEnd;
@@ -66,15 +67,10 @@ impl<D: Disk, N: RunName> Cell<D, N> {
     /// The actor takes its next input, acts, writes its record, and posts. After
     /// want of memory its holding ends, and where it took an input this stays open:
     /// then the process is given up.
-    pub fn turn<G: Gate, R: Threads + Wait + Sync>(
+    pub(crate) fn turn<G: Gate, R: Threads + Wait + Sync>(
         &mut self,
-        rt: &R,
-        alloc: Global,
-        decl: &Declaration,
-        fabric: &Fabric<Rules, N>,
-        gate: &G,
+        worker: &Worker<'_, D, N, G, R>,
     ) -> Result<TurnEnd, OutOfMemory>
-        requires declaration { decl.now ≡ N.declaration }
         requires runnable { IsRunnable N.declaration N.script }
         ensures number { self.new.number ≡ self.old.number }
         ensures ok { IfOk result (λ end. IsTurn N.declaration N.script self.old self.new end) }
@@ -93,6 +89,7 @@ impl<D: Disk, N: RunName> Cell<D, N> {
         &mut self,
         worker: &Worker<'_, D, N, G, R>,
     ) -> Result<TurnEnd, OutOfMemory>
+        requires runnable { IsRunnable N.declaration N.script }
         ensures number { self.new.number ≡ self.old.number }
         ensures ok { IfOk result (λ end. IsTurn N.declaration N.script self.old self.new end) }
     {

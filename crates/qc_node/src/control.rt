@@ -9,6 +9,7 @@ ghost use Rattle.qc_decl.specs.Accepted.{IsAccepted};
 ghost use Rattle.qc_process.specs.Opens.{OpensAs, StaysOnDisk};
 ghost use Rattle.qc_process.specs.Views.{HasFewRecords};
 ghost use Rattle.qc_fabric.specs.Risings.{size_of_rising};
+ghost use Rattle.qc_node.specs.Runnable.{IsRunnable};
 ghost use Rattle.qc_node.specs.Restarts.{IsClosed, IsRecorded, opened_of};
 
 use crate::cell::Cell;
@@ -34,6 +35,7 @@ impl<D: Disk, N: RunName> Cell<D, N> {
         controller: &mut Controller<N>,
         last: u32,
     ) -> Result<bool, OutOfMemory>
+        requires runnable { IsRunnable N.declaration N.script }
         ensures number { self.new.number ≡ self.old.number }
     {
         let mut held = worker.fabric.hold(worker.rt);
@@ -57,6 +59,7 @@ impl<D: Disk, N: RunName> Cell<D, N> {
         worker: &Worker<'_, D, N, G, R>,
         last: u32,
     ) -> Result<bool, OutOfMemory>
+        requires runnable { IsRunnable N.declaration N.script }
         ensures number { self.new.number ≡ self.old.number }
     {
         let mut held = worker.fabric.hold(worker.rt);
@@ -83,6 +86,7 @@ impl<D: Disk, N: RunName> Cell<D, N> {
         worker: &Worker<'_, D, N, G, R>,
         last: u32,
     ) -> Result<bool, OutOfMemory>
+        requires runnable { IsRunnable N.declaration N.script }
         ensures number { self.new.number ≡ self.old.number }
     {
         let mut held = worker.fabric.hold(worker.rt);

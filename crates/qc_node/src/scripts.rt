@@ -95,9 +95,14 @@ fn drive_all<D: Disk, N: RunName + Send + Sync, G: Gate + Sync, R: Threads + Wai
         worker.drive(last);
         return;
     }
-    let ends = map_indices(rt, alloc, usize::from(job.workers), &|_| {
-        worker.drive(last)
-    });
+    let ends = map_indices(
+        rt,
+        alloc,
+        usize::from(job.workers),
+        &|_|
+            requires runnable { IsRunnable N.declaration N.script }
+        { worker.drive(last) },
+    );
     drop(ends);
 }
 

@@ -27,7 +27,6 @@ pub(crate) struct Worker<'a, D: Disk, N: RunName, G: Gate, R: Threads + Wait + S
     pub(crate) cells: &'a Cells<D, N>,
     pub(crate) gate: &'a G,
     ghost declaration: { decl.now ≡ N.declaration },
-    ghost runnable: { IsRunnable N.declaration N.script },
 }
 
 impl<'a, D: Disk, N: RunName, G: Gate, R: Threads + Wait + Sync> Worker<'a, D, N, G, R> {
@@ -36,14 +35,18 @@ impl<'a, D: Disk, N: RunName, G: Gate, R: Threads + Wait + Sync> Worker<'a, D, N
     /// that is given: a control line acts, or the next phase begins. It ends where
     /// nothing is left in these, a counted quantity has reached its limit, or memory
     /// was wanting. Then it wakes the others.
-    pub(crate) fn drive(&self, last: u32) -> DriveEnd {
+    pub(crate) fn drive(&self, last: u32) -> DriveEnd
+        requires runnable { IsRunnable N.declaration N.script }
+    {
         let end = self.serve(last);
         self.fabric.wake();
         end
     }
 
     /// The same, while the others may sleep.
-    fn serve(&self, last: u32) -> DriveEnd {
+    fn serve(&self, last: u32) -> DriveEnd
+        requires runnable { IsRunnable N.declaration N.script }
+    {
         for _ in self.rt.forever() {
             match self.fabric.pick(self.rt, self.decl) {
                 Picked::Full(full) => return DriveEnd::Full(full),
@@ -64,7 +67,8 @@ impl<'a, D: Disk, N: RunName, G: Gate, R: Threads + Wait + Sync> Worker<'a, D, N
 
     /// A turn of the actor in the cell of this number.
     fn turn(&self, actor: u8) -> Result<TurnEnd, OutOfMemory>
-        requires { actor < actors N.declaration }
+        requires runnable { IsRunnable N.declaration N.script }
+        requires actor { actor < actors N.declaration }
     {
         let mut cell = self.cells.cells[actor as usize].lock(self.rt);
         cell.turn(self)
@@ -73,7 +77,9 @@ impl<'a, D: Disk, N: RunName, G: Gate, R: Threads + Wait + Sync> Worker<'a, D, N
     /// What comes next is done, in phases up to the last one that is given: a control
     /// line acts, in the cell of its actor or by the controller, or the next phase
     /// begins, of which the gate is told before. Whether something is left.
-    fn go_on(&self, last: u32) -> Result<bool, OutOfMemory> {
+    fn go_on(&self, last: u32) -> Result<bool, OutOfMemory>
+        requires runnable { IsRunnable N.declaration N.script }
+    {
         match self.fabric.next_order(self.rt, self.decl, last) {
             Some(Control::Armed { actor, .. }) => {
                 let mut cell = self.cells.cells[actor as usize].lock(self.rt);

@@ -17,7 +17,7 @@ invariant_of-self-2 g c =
     (armed_cell g.N.RunName.tells g.N.RunName.table g.N.RunName.declaration c.self.inside.pass c.self.inside.process
     cell c.arm.new.pass c.arm-2.new.self _ _ c.in-Some-Armed.kind c.in-Some-Armed.at
     c.in_ok-arm.ensures.ok
-    (armed_some g.N.RunName.declaration g.N.RunName.script c.args.worker.now.runnable _ _ _ c.in-Some-Armed.field-0
+    (armed_some g.N.RunName.declaration g.N.RunName.script c.requires.runnable _ _ _ c.in-Some-Armed.field-0
     c.in-Some-Armed.actor c.in-Some-Armed.kind
     c.in-Some-Armed.at c.in-Some-Armed.ensures.some is)
     c.arm-2.ensures.same.0 c.arm-2.ensures.same.1

@@ -31,7 +31,7 @@ open-requires-clause-down g c κs within =
     (controls.Restart (number c.look.new.pass)) = search rules in
     let down : c.self.inside.process.actor ≡ Down =
     is_down g.N.RunName.tells g.N.RunName.table g.N.RunName.declaration g.N.RunName.script
-    c.args.worker.now.runnable.accepted c.look.new.pass c.self.inside.process cell c.look.new.self.history
+    c.requires.runnable.accepted c.look.new.pass c.self.inside.process cell c.look.new.self.history
     c.look.new.self.open_inputs c.look.ensures.seen c.look.ensures.runs may in
     down
 
@@ -62,7 +62,7 @@ rise-first-requires-clause-lawful g c =
     (controls.Restart (number c.look.new.pass)) = search rules in
     let down : c.self.inside.process.actor ≡ Down =
     is_down g.N.RunName.tells g.N.RunName.table g.N.RunName.declaration g.N.RunName.script
-    c.args.worker.now.runnable.accepted c.look.new.pass c.self.inside.process cell c.look.new.self.history
+    c.requires.runnable.accepted c.look.new.pass c.self.inside.process cell c.look.new.self.history
     c.look.new.self.open_inputs c.look.ensures.seen c.look.ensures.runs may in
     let opened : OpensAs g.N.RunName.declaration c.self.inside.process c.open.new.process
     (opened_of c.in_ok-rising.rising) =
@@ -70,7 +70,7 @@ rise-first-requires-clause-lawful g c =
     c.args.worker.now.declaration c.in_ok-rising.ensures.ok in
     risen_lawful g.N.RunName.tells g.N.RunName.declaration g.N.RunName.script c.look.new.pass cell.is_actor
     c.self.inside.process cell.known c.open.new.process down
-    (few_actors g.N.RunName.declaration c.args.worker.now.runnable.accepted) c.in_ok-rising.rising
+    (few_actors g.N.RunName.declaration c.requires.runnable.accepted) c.in_ok-rising.rising
     c.with_record-rising.result c.with_record-rising.new.process opened c.with_record-rising.ensures
 
 pub sent-requires-clause-few : goal.sent-requires-clause-few
@@ -86,7 +86,7 @@ sent-requires-clause-few g c κs within =
     (controls.Restart (number c.look.new.pass)) = search rules in
     let down : c.self.inside.process.actor ≡ Down =
     is_down g.N.RunName.tells g.N.RunName.table g.N.RunName.declaration g.N.RunName.script
-    c.args.worker.now.runnable.accepted c.look.new.pass c.self.inside.process cell c.look.new.self.history
+    c.requires.runnable.accepted c.look.new.pass c.self.inside.process cell c.look.new.self.history
     c.look.new.self.open_inputs c.look.ensures.seen c.look.ensures.runs may in
     let opened : OpensAs g.N.RunName.declaration c.self.inside.process c.open.new.process
     (opened_of c.in_ok-rising.rising) =
@@ -94,7 +94,7 @@ sent-requires-clause-few g c κs within =
     c.args.worker.now.declaration c.in_ok-rising.ensures.ok in
     risen_asks g.N.RunName.tells g.N.RunName.declaration g.N.RunName.script c.look.new.pass cell.is_actor
     c.self.inside.process cell.known c.open.new.process down
-    (few_actors g.N.RunName.declaration c.args.worker.now.runnable.accepted) c.in_ok-rising.rising
+    (few_actors g.N.RunName.declaration c.requires.runnable.accepted) c.in_ok-rising.rising
     c.with_record-rising.result c.with_record-rising.new.process opened c.with_record-rising.ensures
 
 pub sent-requires-clause-numbers : goal.sent-requires-clause-numbers
@@ -110,7 +110,7 @@ sent-requires-clause-numbers g c κs within =
     (controls.Restart (number c.look.new.pass)) = search rules in
     let down : c.self.inside.process.actor ≡ Down =
     is_down g.N.RunName.tells g.N.RunName.table g.N.RunName.declaration g.N.RunName.script
-    c.args.worker.now.runnable.accepted c.look.new.pass c.self.inside.process cell c.look.new.self.history
+    c.requires.runnable.accepted c.look.new.pass c.self.inside.process cell c.look.new.self.history
     c.look.new.self.open_inputs c.look.ensures.seen c.look.ensures.runs may in
     let opened : OpensAs g.N.RunName.declaration c.self.inside.process c.open.new.process
     (opened_of c.in_ok-rising.rising) =
@@ -121,7 +121,7 @@ sent-requires-clause-numbers g c κs within =
     c.rise-first.new.pass c.with_record-rising.result c.rise-first.result = search rules in
     risen_numbers g.N.RunName.tells g.N.RunName.declaration g.N.RunName.script c.look.new.pass cell.is_actor
     c.self.inside.process cell.known c.open.new.process down
-    (few_actors g.N.RunName.declaration c.args.worker.now.runnable.accepted) c.in_ok-rising.rising
+    (few_actors g.N.RunName.declaration c.requires.runnable.accepted) c.in_ok-rising.rising
     c.with_record-rising.result c.with_record-rising.new.process opened c.with_record-rising.ensures
     c.rise-first.new.pass c.rise-first.result did
 
@@ -138,7 +138,7 @@ invariant_of-self-2 g c =
     (controls.Restart (number c.look.new.pass)) = search rules in
     let down : c.self.inside.process.actor ≡ Down =
     is_down g.N.RunName.tells g.N.RunName.table g.N.RunName.declaration g.N.RunName.script
-    c.args.worker.now.runnable.accepted c.look.new.pass c.self.inside.process cell c.look.new.self.history
+    c.requires.runnable.accepted c.look.new.pass c.self.inside.process cell c.look.new.self.history
     c.look.new.self.open_inputs c.look.ensures.seen c.look.ensures.runs may in
     let opened : OpensAs g.N.RunName.declaration c.self.inside.process c.open.new.process
     (opened_of c.in_ok-rising.rising) =
@@ -153,6 +153,6 @@ invariant_of-self-2 g c =
     (seen c.rise-first.new.pass) x) (sym c.sent.ensures)
     (risen_process g.N.RunName.tells g.N.RunName.declaration g.N.RunName.script c.look.new.pass cell.is_actor
     c.self.inside.process cell.known c.open.new.process down
-    (few_actors g.N.RunName.declaration c.args.worker.now.runnable.accepted) c.in_ok-rising.rising
+    (few_actors g.N.RunName.declaration c.requires.runnable.accepted) c.in_ok-rising.rising
     c.with_record-rising.result c.with_record-rising.new.process opened c.with_record-rising.ensures
     c.rise-first.new.pass c.rise-first.result did))

@@ -47,8 +47,8 @@ take-requires-2-clause-fits g c κs within =
     let known : IsProcess g.N.RunName.tells g.N.RunName.declaration (number c.self.inside.pass) (seen c.self.inside.pass) c.self.inside.process =
     subst (λ (b : Bool). IsKnown g.N.RunName.tells g.N.RunName.declaration (number c.self.inside.pass)
     (seen c.self.inside.pass) b c.self.inside.process) c.if-self.false c.self.invariant.known in
-    input_fits g.N.RunName.tells g.N.RunName.declaration g.N.RunName.script c.args.worker.now.runnable.accepted
-    c.args.worker.now.runnable.declared c.self.inside.pass c.take.new.pass c.in-Some.field-0.given
+    input_fits g.N.RunName.tells g.N.RunName.declaration g.N.RunName.script c.requires.runnable.accepted
+    c.requires.runnable.declared c.self.inside.pass c.take.new.pass c.in-Some.field-0.given
     c.self.invariant.is_actor took c.self.inside.process known
 
 pub take-requires-2-clause-readable : goal.take-requires-2-clause-readable
@@ -57,8 +57,8 @@ take-requires-2-clause-readable g c κs within =
     let known : IsProcess g.N.RunName.tells g.N.RunName.declaration (number c.self.inside.pass) (seen c.self.inside.pass) c.self.inside.process =
     subst (λ (b : Bool). IsKnown g.N.RunName.tells g.N.RunName.declaration (number c.self.inside.pass)
     (seen c.self.inside.pass) b c.self.inside.process) c.if-self.false c.self.invariant.known in
-    input_readable g.N.RunName.tells g.N.RunName.declaration g.N.RunName.script c.args.worker.now.runnable.accepted
-    c.args.worker.now.runnable.declared c.self.inside.pass c.take.new.pass c.in-Some.field-0.given
+    input_readable g.N.RunName.tells g.N.RunName.declaration g.N.RunName.script c.requires.runnable.accepted
+    c.requires.runnable.declared c.self.inside.pass c.take.new.pass c.in-Some.field-0.given
     c.self.invariant.is_actor took c.self.inside.process known
 
 pub invariant_of-self-in_err-turn : goal.invariant_of-self-in_err-turn
@@ -77,8 +77,8 @@ prepare-requires-after_bounds g c κs within =
     let acted : actor_takes g.N.RunName.declaration c.self.inside.process.actor c.in-Some.field-0.given ≡ moved c.take-2.new.self.actor c.in_ok-turn.turn =
     ap (λ d. actor_takes d c.self.inside.process.actor c.in-Some.field-0.given) (sym c.args.worker.now.declaration)
     ∙ c.in_ok-turn.ensures.ok in
-    may_write g.N.RunName.tells g.N.RunName.declaration g.N.RunName.script c.args.worker.now.runnable.accepted
-    c.args.worker.now.runnable.declared c.self.inside.pass c.take.new.pass c.in-Some.field-0.given
+    may_write g.N.RunName.tells g.N.RunName.declaration g.N.RunName.script c.requires.runnable.accepted
+    c.requires.runnable.declared c.self.inside.pass c.take.new.pass c.in-Some.field-0.given
     c.self.invariant.is_actor took c.self.inside.process known c.take-2.new.self.actor c.in_ok-turn.turn acted
     c.take-2.new.self.store c.take-2.ensures.same.1 c.in_ok-turn.ensures.writes
 
@@ -92,7 +92,7 @@ invariant_of-self-in_err-prepare g c =
     ap (λ d. actor_takes d c.self.inside.process.actor c.in-Some.field-0.given) (sym c.args.worker.now.declaration)
     ∙ c.in_ok-turn.ensures.ok in
     cell_unwritten g.N.RunName.tells g.N.RunName.table g.N.RunName.declaration g.N.RunName.script
-        c.args.worker.now.runnable
+        c.requires.runnable
     c.self.inside.pass c.take.new.pass c.in-Some.field-0.given c.self.inside.given_up c.self.inside.process
     c.self.invariant known took c.take-2.new.self c.in_ok-turn.turn acted c.take-2.ensures.same.0
     c.take-2.ensures.same.1 c.in_ok-turn.ensures.writes c.prepare.new.self
@@ -114,7 +114,7 @@ invariant_of-self-in_err-reserve g c =
     subst (λ (r : Pass Step). IsCell g.N.RunName.tells g.N.RunName.table g.N.RunName.declaration true c.prepare.new.self
     r) (sym c.in_err-reserve.ensures.err)
     (cell_unwritten g.N.RunName.tells g.N.RunName.table g.N.RunName.declaration g.N.RunName.script
-        c.args.worker.now.runnable
+        c.requires.runnable
     c.self.inside.pass c.take.new.pass c.in-Some.field-0.given c.self.inside.given_up c.self.inside.process
     c.self.invariant known took c.take-2.new.self c.in_ok-turn.turn acted c.take-2.ensures.same.0
     c.take-2.ensures.same.1 c.in_ok-turn.ensures.writes c.prepare.new.self spelt.told spelt.fuse spelt.journal)
@@ -130,7 +130,7 @@ append-turn-requires-clause-few g c κs within =
     ∙ c.in_ok-turn.ensures.ok in
     let spelt : IsSpelled c.take-2.new.self c.prepare.new.self c.in_ok-turn.turn =
     is_spelled c.take-2.new.self c.prepare.new.self c.in_ok-turn.turn c.in_ok-prepare.ensures.ok in
-    few g.N.RunName.tells g.N.RunName.table g.N.RunName.declaration g.N.RunName.script c.args.worker.now.runnable
+    few g.N.RunName.tells g.N.RunName.table g.N.RunName.declaration g.N.RunName.script c.requires.runnable
     c.self.inside.pass c.take.new.pass c.in-Some.field-0.given c.self.inside.given_up c.self.inside.process
     c.self.invariant known took c.take-2.new.self c.in_ok-turn.turn acted c.take-2.ensures.same.0
     c.take-2.ensures.same.1 c.in_ok-turn.ensures.writes c.prepare.new.self spelt
@@ -144,8 +144,8 @@ post-first-requires-clause-receivers g c =
     let acted : actor_takes g.N.RunName.declaration c.self.inside.process.actor c.in-Some.field-0.given ≡ moved c.take-2.new.self.actor c.in_ok-turn.turn =
     ap (λ d. actor_takes d c.self.inside.process.actor c.in-Some.field-0.given) (sym c.args.worker.now.declaration)
     ∙ c.in_ok-turn.ensures.ok in
-    to_actors g.N.RunName.tells g.N.RunName.declaration g.N.RunName.script c.args.worker.now.runnable.accepted
-    c.args.worker.now.runnable.declared c.self.inside.pass c.take.new.pass c.in-Some.field-0.given
+    to_actors g.N.RunName.tells g.N.RunName.declaration g.N.RunName.script c.requires.runnable.accepted
+    c.requires.runnable.declared c.self.inside.pass c.take.new.pass c.in-Some.field-0.given
     c.self.invariant.is_actor took c.self.inside.process known c.take-2.new.self.actor c.in_ok-turn.turn acted
     c.append-turn.result
 
@@ -163,11 +163,11 @@ post-first-requires-clause-lawful g c =
     let fallen : (c.append-turn.result ≡ Done → ⊥) → c.append-turn.new.self.actor ≡ Down =
     λ not. (c.append-turn.ensures.fallen not).0 in
     let saw : Sees c.take.new.pass c.reserve.new.pass = search rules in
-    lawful_now g.N.RunName.tells g.N.RunName.declaration g.N.RunName.script c.args.worker.now.runnable.accepted
-    c.args.worker.now.runnable.declared c.self.inside.pass c.take.new.pass c.in-Some.field-0.given
+    lawful_now g.N.RunName.tells g.N.RunName.declaration g.N.RunName.script c.requires.runnable.accepted
+    c.requires.runnable.declared c.self.inside.pass c.take.new.pass c.in-Some.field-0.given
     c.self.invariant.is_actor took c.self.inside.process known c.take-2.new.self.actor c.in_ok-turn.turn acted
     c.reserve.new.pass saw c.append-turn.result
-    (ends g.N.RunName.tells g.N.RunName.table g.N.RunName.declaration g.N.RunName.script c.args.worker.now.runnable
+    (ends g.N.RunName.tells g.N.RunName.table g.N.RunName.declaration g.N.RunName.script c.requires.runnable
     c.self.inside.pass c.take.new.pass c.in-Some.field-0.given c.self.inside.given_up c.self.inside.process
     c.self.invariant known took c.take-2.new.self c.in_ok-turn.turn acted c.take-2.ensures.same.0
     c.take-2.ensures.same.1 c.in_ok-turn.ensures.writes c.prepare.new.self spelt c.append-turn.result
@@ -186,7 +186,7 @@ sent-requires-clause-few g c κs within =
     is_spelled c.take-2.new.self c.prepare.new.self c.in_ok-turn.turn c.in_ok-prepare.ensures.ok in
     let fallen : (c.append-turn.result ≡ Done → ⊥) → c.append-turn.new.self.actor ≡ Down =
     λ not. (c.append-turn.ensures.fallen not).0 in
-    few_then g.N.RunName.tells g.N.RunName.table g.N.RunName.declaration g.N.RunName.script c.args.worker.now.runnable
+    few_then g.N.RunName.tells g.N.RunName.table g.N.RunName.declaration g.N.RunName.script c.requires.runnable
     c.self.inside.pass c.take.new.pass c.in-Some.field-0.given c.self.inside.given_up c.self.inside.process
     c.self.invariant known took c.take-2.new.self c.in_ok-turn.turn acted c.take-2.ensures.same.0
     c.take-2.ensures.same.1 c.in_ok-turn.ensures.writes c.prepare.new.self spelt c.append-turn.result
@@ -203,8 +203,8 @@ sent-requires-clause-numbers g c κs within =
     ∙ c.in_ok-turn.ensures.ok in
     let saw : Sees c.take.new.pass c.reserve.new.pass = search rules in
     let posts : Posts (IsLawfulWithFalls g.N.RunName.declaration) (fits_of g.N.RunName.declaration) g.N.RunName.declaration g.N.RunName.script c.reserve.new.pass c.post-first.new.pass (record c.in_ok-turn.turn { append = c.append-turn.result }) c.post-first.result = search rules in
-    numbers_left g.N.RunName.tells g.N.RunName.declaration g.N.RunName.script c.args.worker.now.runnable.accepted
-    c.args.worker.now.runnable.declared c.self.inside.pass c.take.new.pass c.in-Some.field-0.given
+    numbers_left g.N.RunName.tells g.N.RunName.declaration g.N.RunName.script c.requires.runnable.accepted
+    c.requires.runnable.declared c.self.inside.pass c.take.new.pass c.in-Some.field-0.given
     c.self.invariant.is_actor took c.self.inside.process known c.take-2.new.self.actor c.in_ok-turn.turn acted
     c.reserve.new.pass saw c.post-first.new.pass c.append-turn.result c.post-first.result posts
 
@@ -224,7 +224,7 @@ invariant_of-self-2 g c =
     let saw : Sees c.take.new.pass c.reserve.new.pass = search rules in
     let posts : Posts (IsLawfulWithFalls g.N.RunName.declaration) (fits_of g.N.RunName.declaration) g.N.RunName.declaration g.N.RunName.script c.reserve.new.pass c.post-first.new.pass (record c.in_ok-turn.turn { append = c.append-turn.result }) c.post-first.result = search rules in
     cell_posted g.N.RunName.tells g.N.RunName.table g.N.RunName.declaration g.N.RunName.script
-        c.args.worker.now.runnable
+        c.requires.runnable
     c.self.inside.pass c.take.new.pass c.in-Some.field-0.given c.self.inside.given_up c.self.inside.process
     c.self.invariant known took c.take-2.new.self c.in_ok-turn.turn acted c.take-2.ensures.same.0
     c.take-2.ensures.same.1 c.in_ok-turn.ensures.writes c.prepare.new.self spelt c.append-turn.result
@@ -250,8 +250,8 @@ returns-clause-ok g c =
       given_up = false;
       process = c.sent.new.self;
     })) c.self.view_is
-    (served g.N.RunName.tells g.N.RunName.declaration g.N.RunName.script c.args.worker.now.runnable.accepted
-    c.args.worker.now.runnable.declared c.self.inside.pass c.take.new.pass c.in-Some.field-0.given
+    (served g.N.RunName.tells g.N.RunName.declaration g.N.RunName.script c.requires.runnable.accepted
+    c.requires.runnable.declared c.self.inside.pass c.take.new.pass c.in-Some.field-0.given
     c.self.invariant.is_actor took c.self.inside.process known c.take-2.new.self.actor c.in_ok-turn.turn acted
     c.reserve.new.pass saw c.post-first.new.pass c.append-turn.result c.post-first.result posts
     c.self.inside.given_up false c.sent.new.self refl)
