@@ -1,8 +1,8 @@
 -- What a script asks that was read for an accepted declaration is declared, no client is asked to move an epoch, and
 -- the administrator nothing else.
 use Rattle.std.proofs.Common.{◌≡◌, ℕ, ◌-◌, ◌==◌, ◌<◌, ◌≤◌, cond, None, eqb-true, ◌&&◌, nat_le, Bool, true, false, List}
-use Rattle.std.proofs.Common.{[], ◌∷◌, length, Some, Ok, is_some, slice_get, ap, ◌∙◌, refl, arith}
-use Rattle.std.specs.Prelude.{IsTrue, option_and_then}
+use Rattle.std.proofs.Common.{[], ◌∷◌, length, Some, Ok, is_some, slice_get, ap, ◌∙◌, refl, arith, Option}
+use Rattle.std.specs.Prelude.{IsTrue, option_and_then, MatchOption}
 use Rattle.std.specs.Str.{bytes_eq}
 use Rattle.std.specs.List.{AllByRecursion as Every}
 use Rattle.std.proofs.lemmas.Bool.{le-ltb}
@@ -13,13 +13,15 @@ use Rattle.qc_decl.specs.declared.declaration.Declaration.{Declaration}
 use Rattle.laws_turns.specs.Vocabulary.{AreAskable, AsksDeclared, IsAskable}
 use Rattle.laws_turns.proofs.Places.{slice_get-within}
 use Rattle.qc_msg.specs.declared.step.Command.{Command}
-use Rattle.qc_msg.specs.declared.step.Command.TheVariants.{Begin, Do, Commit, Abort, Epoch}
 use Rattle.qc_script.proofs.SoundScripts.{script_names}
 use Rattle.qc_script.specs.Vocabulary.{IsAskedFor, IsCommandFor, IsPhaseFor, IsScriptFor, script_of}
 use Rattle.qc_script.specs.declared.script.CommandLine.{CommandLine}
 use Rattle.qc_script.specs.declared.script.PhaseLines.{PhaseLines}
 use Rattle.qc_script.specs.declared.script.Script.{Script}
 use Rattle.laws_due.specs.Vocabulary.{AsksEpochs, IsEpoch}
+use Rattle.laws_turns.proofs.ReadingCases.{matched_by}
+use Rattle.qc_msg.specs.Vocabulary.{Invocation, do_in, epoch_in}
+use Rattle.qc_script.specs.Sound.{IsInv, IsObject}
 
 -- the administrator is no client
 no_client : (decl : Declaration) (actor : ℕ) → actor ≡ administrator decl → is_client decl actor ≡ false
@@ -53,11 +55,12 @@ module _ (decl : Declaration) (accepted : IsAccepted decl) where
           ∙ ap is_some (slice_get-within decl.plans (number - 1) (omega arith)).1
 
   askable : (actor : ℕ) (c : Command) → IsAskedFor decl actor c → IsAskable decl actor c
-  askable actor Begin is = tt
-  askable actor (Do object inv) is = has_kind object is.1.0 is.1.1
-  askable actor Commit is = tt
-  askable actor Abort is = tt
-  askable actor (Epoch number) is = (no_client decl actor is.0, planned number is.1 is.2)
+  askable actor c is =
+      matched_by _ _ _ (λ (i : Invocation). is_some (kind_at decl i.object) ≡ true) (do_in c)
+      (λ i asked. has_kind i.object asked.1.0 asked.1.1)
+      (λ other. matched_by (IsTrue (is_client decl actor)) (Unit {0})
+      (λ (number : ℕ). (actor ≡ administrator decl) × (2 ≤ number) × (number ≤ length decl.plans)) _ (epoch_in c)
+      (λ number asked. (no_client decl actor asked.0, planned number asked.1 asked.2)) (λ client. tt) other) is
 
   lines_ask : (lines : List CommandLine) → Every (IsCommandFor decl) lines → AreAskable decl lines
   lines_ask [] all = tt
@@ -87,11 +90,17 @@ never_client decl actor same is = absurd
 
 asks_epoch : (decl : Declaration) (actor : ℕ) (c : Command) → IsAskedFor decl actor c → actor ≡ administrator decl
     → IsEpoch c
-asks_epoch decl actor Begin is same = never_client decl actor same is
-asks_epoch decl actor (Do object inv) is same = never_client decl actor same is.0
-asks_epoch decl actor Commit is same = never_client decl actor same is
-asks_epoch decl actor Abort is same = never_client decl actor same is
-asks_epoch decl actor (Epoch number) is same = tt
+asks_epoch decl actor c is same = by (do_in c) (epoch_in c) is
+  where
+    by : (o : Option Invocation) (e : Option ℕ)
+        → MatchOption o
+        (MatchOption e (IsTrue (is_client decl actor))
+        (λ (number : ℕ). (actor ≡ administrator decl) × (2 ≤ number) × (number ≤ length decl.plans)))
+        (λ (i : Invocation). IsTrue (is_client decl actor) × IsObject decl i.object × IsInv decl i.object i.inv)
+        → MatchOption e ⊥ (λ (x : ℕ). Unit {0})
+    by (Some i) e asked = never_client decl actor same asked.0
+    by None None asked = never_client decl actor same asked
+    by None (Some number) asked = tt
 
 lines_of_epochs : (decl : Declaration) (lines : List CommandLine) → Every (IsCommandFor decl) lines
     → Every (λ (l : CommandLine). l.actor ≡ administrator decl → IsEpoch l.command) lines

@@ -1,8 +1,8 @@
 -- The open requests of the administrator after an input are ones that were open before, but not the one that the input
 -- answers; and a message that he sends opens one where it is a request.
 use Rattle.std.proofs.Common.{◌≡◌, ℕ, ◌+◌, ◌==◌, nat_le, ◌⊎◌, Bool, true, false, cond, inl, inr, List, [], ◌∷◌, length}
-use Rattle.std.proofs.Common.{map, Option, Some, None, refl, sym, ap, subst}
-use Rattle.std.specs.Prelude.{is_none, take}
+use Rattle.std.proofs.Common.{map, Option, Some, None, refl, sym, ap, subst, ◌&&◌}
+use Rattle.std.specs.Prelude.{is_none, take, MatchOption}
 use Rattle.std.specs.List.{cons_option}
 use Rattle.std.proofs.lemmas.List.{map-append}
 use Rattle.qc_list.specs.Vocabulary.{In}
@@ -17,17 +17,16 @@ use Rattle.qc_msg.specs.declared.call.Call.{Call}
 use Rattle.qc_msg.specs.declared.message.Answer.{Answer}
 use Rattle.qc_msg.specs.declared.message.Outcome.{Outcome}
 use Rattle.qc_msg.specs.declared.message.Message.{Message}
-use Rattle.qc_msg.specs.declared.message.Message.TheVariants as messages
 use Rattle.qc_msg.specs.declared.step.Command.{Command}
-use Rattle.qc_msg.specs.declared.step.Command.TheVariants as commands
 use Rattle.qc_msg.specs.declared.step.Input.{Input}
 use Rattle.qc_msg.specs.declared.step.Input.TheVariants as inputs
-use Rattle.qc_msg.specs.Vocabulary.{epoch_length, quiet, sending, site_called, with_call, without_call}
-use Rattle.qc_epoch.specs.Vocabulary.{Admin, AdminMove, Asking, Closing, Doing, Installing, Question, Resting}
-use Rattle.qc_msg.specs.declared.payload.EpochStart.{EpochStart}
-use Rattle.qc_epoch.specs.Vocabulary.{ShutSite, all_taken, decision, doing, first_doubt, in_asked_order, most_asks}
-use Rattle.qc_epoch.specs.Vocabulary.{moved, numbered_first, outcome_in, questions_of, requested, sent_one, standing_of}
+use Rattle.qc_msg.specs.Vocabulary.{epoch_length, quiet, sending, site_called, with_call, without_call, Answered}
+use Rattle.qc_msg.specs.Vocabulary.{answer_in, epoch_in, request_in, wants_answer}
+use Rattle.qc_epoch.specs.Vocabulary.{Admin, AdminMove, Asking, Closing, Doing, Installing, Question, Resting, ShutSite}
+use Rattle.qc_epoch.specs.Vocabulary.{all_taken, decision, doing, first_doubt, in_asked_order, most_asks, moved}
+use Rattle.qc_epoch.specs.Vocabulary.{numbered_first, outcome_in, questions_of, requested, sent_one, standing_of}
 use Rattle.qc_epoch.specs.Vocabulary.{taken_for, with_installed, with_shut_of}
+use Rattle.qc_msg.specs.declared.payload.EpochStart.{EpochStart}
 use Rattle.qc_epoch.specs.Conduct as conduct
 use Rattle.qc_script.specs.Vocabulary.{is_request}
 use Rattle.laws_turns.proofs.Fewer.{IsNotFor}
@@ -37,6 +36,8 @@ use Rattle.laws_due.proofs.AdminNumbers.{DoingPlain, IsFresh, all_unnumbered, ca
 use Rattle.laws_due.proofs.AdminNumbers.{none_numbered, number_if, numbers_in, open_in, open_numbers, spares_then}
 use Rattle.laws_due.proofs.AdminNumbers.{still_spares, taken_spares, uncalled}
 use Rattle.laws_due.proofs.PlainRounds.{ArePlain, IsLeft, left, plain_all, plain_noted}
+use Rattle.laws_turns.proofs.ReadingCases.{mapped}
+use Rattle.std.specs.Option.{option_map_or}
 
 -- his calls
 
@@ -165,47 +166,44 @@ module _ (decl : Declaration) (m : Admin) where
 
   called_keeps : (command : Command) → DoingPlain m.doing
       → KeepsCalls (λ k. Unit {0}) (open_numbers m.doing) (conduct.called decl m command)
-  called_keeps commands.Begin plain = record { calls = λ k member. (member, tt); plain = plain }
-  called_keeps (commands.Do object inv) plain = record { calls = λ k member. (member, tt); plain = plain }
-  called_keeps commands.Commit plain = record { calls = λ k member. (member, tt); plain = plain }
-  called_keeps commands.Abort plain = record { calls = λ k member. (member, tt); plain = plain }
-  called_keeps (commands.Epoch number) plain = by (number == m.epoch) (number == m.epoch + 1)
+  called_keeps command plain =
+      mapped (KeepsCalls (λ k. Unit {0}) (open_numbers m.doing)) (conduct.moves_to decl m) (moved m quiet)
+      (epoch_in command) (λ number. by number (number == m.epoch) (number == m.epoch + 1))
+      (record { calls = λ k member. (member, tt); plain = plain })
     where
       again : (o : Option EpochStart) → KeepsCalls (λ k. Unit {0}) (open_numbers m.doing) (conduct.again decl m o)
       again None = record { calls = λ k member. absurd member; plain = tt }
       again (Some d) = record { calls = λ k member. absurd member; plain = tt }
 
-      by : (b c : Bool) → KeepsCalls (λ k. Unit {0}) (open_numbers m.doing)
+      by : (number : ℕ) (b c : Bool) → KeepsCalls (λ k. Unit {0}) (open_numbers m.doing)
           (cond b (conduct.again decl m m.decided)
           (cond c (conduct.closes decl m number [] (conduct.close_round decl m.epoch) [])
           (conduct.replies_with m (replies.Order m.epoch))))
-      by true c = again m.decided
-      by false true =
+      by number true c = again m.decided
+      by number false true =
           let next : ((k : ℕ) → In k (open_numbers
           (conduct.closes decl m number [] (conduct.close_round decl m.epoch) []).admin.doing)
           → In k (numbers_in []))
           × DoingPlain (conduct.closes decl m number [] (conduct.close_round decl m.epoch) []).admin.doing =
           closes_keep number [] (conduct.close_round decl m.epoch) [] (start_plain m.epoch) in
           record { calls = λ k member. absurd (next.0 k member); plain = next.1 }
-      by false false = record { calls = λ k member. absurd member; plain = tt }
+      by number false false = record { calls = λ k member. absurd member; plain = tt }
 
   heard_keeps : (message : Message) → DoingPlain m.doing
       → KeepsCalls (λ k. IsAnswerTo k message → ⊥) (open_numbers m.doing) (conduct.heard decl m message)
-  heard_keeps (messages.Request tx epoch life want) plain =
-      record { calls = λ k member. (member, λ no. no); plain = plain }
-  heard_keeps (messages.Answer to answer) plain =
-      let kept : KeepsCalls (IsOther to) (open_numbers m.doing) (conduct.answered decl m to (Some answer)) =
-      answered_keeps to (Some answer) m.doing refl plain in
-      record {
-        calls = λ k member. ((kept.calls k member).0, λ same. (kept.calls k member).1 (sym same));
-        plain = kept.plain;
-      }
-  heard_keeps (messages.Decision tx verdict) plain = record { calls = λ k member. (member, λ no. no); plain = plain }
-  heard_keeps (messages.Inquiry tx) plain = record { calls = λ k member. (member, λ no. no); plain = plain }
-  heard_keeps (messages.Ask tx) plain = record { calls = λ k member. (member, λ no. no); plain = plain }
-  heard_keeps (messages.Close epoch) plain = record { calls = λ k member. (member, λ no. no); plain = plain }
-  heard_keeps (messages.Install start) plain =
-      record { calls = λ k member. (member, λ no. no); plain = plain }
+  heard_keeps message plain = by (answer_in message)
+    where
+      by : (o : Option Answered)
+          → KeepsCalls (λ k. MatchOption o ⊥ (λ (a : Answered). a.to ≡ k) → ⊥) (open_numbers m.doing)
+          (option_map_or (λ (a : Answered). conduct.answered decl m a.to (Some a.answer)) o (moved m quiet))
+      by None = record { calls = λ k member. (member, λ none. none); plain = plain }
+      by (Some a) =
+          let kept : KeepsCalls (IsOther a.to) (open_numbers m.doing) (conduct.answered decl m a.to (Some a.answer)) =
+          answered_keeps a.to (Some a.answer) m.doing refl plain in
+          record {
+            calls = λ k member. ((kept.calls k member).0, λ same. (kept.calls k member).1 (sym same));
+            plain = kept.plain;
+          }
 
   pub takes_keep : (g : Input) → DoingPlain m.doing
       → KeepsCalls (λ k. IsNotFor k g) (open_numbers m.doing) (conduct.admin_takes decl m g)
@@ -272,11 +270,10 @@ asked_more m n to message is = record {
 }
 
 pub sent_call : (m : Admin) (n to : ℕ) (message : Message) → SendsCall m n message (sent_one m n to message)
-sent_call m n to (messages.Request tx epoch life want) =
-    record { calls = λ k member. inl member; plain = λ plain. plain }
-sent_call m n to (messages.Answer request answer) = record { calls = λ k member. inl member; plain = λ plain. plain }
-sent_call m n to (messages.Decision tx verdict) = record { calls = λ k member. inl member; plain = λ plain. plain }
-sent_call m n to (messages.Inquiry tx) = record { calls = λ k member. inl member; plain = λ plain. plain }
-sent_call m n to (messages.Ask tx) = asked_more m n to (messages.Ask tx) refl
-sent_call m n to (messages.Close epoch) = asked_more m n to (messages.Close epoch) refl
-sent_call m n to (messages.Install start) = asked_more m n to (messages.Install start) refl
+sent_call m n to message = by (wants_answer message) (is_none (request_in message)) refl
+  where
+    by : (asks other : Bool) → is_request message ≡ asks
+        → SendsCall m n message (cond (asks && other) (doing m (requested m.doing n to)) m)
+    by true true is = asked_more m n to message is
+    by true false is = record { calls = λ k member. inl member; plain = λ plain. plain }
+    by false other is = record { calls = λ k member. inl member; plain = λ plain. plain }

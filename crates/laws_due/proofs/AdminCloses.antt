@@ -15,7 +15,6 @@ use Rattle.qc_plan.specs.declared.standing.Verdict.TheVariants as verdicts
 use Rattle.qc_plan.specs.Vocabulary.{RoundState, all_noted, clash_at, closed_at, cyclic, has_granted, note, note_in}
 use Rattle.qc_plan.specs.Vocabulary.{refusal, settled, start, verdict, weighing, weight, weight_at}
 use Rattle.qc_msg.specs.declared.message.Answer.{Answer}
-use Rattle.qc_msg.specs.declared.message.Answer.TheVariants as answers
 use Rattle.qc_msg.specs.Vocabulary.{shut_in}
 use Rattle.qc_msg.specs.declared.payload.Snapshot.{Snapshot}
 use Rattle.qc_promise.specs.Vocabulary.{AdminRequest, close_asked, fresh_round, standing_for}
@@ -43,18 +42,7 @@ apart_weighing weights = apart_filter (λ (site : ℕ). nat_lt 0 (weight_at weig
 -- what an answer tells of its site
 
 pub standing_is : (answer : Option Answer) → standing_of answer ≡ standing_for answer
-standing_is None = refl
-standing_is (Some (answers.Granted grant)) = refl
-standing_is (Some (answers.Clash holder inv event)) = refl
-standing_is (Some (answers.Closed epoch)) = refl
-standing_is (Some (answers.Behind epoch)) = refl
-standing_is (Some (answers.Restarted life)) = refl
-standing_is (Some answers.Stale) = refl
-standing_is (Some answers.Fault) = refl
-standing_is (Some (answers.Yes clock)) = refl
-standing_is (Some (answers.Shut snapshot)) = refl
-standing_is (Some answers.Installed) = refl
-standing_is (Some (answers.Answered verdict)) = refl
+standing_is answer = refl
 
 -- the round of these Closes, in an epoch
 

@@ -3,21 +3,20 @@ use Rattle.std.proofs.Common.{◌≡◌, ◌≢◌, ◌≤◌, ℕ, ◌+◌, ◌
 use Rattle.std.proofs.Common.{option_map, refl, sym, ap, ◌∙◌, subst, arith, eq-eqb, eqb-true}
 use Rattle.std.specs.Prelude.{is_some, option_and_then}
 use Rattle.std.specs.List.{range_with_len}
-use Rattle.std.specs.Option.{option_or}
+use Rattle.std.specs.Option.{option_or, option_map_or}
 use Rattle.std.proofs.lemmas.List.{length-map}
 use Rattle.qc_decl.specs.declared.declaration.Declaration.{Declaration}
 use Rattle.qc_plan.specs.Vocabulary.{RoundState}
 use Rattle.qc_msg.specs.declared.message.Message.{Message}
-use Rattle.qc_msg.specs.declared.message.Message.TheVariants as messages
 use Rattle.qc_msg.specs.declared.reply.Reply.TheVariants as replies
 use Rattle.qc_msg.specs.declared.step.Command.{Command}
 use Rattle.qc_msg.specs.declared.step.Command.TheVariants as commands
 use Rattle.qc_msg.specs.declared.step.Input.{Input}
 use Rattle.qc_msg.specs.declared.step.Input.TheVariants as inputs
-use Rattle.qc_msg.specs.Vocabulary.{epoch_in, quiet}
+use Rattle.qc_msg.specs.Vocabulary.{epoch_in, quiet, Answered, answer_in}
 use Rattle.qc_msg.specs.declared.payload.EpochStart.{EpochStart}
 use Rattle.qc_promise.specs.Vocabulary.{AdminAccount, IsAdminFree, admin_heard, admin_taken, decided_epoch, decided_now}
-use Rattle.qc_promise.specs.Vocabulary.{installs, site_set}
+use Rattle.qc_promise.specs.Vocabulary.{installs, site_set, admin_counted}
 use Rattle.qc_epoch.specs.Vocabulary.{Admin, Asking, Closing, Doing, Installing, Resting, admin_takes, doing}
 use Rattle.qc_epoch.specs.Vocabulary.{install_of, install_sends, installing, moved, replies_with}
 use Rattle.qc_epoch.specs.Conduct as conduct
@@ -31,6 +30,7 @@ use Rattle.laws_due.proofs.AdminClosing.{closes_goes}
 use Rattle.laws_due.proofs.AdminDeciding.{length_range}
 use Rattle.laws_due.proofs.AdminTurns.{answers_go}
 use Rattle.laws_due.proofs.AdminInstallSends.{InstallsSent, installs_sent}
+use Rattle.laws_turns.proofs.ClientCases.{command_cases}
 
 -- the account once a command is called
 
@@ -161,11 +161,11 @@ module _ (decl : Declaration) (some : (decl.sites == 0) ≡ false) (first : ℕ)
 
   pub called_goes : (command : Command) → m.doing ≡ Resting
       → Goes decl first (called_now d command) (conduct.called decl m command)
-  called_goes commands.Begin is = nothing_goes commands.Begin refl is
-  called_goes (commands.Do object inv) is = nothing_goes (commands.Do object inv) refl is
-  called_goes commands.Commit is = nothing_goes commands.Commit refl is
-  called_goes commands.Abort is = nothing_goes commands.Abort refl is
-  called_goes (commands.Epoch k) is = moves_goes k
+  called_goes command is =
+      command_cases (λ (c : Command). Goes decl first (called_now d c) (conduct.called decl m c))
+      (λ c none. subst (λ (o : Option ℕ). Goes decl first (called_now d c)
+      (option_map_or (conduct.moves_to decl m) o (moved m quiet))) (sym none) (nothing_goes c none is))
+      moves_goes command
 
 -- any input
 
@@ -175,14 +175,13 @@ module _ (decl : Declaration) (some : (decl.sites == 0) ≡ false) (n first : �
   still = record { base = ties.base; stage = stage_later decl n first d m.doing low ties.stage }
 
   heard_goes : (message : Message) → Goes decl first (admin_heard d message) (conduct.heard decl m message)
-  heard_goes (messages.Request tx epoch life want) = quiet_goes decl first d m still
-  heard_goes (messages.Answer to answer) =
-      answers_go decl some first d m ties.base to (Some answer) n low m.doing refl ties.stage
-  heard_goes (messages.Decision tx verdict) = quiet_goes decl first d m still
-  heard_goes (messages.Inquiry tx) = quiet_goes decl first d m still
-  heard_goes (messages.Ask tx) = quiet_goes decl first d m still
-  heard_goes (messages.Close epoch) = quiet_goes decl first d m still
-  heard_goes (messages.Install start) = quiet_goes decl first d m still
+  heard_goes message = by (answer_in message)
+    where
+      by : (o : Option Answered)
+          → Goes decl first (option_map_or (λ (a : Answered). admin_counted d a.to (Some a.answer)) o d)
+          (option_map_or (λ (a : Answered). conduct.answered decl m a.to (Some a.answer)) o (moved m quiet))
+      by None = quiet_goes decl first d m still
+      by (Some a) = answers_go decl some first d m ties.base a.to (Some a.answer) n low m.doing refl ties.stage
 
   -- a command comes where he rests
 

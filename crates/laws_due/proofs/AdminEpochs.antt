@@ -1,30 +1,28 @@
 -- The administrator closes, decides and installs epochs with plans alone, where he is asked for no others.
 use Rattle.std.proofs.Common.{ℕ, ◌+◌, ◌==◌, nat_le, Bool, true, false, cond, List, [], ◌∷◌, length, map, take, Option}
-use Rattle.std.proofs.Common.{Some, None}
+use Rattle.std.proofs.Common.{Some, None, ◌&&◌, subst, sym}
 use Rattle.std.specs.List.{AllByRecursion as Every}
 use Rattle.qc_decl.specs.Vocabulary.{most_record_bytes}
 use Rattle.qc_decl.specs.declared.declaration.Declaration.{Declaration}
 use Rattle.laws_due.proofs.Epochs.{TellPlanned, TurnPlanned, says_nothing}
 use Rattle.laws_due.specs.Vocabulary.{IsPlanned, IsRecordPlanned}
-use Rattle.qc_epoch.specs.Vocabulary.{Admin, AdminMove, Asking, Closing, Doing, Installing, Question, Resting}
+use Rattle.qc_epoch.specs.Vocabulary.{Admin, AdminMove, Asking, Closing, Doing, Installing, Question, Resting, ShutSite}
+use Rattle.qc_epoch.specs.Vocabulary.{all_taken, decision, first_doubt, in_asked_order, most_asks, moved, new_admin}
+use Rattle.qc_epoch.specs.Vocabulary.{outcome_in, questions_of, standing_of, taken_for, with_installed, with_shut_of}
 use Rattle.qc_msg.specs.declared.payload.EpochStart.{EpochStart}
-use Rattle.qc_epoch.specs.Vocabulary.{ShutSite, all_taken, decision, first_doubt, in_asked_order, most_asks, moved}
-use Rattle.qc_epoch.specs.Vocabulary.{new_admin, outcome_in, questions_of, standing_of, taken_for, with_installed}
-use Rattle.qc_epoch.specs.Vocabulary.{with_shut_of}
 use Rattle.qc_epoch.specs.Conduct as admins
 use Rattle.laws_turns.proofs.SoundClients.{IsAskableGiven}
-use Rattle.qc_msg.specs.Vocabulary.{epoch_length, quiet, sending, site_called, without_call}
+use Rattle.qc_msg.specs.Vocabulary.{epoch_length, quiet, sending, site_called, without_call, Answered, answer_in}
+use Rattle.qc_msg.specs.Vocabulary.{epoch_in, request_in, wants_answer}
 use Rattle.qc_msg.specs.declared.call.Call.{Call}
 use Rattle.qc_msg.specs.declared.message.Answer.{Answer}
 use Rattle.qc_msg.specs.declared.message.Message.{Message}
-use Rattle.qc_msg.specs.declared.message.Message.TheVariants as messages
 use Rattle.qc_msg.specs.declared.record.Record.{Record}
 use Rattle.qc_msg.specs.declared.record.Record.TheVariants as records
 use Rattle.qc_msg.specs.declared.reply.Half.TheVariants as halves
 use Rattle.qc_msg.specs.declared.reply.Reply.{Reply}
 use Rattle.qc_msg.specs.declared.reply.Reply.TheVariants as replies
 use Rattle.qc_msg.specs.declared.step.Command.{Command}
-use Rattle.qc_msg.specs.declared.step.Command.TheVariants as commands
 use Rattle.qc_msg.specs.declared.step.Input.{Input}
 use Rattle.qc_msg.specs.declared.step.Input.TheVariants as inputs
 use Rattle.qc_plan.specs.Vocabulary.{RoundState, note, verdict, wanted}
@@ -32,16 +30,15 @@ use Rattle.qc_plan.specs.declared.standing.Verdict.{Verdict}
 use Rattle.qc_plan.specs.declared.standing.Verdict.TheVariants as verdicts
 use Rattle.qc_recover.specs.Vocabulary.{admin_by}
 use Rattle.qc_recover.specs.Admins.{keeps, kept_by}
-use Rattle.std.specs.Prelude.{◌++◌, fold}
+use Rattle.std.specs.Prelude.{◌++◌, fold, MatchOption, is_none}
+use Rattle.laws_turns.proofs.ReadingCases.{mapped, mapped_by}
+use Rattle.laws_turns.proofs.ClientCases.{command_cases}
+use Rattle.laws_turns.proofs.StampsOwn.{by_two}
 
 -- what he is asked for
 
 abbrev pub IsPlannedCommand : Declaration → Command → Type 0
-IsPlannedCommand decl commands.Begin = Unit {0}
-IsPlannedCommand decl (commands.Do object inv) = Unit {0}
-IsPlannedCommand decl commands.Commit = Unit {0}
-IsPlannedCommand decl commands.Abort = Unit {0}
-IsPlannedCommand decl (commands.Epoch number) = IsPlanned decl number
+IsPlannedCommand decl command = MatchOption (epoch_in command) (Unit {0}) (IsPlanned decl)
 
 abbrev pub IsPlannedInput : Declaration → Input → Type 0
 IsPlannedInput decl (inputs.Called command) = IsPlannedCommand decl command
@@ -50,11 +47,10 @@ IsPlannedInput decl (inputs.Lost number) = Unit {0}
 
 command_planned : (decl : Declaration) (a : ℕ) (command : Command) → IsAskableGiven decl a (inputs.Called command)
     → IsPlannedCommand decl command
-command_planned decl a commands.Begin is = tt
-command_planned decl a (commands.Do object inv) is = tt
-command_planned decl a commands.Commit is = tt
-command_planned decl a commands.Abort is = tt
-command_planned decl a (commands.Epoch number) is = is.1
+command_planned decl a command is =
+    command_cases (λ (c : Command). IsAskableGiven decl a (inputs.Called c) → IsPlannedCommand decl c)
+    (λ c none asked. subst (λ (o : Option ℕ). MatchOption o (Unit {0}) (IsPlanned decl)) (sym none) tt)
+    (λ number asked. asked.1) command is
 
 pub input_planned : (decl : Declaration) (a : ℕ) (g : Input) → IsAskableGiven decl a g → IsPlannedInput decl g
 input_planned decl a (inputs.Called command) is = command_planned decl a command is
@@ -184,11 +180,9 @@ module _ (decl : Declaration) (m : Admin) (w : AdminPlanned decl m) where
       by false false = tells (replies.Order m.epoch)
 
   called : (command : Command) → IsPlannedCommand decl command → AdminMovePlanned decl (admins.called decl m command)
-  called commands.Begin planned = stays
-  called (commands.Do object inv) planned = stays
-  called commands.Commit planned = stays
-  called commands.Abort planned = stays
-  called (commands.Epoch number) planned = moves_to number planned
+  called command planned =
+      mapped_by (AdminMovePlanned decl) (admins.moves_to decl m) (moved m quiet) (Unit {0}) (IsPlanned decl)
+      (epoch_in command) moves_to (λ u. stays) planned
 
   asking : (epoch : ℕ) (shuts : List ShutSite) (questions : List Question) → IsPlanned decl epoch
       → AdminMovePlanned decl (admins.asking_takes decl m epoch shuts questions)
@@ -235,13 +229,9 @@ module _ (decl : Declaration) (m : Admin) (w : AdminPlanned decl m) where
           installing closed awaited calls sites (site_called calls number)
 
   heard : (message : Message) → AdminMovePlanned decl (admins.heard decl m message)
-  heard (messages.Request tx epoch life want) = stays
-  heard (messages.Answer to answer) = answered to (Some answer)
-  heard (messages.Decision tx verdict) = stays
-  heard (messages.Inquiry tx) = stays
-  heard (messages.Ask tx) = stays
-  heard (messages.Close epoch) = stays
-  heard (messages.Install start) = stays
+  heard message =
+      mapped (AdminMovePlanned decl) (λ (a : Answered). admins.answered decl m a.to (Some a.answer)) (moved m quiet)
+      (answer_in message) (λ a. answered a.to (Some a.answer)) stays
 
   pub admin_planned : (g : Input) → IsPlannedInput decl g → AdminMovePlanned decl (admins.admin_takes decl m g)
   admin_planned (inputs.Called command) planned = called command planned
@@ -258,22 +248,15 @@ module _ (decl : Declaration) (m : Admin) (w : AdminPlanned decl m) where
   requested_planned (Installing closed awaited calls sites) number to planned = tt
 
   pub sent_planned : (number to : ℕ) (message : Message) → AdminPlanned decl (admins.sent_one m number to message)
-  sent_planned number to (messages.Request tx epoch life want) = w
-  sent_planned number to (messages.Answer request answer) = w
-  sent_planned number to (messages.Decision tx verdict) = w
-  sent_planned number to (messages.Inquiry tx) = w
-  sent_planned number to (messages.Ask tx) =
-      record { decided = w.decided; doing = requested_planned m.doing number to w.doing }
-  sent_planned number to (messages.Close epoch) =
-      record { decided = w.decided; doing = requested_planned m.doing number to w.doing }
-  sent_planned number to (messages.Install start) =
-      record { decided = w.decided; doing = requested_planned m.doing number to w.doing }
+  sent_planned number to message =
+      by_two (AdminPlanned decl) (wants_answer message && is_none (request_in message))
+      (admins.doing m (admins.requested m.doing number to)) m
+      (record { decided = w.decided; doing = requested_planned m.doing number to w.doing }) w
 
 -- he rises with the last decision of his records
 
 keeps_planned : (decl : Declaration) (k : Option EpochStart) (r : Record) → IsRecordPlanned decl r
-    → DecidedPlanned decl k
-    → DecidedPlanned decl (keeps k r)
+    → DecidedPlanned decl k → DecidedPlanned decl (keeps k r)
 keeps_planned decl k records.Life planned w = w
 keeps_planned decl k (records.Prepare p) planned w = w
 keeps_planned decl k (records.Done tx clock) planned w = w

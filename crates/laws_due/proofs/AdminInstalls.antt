@@ -4,7 +4,6 @@ use Rattle.std.proofs.Common.{Some, None, refl, sym, ap, ◌∙◌, subst, arith
 use Rattle.std.specs.Option.{option_map_or}
 use Rattle.std.proofs.lemmas.List.Sums.{sum_by-append}
 use Rattle.qc_msg.specs.declared.message.Answer.{Answer}
-use Rattle.qc_msg.specs.declared.message.Answer.TheVariants as answers
 use Rattle.qc_msg.specs.Vocabulary.{has_installed}
 use Rattle.qc_promise.specs.Vocabulary.{AdminRequest, answer_to, site_set}
 use Rattle.qc_epoch.specs.Vocabulary.{with_installed}
@@ -38,18 +37,11 @@ with_none sites = omega arith
 
 pub with_installed_set : (sites : List ℕ) (site : ℕ) (answer : Option Answer)
     → site_set (with_installed sites site answer) ≡ site_set sites + weight_if (told answer) site
-with_installed_set sites site None = with_none sites
-with_installed_set sites site (Some (answers.Granted grant)) = with_none sites
-with_installed_set sites site (Some (answers.Clash holder inv event)) = with_none sites
-with_installed_set sites site (Some (answers.Closed epoch)) = with_none sites
-with_installed_set sites site (Some (answers.Behind epoch)) = with_none sites
-with_installed_set sites site (Some (answers.Restarted life)) = with_none sites
-with_installed_set sites site (Some answers.Stale) = with_none sites
-with_installed_set sites site (Some answers.Fault) = with_none sites
-with_installed_set sites site (Some (answers.Yes clock)) = with_none sites
-with_installed_set sites site (Some (answers.Shut snapshot)) = with_none sites
-with_installed_set sites site (Some answers.Installed) = set_more sites site
-with_installed_set sites site (Some (answers.Answered verdict)) = with_none sites
+with_installed_set sites site answer = by (told answer)
+  where
+    by : (b : Bool) → site_set (cond b (sites ++ site ∷ []) sites) ≡ site_set sites + weight_if b site
+    by true = set_more sites site
+    by false = with_none sites
 
 -- one more Install tells nothing
 

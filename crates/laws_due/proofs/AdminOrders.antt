@@ -1,7 +1,7 @@
 -- The administrator's commands are epochs; his replies that are due are told while a command runs, in order.
 use Rattle.std.proofs.Common.{[], ◌≡◌, ℕ, zero, suc, ◌+◌, ◌==◌, Bool, true, false, cond, List, ◌∷◌, ◌++◌, map, filter}
 use Rattle.std.proofs.Common.{take, Option, Some, None, is_some, refl, sym, ap, ◌∙◌, subst}
-use Rattle.std.specs.Prelude.{fold, option_and_then}
+use Rattle.std.specs.Prelude.{fold, option_and_then, MatchOption}
 use Rattle.std.specs.List.{AllByRecursion as Every, filter_map}
 use Rattle.std.proofs.lemmas.Bool.{eqb-true}
 use Rattle.qc_decl.specs.Vocabulary.{administrator}
@@ -13,7 +13,6 @@ use Rattle.qc_msg.specs.Vocabulary.{tells_of, writes_of}
 use Rattle.qc_msg.specs.declared.record.Record.{Record}
 use Rattle.qc_msg.specs.declared.reply.Reply.{Reply}
 use Rattle.qc_msg.specs.declared.step.Command.{Command}
-use Rattle.qc_msg.specs.declared.step.Command.TheVariants as commands
 use Rattle.qc_msg.specs.declared.step.Fall.{Fall}
 use Rattle.qc_msg.specs.declared.step.Input.TheVariants as inputs
 use Rattle.qc_msg.specs.declared.turn.Appended.TheVariants.{Done}
@@ -35,11 +34,11 @@ OfEpoch (Some c) = IsEpoch c
 
 pub no_command : (o : Option Command) → OfEpoch o → option_and_then epoch_in o ≡ None → is_some o ≡ false
 no_command None is none = refl
-no_command (Some commands.Begin) is none = absurd is
-no_command (Some (commands.Do object inv)) is none = absurd is
-no_command (Some commands.Commit) is none = absurd is
-no_command (Some commands.Abort) is none = absurd is
-no_command (Some (commands.Epoch number)) is none = absurd (let never : ⊥ = cc in never)
+no_command (Some c) is none = by (epoch_in c) is none
+  where
+    by : (o : Option ℕ) → MatchOption o ⊥ (λ (x : ℕ). Unit {0}) → o ≡ None → true ≡ false
+    by None never none = absurd never
+    by (Some number) so none = absurd (let never : ⊥ = cc in never)
 
 module _ (decl : Declaration) where
   pub command_of : (ds : List Deed) (d : AdminAccount) → Every IsEpoch (filter_map call_in ds) → OfEpoch d.command

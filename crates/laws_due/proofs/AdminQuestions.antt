@@ -10,7 +10,6 @@ use Rattle.qc_stamp.specs.Vocabulary.{same_tx}
 use Rattle.qc_stamp.proofs.Orders.{other_tx_sym}
 use Rattle.qc_entry.specs.declared.record.Prepared.{Prepared}
 use Rattle.qc_msg.specs.declared.message.Answer.{Answer}
-use Rattle.qc_msg.specs.declared.message.Answer.TheVariants as answers
 use Rattle.qc_msg.specs.declared.message.Outcome.{Outcome}
 use Rattle.qc_msg.specs.declared.message.Outcome.TheVariants.{Committed, Aborted, Active}
 use Rattle.qc_msg.specs.Vocabulary.{verdict_in}
@@ -214,27 +213,13 @@ abbrev pub heard : Option (Option Outcome) → Option Outcome
 heard None = None
 heard (Some o) = o
 
-outcome_is : (answer : Option Answer) → outcome_in answer ≡ option_and_then verdict_in answer
-outcome_is None = refl
-outcome_is (Some (answers.Granted grant)) = refl
-outcome_is (Some (answers.Clash holder inv event)) = refl
-outcome_is (Some (answers.Closed epoch)) = refl
-outcome_is (Some (answers.Behind epoch)) = refl
-outcome_is (Some (answers.Restarted life)) = refl
-outcome_is (Some answers.Stale) = refl
-outcome_is (Some answers.Fault) = refl
-outcome_is (Some (answers.Yes clock)) = refl
-outcome_is (Some (answers.Shut snapshot)) = refl
-outcome_is (Some answers.Installed) = refl
-outcome_is (Some (answers.Answered verdict)) = refl
-
 pub heard_is : (q : AdminRequest) → heard (option_map outcome_in q.taken) ≡ outcome_of (Some q)
 heard_is q = by q.taken refl
   where
     by : (t : Option (Option Answer)) → q.taken ≡ t
         → heard (option_map outcome_in q.taken) ≡ option_and_then verdict_in (answer_to q)
     by None is = rw is refl
-    by (Some answer) is = rw is (outcome_is answer)
+    by (Some answer) is = rw is refl
 
 pub stamp_heard : (t : Option (Option Outcome)) → stamp_in t ≡ option_and_then stamp_told (heard t)
 stamp_heard None = refl

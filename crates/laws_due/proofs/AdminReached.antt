@@ -1,7 +1,7 @@
 -- Who gets a request of the administrator answers it at once: a site a Close or an Install, and a client an Ask, where
 -- it is of a declared client. So an unanswered request of his is at its receiver.
-use Rattle.std.proofs.Common.{◌≡◌, ℕ, ◌+◌, ◌<◌, ◌≤◌, ◌&&◌, Bool, true, false, List, [], ◌∷◌, ◌++◌, length, refl, sym}
-use Rattle.std.proofs.Common.{ap, subst, arith}
+use Rattle.std.proofs.Common.{◌≡◌, ℕ, ◌+◌, ◌<◌, ◌≤◌, ◌&&◌, Bool, true, List, [], ◌∷◌, ◌++◌, length, refl, sym, subst}
+use Rattle.std.proofs.Common.{arith}
 use Rattle.std.specs.List.{AllByRecursion as Every}
 use Rattle.std.proofs.lemmas.Bool.{le-leb, lt-ltb}
 use Rattle.qc_list.specs.Vocabulary.{In}
@@ -38,6 +38,7 @@ use Rattle.laws_due.proofs.Taken.{AreReplied, IsReplied, RepliesTo}
 use Rattle.laws_due.proofs.Reached.{unanswered_at_receiver}
 use Rattle.laws_due.proofs.SiteTurns.{IsSomeClient, IsSomeSite, client_up, site_up}
 use Rattle.laws_due.proofs.Somewhere.{AreToOthers, IsOther}
+use Rattle.laws_due.proofs.AskingCases.{asking_cases}
 
 known_posts : (decl : Declaration) (b n : ℕ) (ps : List Posting)
     → Every (λ (e : Envelope). IsKnown decl e.message) (envelopes b n ps)
@@ -77,13 +78,10 @@ module _ (decl : Declaration) (script : Script) (accepted : IsAccepted decl) (fi
 
   to_other : (to : ℕ) (m : Message) → GoesWell decl to m → IsKnown decl m → is_request m ≡ true
       → IsOther (administrator decl) to
-  to_other to (messages.Request tx epoch life want) goes is request = absurd goes
-  to_other to (messages.Answer number answer) goes is request = absurd (let never : ⊥ = cc in never)
-  to_other to (messages.Decision tx verdict) goes is request = absurd (let never : ⊥ = cc in never)
-  to_other to (messages.Inquiry tx) goes is request = absurd (let never : ⊥ = cc in never)
-  to_other to (messages.Ask tx) goes is request = to_client to tx.client goes is
-  to_other to (messages.Close epoch) goes is request = to_site to goes
-  to_other to (messages.Install start) goes is request = to_site to goes
+  to_other to m goes is request =
+      asking_cases (λ (x : Message). GoesWell decl to x → IsKnown decl x → IsOther (administrator decl) to)
+      (λ q never known_x. absurd never) (λ tx place known_x. to_client to tx.client place known_x)
+      (λ epoch place known_x. to_site to place) (λ start place known_x. to_site to place) m request goes is
 
   to_others : (ps : List Posting) → GoWell decl ps → Every (λ (p : Posting). IsKnown decl p.message) ps
       → AreToOthers (administrator decl) ps
@@ -175,7 +173,13 @@ module _ (decl : Declaration) (script : Script) (accepted : IsAccepted decl) (fi
       → RunsWithFalls (IsLawfulWithFalls decl) fits decl script h open_inputs → (e : Envelope) → In e (mail h)
       → e.from ≡ administrator decl → is_request e.message ≡ true
       → e.to < actors decl
-  his_receiver h open_inputs run e member from request = within e.message refl
+  his_receiver h open_inputs run e member from request =
+      asking_cases (λ (x : Message). GoesWell decl e.to x → IsKnown decl x → e.to < actors decl)
+      (λ q never known_x. absurd never)
+      (λ tx place known_x. (let at : e.to ≡ decl.sites + tx.client = place in
+      let less : tx.client < decl.clients = known_x in omega arith))
+      (λ epoch place known_x. (let at : e.to < decl.sites = place in omega arith))
+      (λ start place known_x. (let at : e.to < decl.sites = place in omega arith)) e.message request goes is
     where
       goes : GoesWell decl e.to e.message
       goes = every-In (GoesHis decl accepted) e (mail h)
@@ -183,19 +187,3 @@ module _ (decl : Declaration) (script : Script) (accepted : IsAccepted decl) (fi
 
       is : IsKnown decl e.message
       is = every-In (λ (x : Envelope). IsKnown decl x.message) e (mail h) (known h open_inputs run) member
-
-      within : (m : Message) → e.message ≡ m → e.to < actors decl
-      within (messages.Request tx epoch life want) same = absurd (subst (GoesWell decl e.to) same goes)
-      within (messages.Answer number answer) same =
-          absurd (let no : is_request e.message ≡ false = ap is_request same in let never : ⊥ = cc in never)
-      within (messages.Decision tx verdict) same =
-          absurd (let no : is_request e.message ≡ false = ap is_request same in let never : ⊥ = cc in never)
-      within (messages.Inquiry tx) same = absurd
-          (let no : is_request e.message ≡ false = ap is_request same in let never : ⊥ = cc in never)
-      within (messages.Ask tx) same = let place : e.to ≡ decl.sites + tx.client =
-          subst (GoesWell decl e.to) same goes in let less : tx.client < decl.clients = subst (IsKnown decl) same is in
-          omega arith
-      within (messages.Close epoch) same = let place : e.to < decl.sites = subst (GoesWell decl e.to) same goes in
-          omega arith
-      within (messages.Install start) same = let place : e.to < decl.sites =
-          subst (GoesWell decl e.to) same goes in omega arith

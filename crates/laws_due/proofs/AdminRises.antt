@@ -2,7 +2,7 @@
 -- is due still.
 use Rattle.std.proofs.Common.{◌≡◌, ℕ, Bool, true, false, cond, List, [], ◌∷◌, ◌++◌, fold, Option, Some, None}
 use Rattle.std.proofs.Common.{option_map, refl, sym, ap, ◌∙◌, subst, append_assoc, eq-eqb}
-use Rattle.std.specs.Option.{option_or}
+use Rattle.std.specs.Option.{option_or, option_map_or}
 use Rattle.std.proofs.lemmas.List.Sums.{fold-append}
 use Rattle.qc_core.specs.Vocabulary.{ActorMove, IsLawfulWithFalls, actor_after, by_admin, is_up, with_record}
 use Rattle.qc_core.proofs.ByNumber.{admin_new, admin_no_client, admin_no_site, admin_risen}
@@ -35,15 +35,16 @@ kept_last : (rs : List Record) (k : Option EpochStart) (o : Option EpochStart) �
     → fold (λ (last : Option EpochStart) (r : Record). option_or (decide_in r) last) o rs ≡ option_map started
     (fold keeps k rs)
 kept_last [] k o is = is
-kept_last (records.Life ∷ rs) k o is = kept_last rs k o is
-kept_last (records.Prepare p ∷ rs) k o is = kept_last rs k o is
-kept_last (records.Done tx clock ∷ rs) k o is = kept_last rs k o is
-kept_last (records.Close epoch ∷ rs) k o is = kept_last rs k o is
-kept_last (records.Install start ∷ rs) k o is = kept_last rs k o is
-kept_last (records.Commit commit ∷ rs) k o is = kept_last rs k o is
-kept_last (records.Decide start ∷ rs) k o is =
-    kept_last rs (Some start)
-    (Some start) refl
+kept_last (r ∷ rs) k o is = by (decide_in r) (kept_last rs)
+  where
+    by : (d : Option EpochStart)
+        → ((k : Option EpochStart) (o : Option EpochStart) → o ≡ option_map started k
+        → fold (λ (last : Option EpochStart) (r : Record). option_or (decide_in r) last) o rs
+        ≡ option_map started (fold keeps k rs))
+        → fold (λ (last : Option EpochStart) (r : Record). option_or (decide_in r) last) (option_or d o) rs
+        ≡ option_map started (fold keeps (option_map_or (λ (start : EpochStart). Some start) d k) rs)
+    by None more = more k o is
+    by (Some start) more = more (Some start) (Some start) refl
 
 epoch_started : (k : Option EpochStart) → epoch_by k ≡ epoch_of (option_map started k)
 epoch_started None = refl

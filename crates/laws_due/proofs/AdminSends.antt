@@ -20,7 +20,6 @@ use Rattle.qc_msg.specs.declared.message.Envelope.{Envelope}
 use Rattle.qc_msg.specs.declared.message.Message.{Message}
 use Rattle.qc_msg.specs.declared.record.Record.{Record}
 use Rattle.qc_msg.specs.declared.step.Control.{Control}
-use Rattle.qc_msg.specs.declared.step.Control.TheVariants as controls
 use Rattle.qc_msg.specs.declared.step.Fall.TheVariants as causes
 use Rattle.qc_msg.specs.declared.step.Input.{Input}
 use Rattle.qc_msg.specs.declared.step.Input.TheVariants as inputs
@@ -36,6 +35,7 @@ use Rattle.qc_script.specs.Vocabulary.{RunsWithFalls, begins, control, controlle
 use Rattle.qc_script.specs.Vocabulary.{posts, rises, takes, unopened}
 use Rattle.qc_script.specs.declared.script.Script.{Script}
 use Rattle.laws_due.proofs.AdminSited.{GoWell, GoesWell, IsSited, Sited, sent_sited, takes_sited}
+use Rattle.laws_turns.proofs.StepCases.{controller_cases}
 
 module _ (decl : Declaration) (accepted : IsAccepted decl) where
   -- over his deeds
@@ -139,16 +139,8 @@ module _ (decl : Declaration) (accepted : IsAccepted decl) where
   module _ (script : Script) (fits : ℕ → List Record → Type 0) where
     line_goes : (b : ℕ) (line : Control) (step : Step) → controller_step line ≡ Some step
         → GoHis (mail (marked b step ∷ []))
-    line_goes b (controls.Phase k) step is = absurd (let never : ⊥ = cc in never)
-    line_goes b (controls.Cut x y) step is =
-        subst (λ (s : Step). GoHis (mail (marked b s ∷ []))) (let same : steps.Cut x y ≡ step = cc in same) tt
-    line_goes b (controls.Heal x y) step is =
-        subst (λ (s : Step). GoHis (mail (marked b s ∷ []))) (let same : steps.Heal x y ≡ step = cc in same) tt
-    line_goes b (controls.Armed r kind place) step is =
-        subst (λ (s : Step). GoHis (mail (marked b s ∷ [])))
-        (let same : steps.Armed r kind place ≡ step = cc in same) tt
-    line_goes b (controls.Crash x) step is = absurd (let never : ⊥ = cc in never)
-    line_goes b (controls.Restart x) step is = absurd (let never : ⊥ = cc in never)
+    line_goes b line step is =
+        controller_cases (λ (s : Step). GoHis (mail (marked b s ∷ []))) (λ x y. tt) (λ x y. tt) (λ x. tt) line step is
 
     pub run_goes : (h : List Entry) (open_inputs : List Bool)
         → RunsWithFalls (IsLawfulWithFalls decl) fits decl script h open_inputs → GoHis (mail h)

@@ -1,28 +1,27 @@
 -- The administrator's Closes and Installs go to sites, and each Ask to the client of its transaction, whatever he
 -- takes.
 use Rattle.std.proofs.Common.{◌≡◌, ℕ, ◌+◌, ◌-◌, ◌<◌, ◌≤◌, ◌==◌, Bool, true, false, cond, List, [], ◌∷◌, length, map}
-use Rattle.std.proofs.Common.{take, Option, Some, None, refl, arith}
-use Rattle.std.specs.Prelude.{nat_le, slice_get}
+use Rattle.std.proofs.Common.{take, Option, Some, None, refl, arith, ◌&&◌}
+use Rattle.std.specs.Prelude.{nat_le, slice_get, MatchOption, is_none}
 use Rattle.std.specs.List.{AllByRecursion as Every}
 use Rattle.qc_decl.specs.Vocabulary.{IsAccepted, client_actor, most_record_bytes, plan_in}
 use Rattle.qc_decl.specs.declared.declaration.Declaration.{Declaration}
-use Rattle.qc_epoch.specs.Vocabulary.{Admin, AdminMove, Asking, Closing, Doing, Installing, Question, Resting}
+use Rattle.qc_epoch.specs.Vocabulary.{Admin, AdminMove, Asking, Closing, Doing, Installing, Question, Resting, ShutSite}
+use Rattle.qc_epoch.specs.Vocabulary.{admin_takes, all_taken, decision, doing, first_doubt, in_asked_order, most_asks}
+use Rattle.qc_epoch.specs.Vocabulary.{outcome_in, questions_of, requested, sent_one, standing_of, taken_for}
+use Rattle.qc_epoch.specs.Vocabulary.{with_installed, with_shut_of}
 use Rattle.qc_msg.specs.declared.payload.EpochStart.{EpochStart}
-use Rattle.qc_epoch.specs.Vocabulary.{ShutSite, admin_takes, all_taken, decision, doing, first_doubt, in_asked_order}
-use Rattle.qc_epoch.specs.Vocabulary.{most_asks, new_admin, outcome_in, questions_of, requested, sent_one, standing_of}
-use Rattle.qc_epoch.specs.Vocabulary.{taken_for, with_installed, with_shut_of}
 use Rattle.qc_epoch.specs.Admin as epochs
 use Rattle.qc_epoch.specs.Conduct as conduct
 use Rattle.laws_turns.proofs.DeclaredSites.{AreSites, asking_rest, sites_cyclic, sites_filter, sites_range}
 use Rattle.laws_turns.proofs.DeclaredSites.{wanted_sites}
-use Rattle.qc_msg.specs.Vocabulary.{epoch_length, quiet, sending, site_called, without_call}
+use Rattle.qc_msg.specs.Vocabulary.{epoch_length, quiet, sending, site_called, without_call, Answered, Requested}
+use Rattle.qc_msg.specs.Vocabulary.{answer_in, asking_in, closing_in, epoch_in, installing_in, request_in, wants_answer}
 use Rattle.qc_msg.specs.declared.call.Call.{Call}
 use Rattle.qc_msg.specs.declared.message.Answer.{Answer}
 use Rattle.qc_msg.specs.declared.message.Message.{Message}
-use Rattle.qc_msg.specs.declared.message.Message.TheVariants as messages
 use Rattle.qc_msg.specs.declared.reply.Reply.TheVariants as replies
 use Rattle.qc_msg.specs.declared.step.Command.{Command}
-use Rattle.qc_msg.specs.declared.step.Command.TheVariants as commands
 use Rattle.qc_msg.specs.declared.step.Input.{Input}
 use Rattle.qc_msg.specs.declared.step.Input.TheVariants as inputs
 use Rattle.qc_msg.specs.declared.turn.Posting.{Posting}
@@ -30,17 +29,19 @@ use Rattle.qc_plan.specs.Vocabulary.{RoundState, note, verdict, wanted}
 use Rattle.qc_plan.specs.declared.plan.Plan.{Plan}
 use Rattle.qc_plan.specs.declared.standing.Verdict.{Verdict}
 use Rattle.qc_plan.specs.declared.standing.Verdict.TheVariants as verdicts
+use Rattle.laws_turns.proofs.ReadingCases.{mapped}
+use Rattle.laws_turns.proofs.StampsOwn.{by_two}
+use Rattle.qc_stamp.specs.declared.stamp.TxId.{TxId}
 
 -- where a message of his goes
 
 abbrev pub GoesWell : Declaration → ℕ → Message → Type 0
-GoesWell decl to (messages.Request tx epoch life want) = ⊥
-GoesWell decl to (messages.Answer number answer) = Unit {0}
-GoesWell decl to (messages.Decision tx verdict) = Unit {0}
-GoesWell decl to (messages.Inquiry tx) = Unit {0}
-GoesWell decl to (messages.Ask tx) = to ≡ client_actor decl tx.client
-GoesWell decl to (messages.Close epoch) = to < decl.sites
-GoesWell decl to (messages.Install start) = to < decl.sites
+GoesWell decl to m =
+    MatchOption (request_in m)
+    (MatchOption (asking_in m)
+    (MatchOption (closing_in m)
+    (MatchOption (installing_in m) (Unit {0}) (λ (start : EpochStart). to < decl.sites))
+    (λ (epoch : ℕ). to < decl.sites)) (λ (tx : TxId). to ≡ client_actor decl tx.client)) (λ (q : Requested). ⊥)
 
 abbrev pub GoWell : Declaration → List Posting → Type 0
 GoWell decl ps = Every (λ (p : Posting). GoesWell decl p.to p.message) ps
@@ -136,22 +137,20 @@ module _ (decl : Declaration) (accepted : IsAccepted decl) where
         by (verdicts.Short got need) = record { state = tt; sends = tt }
 
     called_sited : (command : Command) → IsSited decl m.doing → Sited decl (conduct.called decl m command)
-    called_sited commands.Begin state = stays_sited state
-    called_sited (commands.Do object inv) state = stays_sited state
-    called_sited commands.Commit state = stays_sited state
-    called_sited commands.Abort state = stays_sited state
-    called_sited (commands.Epoch number) state = by (number == m.epoch) (number == m.epoch + 1)
+    called_sited command state =
+        mapped (Sited decl) (conduct.moves_to decl m) (epochs.moved m quiet) (epoch_in command)
+        (λ number. by number (number == m.epoch) (number == m.epoch + 1)) (stays_sited state)
       where
         again : (o : Option EpochStart) → Sited decl (conduct.again decl m o)
         again None = record { state = tt; sends = tt }
         again (Some d) = record { state = tt; sends = all_go d }
 
-        by : (b c : Bool) → Sited decl (cond b (conduct.again decl m m.decided)
+        by : (number : ℕ) (b c : Bool) → Sited decl (cond b (conduct.again decl m m.decided)
             (cond c (conduct.closes decl m number [] (conduct.close_round decl m.epoch) [])
             (conduct.replies_with m (replies.Order m.epoch))))
-        by true c = again m.decided
-        by false true = closes_sited number [] (conduct.close_round decl m.epoch) [] (begins_sited m.epoch) state
-        by false false = record { state = tt; sends = tt }
+        by number true c = again m.decided
+        by number false true = closes_sited number [] (conduct.close_round decl m.epoch) [] (begins_sited m.epoch) state
+        by number false false = record { state = tt; sends = tt }
 
     answered_sited : (number : ℕ) (answer : Option Answer) (x : Doing) → IsSited decl x → IsSited decl m.doing
         → Sited decl (conduct.answered_in decl m x number answer)
@@ -185,13 +184,9 @@ module _ (decl : Declaration) (accepted : IsAccepted decl) where
         by (Some site) = ends site (length (without_call calls number) == 0)
 
     heard_sited : (message : Message) → IsSited decl m.doing → Sited decl (conduct.heard decl m message)
-    heard_sited (messages.Request tx epoch life want) state = stays_sited state
-    heard_sited (messages.Answer to answer) state = answered_sited to (Some answer) m.doing state state
-    heard_sited (messages.Decision tx verdict) state = stays_sited state
-    heard_sited (messages.Inquiry tx) state = stays_sited state
-    heard_sited (messages.Ask tx) state = stays_sited state
-    heard_sited (messages.Close epoch) state = stays_sited state
-    heard_sited (messages.Install start) state = stays_sited state
+    heard_sited message state =
+        mapped (Sited decl) (λ (a : Answered). conduct.answered decl m a.to (Some a.answer)) (epochs.moved m quiet)
+        (answer_in message) (λ a. answered_sited a.to (Some a.answer) m.doing state state) (stays_sited state)
 
     pub takes_sited : (g : Input) → IsSited decl m.doing → Sited decl (admin_takes decl m g)
     takes_sited (inputs.Called command) state = called_sited command state
@@ -206,10 +201,6 @@ module _ (decl : Declaration) (accepted : IsAccepted decl) where
 
     pub sent_sited : (n to : ℕ) (message : Message) → IsSited decl m.doing
         → IsSited decl (sent_one m n to message).doing
-    sent_sited n to (messages.Request tx epoch life want) state = state
-    sent_sited n to (messages.Answer request answer) state = state
-    sent_sited n to (messages.Decision tx verdict) state = state
-    sent_sited n to (messages.Inquiry tx) state = state
-    sent_sited n to (messages.Ask tx) state = requested_sited m.doing n to state
-    sent_sited n to (messages.Close epoch) state = requested_sited m.doing n to state
-    sent_sited n to (messages.Install start) state = requested_sited m.doing n to state
+    sent_sited n to message state =
+        by_two (λ (x : Admin). IsSited decl x.doing) (wants_answer message && is_none (request_in message))
+        (doing m (requested m.doing n to)) m (requested_sited m.doing n to state) state

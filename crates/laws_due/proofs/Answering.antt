@@ -1,7 +1,7 @@
 -- What a step does to the unanswered requests of an inbox, and to the copies of another, whoever is up.
 use Rattle.std.proofs.Common.{◌≡◌, ℕ, ◌+◌, ◌-◌, ◌==◌, ◌⊎◌, ◌&&◌, not, Bool, true, false, if◌then◌else◌, inl, inr, List}
 use Rattle.std.proofs.Common.{[], ◌∷◌, ◌++◌, slice_get, refl, sym, subst}
-use Rattle.std.specs.Prelude.{set}
+use Rattle.std.specs.Prelude.{set, MatchOption}
 use Rattle.std.proofs.lemmas.Bool.{eq-eqb, eqb-true}
 use Rattle.qc_list.specs.Vocabulary.{In}
 use Rattle.qc_list.proofs.Members.{In-more, In-passes, In-second, In-unfiltered}
@@ -12,7 +12,6 @@ use Rattle.qc_link.specs.Vocabulary.{fate, with_cut, without_cut}
 use Rattle.qc_link.specs.declared.rule.Fate.{Fate}
 use Rattle.qc_msg.specs.declared.message.Envelope.{Envelope}
 use Rattle.qc_msg.specs.declared.message.Message.{Message}
-use Rattle.qc_msg.specs.declared.message.Message.TheVariants as messages
 use Rattle.qc_msg.specs.declared.step.Step.{Step}
 use Rattle.qc_msg.specs.declared.step.Step.TheVariants as steps
 use Rattle.qc_script.specs.declared.script.Script.{Script}
@@ -21,6 +20,11 @@ use Rattle.qc_script.specs.Vocabulary.{command_called, control_acted, copies_at_
 use Rattle.qc_script.specs.Vocabulary.{goes, goes_with, has_request, inbox_at, is_by_line, is_request, is_up}
 use Rattle.qc_script.specs.Vocabulary.{loss_taken, one_more, reply_told, request_answered, request_sent, requests_to}
 use Rattle.qc_script.specs.Vocabulary.{requests_to_others, with_copies, with_lost, with_number}
+use Rattle.qc_msg.specs.Vocabulary.{Answered, Fallen, Mailed, answer_in, commanded_in, fell_in, lost_in, mailed_in}
+use Rattle.qc_msg.specs.Vocabulary.{received_in}
+use Rattle.laws_turns.proofs.ReadingCases.{mapped}
+use Rattle.qc_msg.specs.declared.step.Command.{Command}
+use Rattle.laws_due.proofs.InboxCases.{inbox_cases}
 
 which : {A : Type 0} (P : A → Type 0) (t : Bool) (x y : A) → P x → P y → P (if t then x else y)
 which P true x y here there = here
@@ -36,13 +40,9 @@ answered_fewer i to f = which (Fewer i) (has_request i.unanswered to) _ i
     (λ r member. In-unfiltered (λ (x : SentRequest). not (x.number == to)) r i.unanswered member) (λ r member. member)
 
 message_fewer : (i : Inbox) (m : Message) (f : Fate) → Fewer i (answers_by i m f)
-message_fewer i (messages.Request tx epoch life want) f = λ r member. member
-message_fewer i (messages.Answer to answer) f = answered_fewer i to f
-message_fewer i (messages.Decision tx verdict) f = λ r member. member
-message_fewer i (messages.Inquiry tx) f = λ r member. member
-message_fewer i (messages.Ask tx) f = λ r member. member
-message_fewer i (messages.Close epoch) f = λ r member. member
-message_fewer i (messages.Install start) f = λ r member. member
+message_fewer i m f =
+    mapped (Fewer i) (λ (a : Answered). request_answered i a.to f) i (answer_in m) (λ a. answered_fewer i a.to f)
+    (λ r member. member)
 
 module _ (script : Script) (a : ℕ) (i : Inbox) (e : Envelope) where
   comes_fewer : Fewer i (comes script.links a i e)
@@ -134,14 +134,9 @@ module _ (script : Script) (a : ℕ) (i : Inbox) (e : Envelope) where
       ready = In-second e i.copies (copies_at_once f e) (at_once f e once)
 
       kept : (m : Message) → In e (answers_by j m f).copies
-      kept (messages.Request tx epoch life want) = ready
-      kept (messages.Answer to answer) = which (λ (k : Inbox). In e k.copies)
-          (has_request j.unanswered to) _ j ready ready
-      kept (messages.Decision tx verdict) = ready
-      kept (messages.Inquiry tx) = ready
-      kept (messages.Ask tx) = ready
-      kept (messages.Close epoch) = ready
-      kept (messages.Install start) = ready
+      kept m =
+          mapped (λ (k : Inbox). In e k.copies) (λ (a : Answered). request_answered j a.to f) j (answer_in m)
+          (λ a. which (λ (k : Inbox). In e k.copies) (has_request j.unanswered a.to) _ j ready ready) ready
 
 -- falls
 
@@ -180,36 +175,22 @@ after_fall script a i b cause pending r =
 
 -- steps but for messages, and inputs: no more is unanswered, and none that went to who falls
 
+-- steps that are no inputs, and a message that this holds of
+abbrev pub IsNoInput : (Mailed → Type 0) → Step → Type 0
+IsNoInput Holds step =
+    MatchOption (commanded_in step)
+    (MatchOption (received_in step)
+    (MatchOption (lost_in step) (MatchOption (mailed_in step) (Unit {0}) Holds) (λ (n : ℕ). ⊥)) (λ (n : ℕ). ⊥))
+    (λ (c : Command). ⊥)
+
 abbrev pub IsStill : Step → Type 0
-IsStill (steps.Phase k) = Unit {0}
-IsStill (steps.Cut x y) = Unit {0}
-IsStill (steps.Heal x y) = Unit {0}
-IsStill (steps.Armed actor kind at) = Unit {0}
-IsStill (steps.Called command) = ⊥
-IsStill (steps.Got n) = ⊥
-IsStill (steps.Lost n) = ⊥
-IsStill (steps.Wrote written) = Unit {0}
-IsStill (steps.Sent n to message) = ⊥
-IsStill (steps.Told reply) = Unit {0}
-IsStill (steps.Fell cause pending) = Unit {0}
-IsStill (steps.Rose records) = Unit {0}
-IsStill (steps.Damaged offset) = Unit {0}
+IsStill step = IsNoInput (λ (m : Mailed). ⊥) step
 
 -- actor s stays as step of actor b comes
 abbrev pub IsSpared : ℕ → ℕ → Step → Type 0
-IsSpared s b (steps.Phase k) = Unit {0}
-IsSpared s b (steps.Cut x y) = Unit {0}
-IsSpared s b (steps.Heal x y) = Unit {0}
-IsSpared s b (steps.Armed actor kind at) = Unit {0}
-IsSpared s b (steps.Called command) = Unit {0}
-IsSpared s b (steps.Got n) = (s == b) ≡ false
-IsSpared s b (steps.Lost n) = Unit {0}
-IsSpared s b (steps.Wrote written) = Unit {0}
-IsSpared s b (steps.Sent n to message) = Unit {0}
-IsSpared s b (steps.Told reply) = Unit {0}
-IsSpared s b (steps.Fell cause pending) = (s == b) ≡ false
-IsSpared s b (steps.Rose records) = Unit {0}
-IsSpared s b (steps.Damaged offset) = Unit {0}
+IsSpared s b step =
+    MatchOption (received_in step) (MatchOption (fell_in step) (Unit {0}) (λ (f : Fallen). (s == b) ≡ false))
+    (λ (n : ℕ). (s == b) ≡ false)
 
 same_if : (t : Bool) (i j : Inbox) (rs : List SentRequest) → i.unanswered ≡ rs → j.unanswered ≡ rs
     → (if t then i else j).unanswered ≡ rs
@@ -252,33 +233,28 @@ flip x y other = at (y == x) refl
 
 pub copies_left : (script : Script) (s : ℕ) (i : Inbox) (b : ℕ) (step : Step) → IsSpared s b step → (x : Envelope)
     → In x i.copies → In x (inbox_at script s i b step).copies
-copies_left script s i b (steps.Phase k) is x member = phase_copies s i (slice_get script.phases (k - 1)) x member
-copies_left script s i b (steps.Cut y z) is x member = cuts_copies s i (with_cut i.cuts y z) x member
-copies_left script s i b (steps.Heal y z) is x member = cuts_copies s i (without_cut i.cuts y z) x member
-copies_left script s i b (steps.Armed actor kind at) is x member = acted_copies s i x member
-copies_left script s i b (steps.Called command) is x member =
-    which (λ (j : Inbox). In x j.copies) (b == s) (command_called i) i member member
-copies_left script s i b (steps.Got n) is x member =
-    subst (λ (t : Bool). In x (if t then copy_taken i else i).copies) (sym (flip s b is)) member
-copies_left script s i b (steps.Lost n) is x member =
-    which (λ (j : Inbox). In x j.copies) (b == s) (loss_taken i) i member member
-copies_left script s i b (steps.Wrote written) is x member =
-    which (λ (j : Inbox). In x j.copies) (is_up i.up b) i (control_acted s (record i { up = set i.up b true })) member
-    (acted_copies s (record i { up = set i.up b true }) x member)
-copies_left script s i b (steps.Sent n to message) is x member =
-    copies_stay script s i (record { number = n; from = b; to = to; message = message }) x member
-copies_left script s i b (steps.Told reply) is x member =
-    which (λ (j : Inbox). In x j.copies) (b == s) (reply_told i) i member member
-copies_left script s i b (steps.Fell cause pending) is x member =
-    which (λ (j : Inbox). In x j.copies) (is_by_line (is_up i.up b) cause) (control_acted s (actor_fell s i b))
-    (actor_fell s i b) (acted_copies s (actor_fell s i b) x fell) fell
+copies_left script s i b step is x member =
+    inbox_cases script s i b (λ (p : Step) (j : Inbox). IsSpared s b p → In x j.copies)
+    (λ k spared. phase_copies s i (slice_get script.phases (k - 1)) x member)
+    (λ p cuts spared. cuts_copies s i cuts x member)
+    (λ command spared. which (λ (j : Inbox). In x j.copies) (b == s) (command_called i) i member member)
+    (λ n spared. subst (λ (t : Bool). In x (if t then copy_taken i else i).copies) (sym (flip s b spared)) member)
+    (λ n spared. which (λ (j : Inbox). In x j.copies) (b == s) (loss_taken i) i member member)
+    (λ written spared. which (λ (j : Inbox). In x j.copies) (is_up i.up b) i
+    (control_acted s (record i { up = set i.up b true })) member
+    (acted_copies s (record i { up = set i.up b true }) x member))
+    (λ n to message spared.
+    copies_stay script s i (record { number = n; from = b; to = to; message = message }) x member)
+    (λ reply spared. which (λ (j : Inbox). In x j.copies) (b == s) (reply_told i) i member member)
+    (λ cause pending spared. which (λ (j : Inbox). In x j.copies) (is_by_line (is_up i.up b) cause)
+    (control_acted s (actor_fell s i b)) (actor_fell s i b)
+    (acted_copies s (actor_fell s i b) x (fell spared)) (fell spared))
+    (λ records spared. member) step is
   where
-    fell : In x (actor_fell s i b).copies
-    fell = subst (λ (t : Bool). In x (emptied t
+    fell : (s == b) ≡ false → In x (actor_fell s i b).copies
+    fell spared = subst (λ (t : Bool). In x (emptied t
         (record i {
           up = set i.up b false;
           unanswered = requests_to_others b i.unanswered;
           lost = with_lost (requests_to b i.unanswered) i.lost;
-        })).copies) (sym (flip s b is)) member
-copies_left script s i b (steps.Rose records) is x member = member
-copies_left script s i b (steps.Damaged offset) is x member = acted_copies s i x member
+        })).copies) (sym (flip s b spared)) member

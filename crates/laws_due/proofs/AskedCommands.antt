@@ -2,7 +2,7 @@
 use Rattle.std.proofs.Common.{[], ◌≡◌, ℕ, ◌+◌, ◌-◌, ◌==◌, ◌&&◌, not, Bool, true, false, cond, if◌then◌else◌, List, ◌∷◌}
 use Rattle.std.proofs.Common.{◌++◌, drop, Option, Some, None, slice_get, refl, subst}
 use Rattle.std.specs.Prelude.{fold, set}
-use Rattle.qc_link.specs.Vocabulary.{fate, with_cut, without_cut}
+use Rattle.qc_link.specs.Vocabulary.{fate}
 use Rattle.qc_link.specs.declared.rule.Fate.{Fate}
 use Rattle.std.specs.Option.{option_map_or}
 use Rattle.std.specs.List.{AllByRecursion as Every}
@@ -10,22 +10,22 @@ use Rattle.qc_decl.specs.declared.declaration.Declaration.{Declaration}
 use Rattle.laws_turns.proofs.Mailed.{both_all}
 use Rattle.qc_msg.specs.declared.message.Envelope.{Envelope}
 use Rattle.qc_msg.specs.declared.message.Message.{Message}
-use Rattle.qc_msg.specs.declared.message.Message.TheVariants as messages
 use Rattle.qc_msg.specs.declared.step.Command.{Command}
 use Rattle.qc_msg.specs.declared.step.Control.{Control}
-use Rattle.qc_msg.specs.declared.step.Control.TheVariants as controls
 use Rattle.qc_msg.specs.declared.step.Input.{Input}
 use Rattle.qc_msg.specs.declared.step.Input.TheVariants as inputs
 use Rattle.qc_msg.specs.declared.step.Step.{Step}
-use Rattle.qc_msg.specs.declared.step.Step.TheVariants as steps
-use Rattle.qc_msg.specs.Vocabulary.{Entry}
+use Rattle.qc_msg.specs.Vocabulary.{Entry, Answered, answer_in}
 use Rattle.qc_script.specs.Vocabulary.{Inbox, with_copies, count_of, acting, actor_fell, after_controls, answers_by}
 use Rattle.qc_script.specs.Vocabulary.{comes, command_called, command_in, commands_for, control_acted, copy_taken}
 use Rattle.qc_script.specs.Vocabulary.{emptied, first_command, first_copy, first_lost, goes, goes_with, inbox_at}
 use Rattle.qc_script.specs.Vocabulary.{is_by_line, is_request, is_up, loss_taken, opened, opened_by, phase_begun}
 use Rattle.qc_script.specs.Vocabulary.{ready_in, reply_told, requests_to, requests_to_others, takes_commands, with_lost}
+use Rattle.qc_script.specs.Vocabulary.{request_answered}
 use Rattle.qc_script.specs.declared.script.PhaseLines.{PhaseLines}
 use Rattle.qc_script.specs.declared.script.Script.{Script}
+use Rattle.laws_turns.proofs.ReadingCases.{mapped}
+use Rattle.laws_due.proofs.InboxCases.{inbox_cases}
 
 -- what is asked stands in an inbox: a step takes from it, and a phase adds what it asks
 
@@ -48,13 +48,8 @@ module _ (P : Command → Type 0) where
   asks_acted a i all = asks_opened a (record i { controls = drop 1 i.controls }) all
 
   asks_answers : (i : Inbox) (m : Message) (f : _) → Asks i → Asks (answers_by i m f)
-  asks_answers i (messages.Request tx epoch life want) f all = all
-  asks_answers i (messages.Answer to answer) f all = asks_if _ _ i all all
-  asks_answers i (messages.Decision tx verdict) f all = all
-  asks_answers i (messages.Inquiry tx) f all = all
-  asks_answers i (messages.Ask tx) f all = all
-  asks_answers i (messages.Close epoch) f all = all
-  asks_answers i (messages.Install start) f all = all
+  asks_answers i m f all =
+      mapped Asks (λ (a : Answered). request_answered i a.to f) i (answer_in m) (λ a. asks_if _ _ i all all) all
 
   asks_goes : (i : Inbox) (e : Envelope) (f : _) → Asks i → Asks (goes_with i e f)
   asks_goes i e f all = asks_if (is_request e.message) _ _ (asks_if _ _ _ all all) all
@@ -103,25 +98,19 @@ module _ (P : Command → Type 0) where
   asks_step : (script : Script) (a : ℕ)
       → ((n : ℕ) (p : PhaseLines) → slice_get script.phases n ≡ Some p → Every P (commands_for a p.commands))
       → (i : Inbox) (b : ℕ) (step : Step) → Asks i → Asks (inbox_at script a i b step)
-  asks_step script a new i b (steps.Phase k) all = asks_phase a i (slice_get script.phases (k - 1)) (new (k - 1)) all
-  asks_step script a new i b (steps.Cut x y) all = asks_acted a (record i { cuts = with_cut i.cuts x y }) all
-  asks_step script a new i b (steps.Heal x y) all = asks_acted a (record i { cuts = without_cut i.cuts x y }) all
-  asks_step script a new i b (steps.Armed actor kind at) all = asks_acted a i all
-  asks_step script a new i b (steps.Called command) all =
-      asks_if (b == a) (command_called i) i (asks_drop i.commands all) all
-  asks_step script a new i b (steps.Got n) all = asks_if (b == a) (copy_taken i) i all all
-  asks_step script a new i b (steps.Lost n) all = asks_if (b == a) (loss_taken i) i all all
-  asks_step script a new i b (steps.Wrote written) all =
-      asks_if (is_up i.up b) i (control_acted a (record i { up = set i.up b true })) all
-      (asks_acted a (record i { up = set i.up b true }) all)
-  asks_step script a new i b (steps.Sent n to message) all =
-      asks_sent script a i (record { number = n; from = b; to = to; message = message }) all
-  asks_step script a new i b (steps.Told reply) all = asks_if (b == a) (reply_told i) i all all
-  asks_step script a new i b (steps.Fell cause pending) all =
-      asks_if (is_by_line (is_up i.up b) cause) (control_acted a (actor_fell a i b)) (actor_fell a i b)
-      (asks_acted a (actor_fell a i b) (asks_fell a i b all)) (asks_fell a i b all)
-  asks_step script a new i b (steps.Rose kept) all = all
-  asks_step script a new i b (steps.Damaged offset) all = asks_acted a i all
+  asks_step script a new i b step all =
+      inbox_cases script a i b (λ (s : Step) (j : Inbox). Asks j)
+      (λ k. asks_phase a i (slice_get script.phases (k - 1)) (new (k - 1)) all)
+      (λ s cuts. asks_acted a (record i { cuts = cuts }) all)
+      (λ command. asks_if (b == a) (command_called i) i (asks_drop i.commands all) all)
+      (λ n. asks_if (b == a) (copy_taken i) i all all) (λ n. asks_if (b == a) (loss_taken i) i all all)
+      (λ written. asks_if (is_up i.up b) i (control_acted a (record i { up = set i.up b true })) all
+      (asks_acted a (record i { up = set i.up b true }) all))
+      (λ n to message. asks_sent script a i (record { number = n; from = b; to = to; message = message }) all)
+      (λ reply. asks_if (b == a) (reply_told i) i all all)
+      (λ cause pending. asks_if (is_by_line (is_up i.up b) cause) (control_acted a (actor_fell a i b))
+      (actor_fell a i b) (asks_acted a (actor_fell a i b) (asks_fell a i b all)) (asks_fell a i b all))
+      (λ kept. all) step
 
   pub asks_all : (script : Script) (a : ℕ)
       → ((n : ℕ) (p : PhaseLines) → slice_get script.phases n ≡ Some p → Every P (commands_for a p.commands))

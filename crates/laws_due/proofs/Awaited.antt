@@ -1,54 +1,30 @@
 -- An open request of an account was sent, and nothing was taken for it since.
-use Rattle.std.proofs.Common.{◌≡◌, ◌⊎◌, ℕ, ◌&&◌, Bool, true, false, cond, List, [], ◌∷◌, ◌++◌, inl, inr, Option, Some}
-use Rattle.std.proofs.Common.{None, refl, sym, ap, ◌∙◌, subst, eq-eqb}
-use Rattle.std.specs.Prelude.{fold, is_none}
+use Rattle.std.proofs.Common.{◌≡◌, ◌⊎◌, ℕ, ◌&&◌, Bool, true, false, cond, List, [], ◌∷◌, inl, inr, Option, Some, None}
+use Rattle.std.proofs.Common.{refl, sym, ap, ◌∙◌, subst, eq-eqb}
+use Rattle.std.specs.Prelude.{fold, is_none, MatchOption}
 use Rattle.std.specs.List.{find, AllByRecursion as Every}
 use Rattle.qc_list.specs.Vocabulary.{In}
 use Rattle.qc_list.proofs.Members.{In-more}
 use Rattle.qc_stamp.specs.declared.stamp.TxId.{TxId}
 use Rattle.qc_decl.specs.declared.declaration.Declaration.{Declaration}
-use Rattle.qc_entry.specs.declared.line.Line.{Line}
 use Rattle.qc_msg.specs.declared.message.Answer.{Answer}
-use Rattle.qc_msg.specs.declared.message.Answer.TheVariants as answers
 use Rattle.qc_msg.specs.declared.message.Message.{Message}
 use Rattle.qc_msg.specs.declared.message.Message.TheVariants as messages
-use Rattle.qc_msg.specs.declared.message.Want.{Want}
-use Rattle.qc_msg.specs.declared.message.Want.TheVariants.{Read, Append, Prepare}
 use Rattle.qc_msg.specs.declared.record.Record.{Record}
-use Rattle.qc_msg.specs.declared.record.Record.TheVariants as records
 use Rattle.qc_msg.specs.declared.step.Input.TheVariants as inputs
-use Rattle.qc_msg.specs.Vocabulary.{Deed, Falls, Rises, Sends, Takes, Tells, Writes}
+use Rattle.qc_msg.specs.Vocabulary.{Deed, Falls, Rises, Sends, Takes, Tells, Writes, Answered, Requested, answer_in}
 use Rattle.qc_promise.specs.Vocabulary.{Account, ClientRequest, account_at, account_heard, account_sent}
-use Rattle.qc_promise.specs.Vocabulary.{account_written, counted, counted_for, granted, is_asked_for, is_open}
-use Rattle.qc_promise.specs.Vocabulary.{new_account, promised, taken_for, told_by}
+use Rattle.qc_promise.specs.Vocabulary.{account_written, counted, counted_for, is_open, new_account, taken_for, told_by}
 use Rattle.laws_due.specs.Vocabulary.{IsAnswerTo, IsAwaited, IsNotFor}
+use Rattle.laws_due.proofs.AccountCases.{sent_cases, told_cases, written_cases}
+use Rattle.std.specs.Option.{option_map_or}
 
 -- what is told of a request leaves the requests
 
-granted_requests : (d : Account) (site life clock : ℕ) (log : List Line) (w : Want)
-    → (granted d site life clock log w).requests ≡ d.requests
-granted_requests d site life clock log (Read read) = refl
-granted_requests d site life clock log (Append object view own) = refl
-granted_requests d site life clock log Prepare = refl
-
-promised_requests : (d : Account) (clock : ℕ) (w : Want) → (promised d clock w).requests ≡ d.requests
-promised_requests d clock (Read read) = refl
-promised_requests d clock (Append object view own) = refl
-promised_requests d clock Prepare = refl
-
 told_requests : (d : Account) (p : ClientRequest) (answer : Option Answer) → (told_by d p answer).requests ≡ d.requests
-told_requests d p None = refl
-told_requests d p (Some (answers.Granted grant)) = granted_requests d p.site grant.life grant.clock grant.log p.want
-told_requests d p (Some (answers.Clash holder inv event)) = refl
-told_requests d p (Some (answers.Closed epoch)) = refl
-told_requests d p (Some (answers.Behind epoch)) = refl
-told_requests d p (Some (answers.Restarted life)) = refl
-told_requests d p (Some answers.Stale) = refl
-told_requests d p (Some answers.Fault) = refl
-told_requests d p (Some (answers.Yes clock)) = promised_requests d clock p.want
-told_requests d p (Some (answers.Shut snapshot)) = refl
-told_requests d p (Some answers.Installed) = refl
-told_requests d p (Some (answers.Answered verdict)) = refl
+told_requests d p answer =
+    told_cases d p answer (λ (e : Account). e.requests ≡ d.requests) refl (λ clock. refl) (λ clock change same. refl)
+    (λ epoch is. refl)
 
 -- one that stays open isn't the one that something is taken for
 
@@ -98,22 +74,18 @@ counted_open d n answer q untaken among = by (find (is_open n) d.requests) refl 
 
 heard_open : (d : Account) (m : Message) (q : ClientRequest) → q.taken ≡ None → In q (account_heard d m).requests
     → In q d.requests × (IsAnswerTo q.number m → ⊥)
-heard_open d (messages.Request tx epoch life want) q untaken among = (among, λ never. never)
-heard_open d (messages.Answer to answer) q untaken among = counted_open d to (Some answer) q untaken among
-heard_open d (messages.Decision tx verdict) q untaken among = (among, λ never. never)
-heard_open d (messages.Inquiry tx) q untaken among = (among, λ never. never)
-heard_open d (messages.Ask tx) q untaken among = (among, λ never. never)
-heard_open d (messages.Close epoch) q untaken among = (among, λ never. never)
-heard_open d (messages.Install start) q untaken among = (among, λ never. never)
+heard_open d m q untaken among = by (answer_in m) among
+  where
+    by : (o : Option Answered)
+        → In q (option_map_or (λ (a : Answered). counted d a.to (Some a.answer)) o d).requests
+        → In q d.requests × (MatchOption o ⊥ (λ (a : Answered). a.to ≡ q.number) → ⊥)
+    by None there = (there, λ never. never)
+    by (Some a) there = counted_open d a.to (Some a.answer) q untaken there
 
 written_open : (d : Account) (w : Record) (q : ClientRequest) → In q (account_written d w).requests → In q d.requests
-written_open d records.Life q among = among
-written_open d (records.Prepare prepared) q among = among
-written_open d (records.Done tx clock) q among = among
-written_open d (records.Close epoch) q among = among
-written_open d (records.Install start) q among = among
-written_open d (records.Commit commit) q among = among
-written_open d (records.Decide start) q among = among
+written_open d w q =
+    written_cases d (λ (e : Account). In q e.requests → In q d.requests) (λ among. among) (λ among. among)
+    (λ commit among. among) w
 
 -- the deed that sent it
 pub record IsSending (x : Deed) (q : ClientRequest) : Type 0 where
@@ -124,30 +96,22 @@ pub record IsSending (x : Deed) (q : ClientRequest) : Type 0 where
 module _ (decl : Declaration) where
   sent_open : (d : Account) (n to : ℕ) (m : Message) (q : ClientRequest) → In q (account_sent decl d n to m).requests
       → In q d.requests ⊎ IsSending (Sends n to m) q
-  sent_open d n to (messages.Request tx epoch life want) q among = by (is_asked_for decl d to tx epoch life want) among
+  sent_open d n to m q among =
+      sent_cases decl d n to
+      (λ (m : Message) (e : Account). In q e.requests → In q d.requests ⊎ IsSending (Sends n to m) q) (λ m old. inl old)
+      (λ w there. at w (In-more q (record { number = n; site = to; life = w.life; want = w.want; taken = None })
+      d.requests there)) m among
     where
-      by : (b : Bool) → In q (cond b (record d
-          { requests = d.requests ++ record { number = n; site = to; life = life; want = want; taken = None } ∷ [] })
-          d).requests → In q d.requests ⊎ IsSending (Sends n to (messages.Request tx epoch life want)) q
-      by true there = at (In-more q (record { number = n; site = to; life = life; want = want; taken = None })
-          d.requests there)
-        where
-          at : In q d.requests ⊎ (q ≡ record { number = n; site = to; life = life; want = want; taken = None })
-              → In q d.requests ⊎ IsSending (Sends n to (messages.Request tx epoch life want)) q
-          at (inl old) = inl old
-          at (inr same) = inr (record {
-            tx = tx;
-            epoch = epoch;
-            is = ap (λ (p : ClientRequest). Sends p.number p.site (messages.Request tx epoch p.life p.want))
-                (sym same);
-          })
-      by false there = inl there
-  sent_open d n to (messages.Answer request answer) q among = inl among
-  sent_open d n to (messages.Decision tx verdict) q among = inl among
-  sent_open d n to (messages.Inquiry tx) q among = inl among
-  sent_open d n to (messages.Ask tx) q among = inl among
-  sent_open d n to (messages.Close epoch) q among = inl among
-  sent_open d n to (messages.Install start) q among = inl among
+      at : (w : Requested)
+          → In q d.requests ⊎ (q ≡ record { number = n; site = to; life = w.life; want = w.want; taken = None })
+          → In q d.requests ⊎ IsSending (Sends n to (messages.Request w.tx w.epoch w.life w.want)) q
+      at w (inl old) = inl old
+      at w (inr same) = inr (record {
+        tx = w.tx;
+        epoch = w.epoch;
+        is = ap (λ (p : ClientRequest). Sends p.number p.site (messages.Request w.tx w.epoch p.life p.want))
+            (sym same);
+      })
 
   one_open : (d : Account) (x : Deed) (q : ClientRequest) → q.taken ≡ None → In q (account_at decl d x).requests
       → (In q d.requests × IsNotFor q.number x) ⊎ IsSending x q

@@ -1,28 +1,27 @@
 -- A request that is awaited stays so through each message that comes or goes; requests to who falls are lost.
 use Rattle.std.proofs.Common.{[], ◌≡◌, ℕ, ◌+◌, ◌-◌, ◌==◌, ◌&&◌, ◌⊎◌, not, Bool, true, false, cond, if◌then◌else◌, inl}
-use Rattle.std.proofs.Common.{inr, List, ◌∷◌, ◌++◌, refl, sym, ap, subst}
-use Rattle.std.specs.Prelude.{set}
+use Rattle.std.proofs.Common.{inr, List, ◌∷◌, ◌++◌, refl, sym, ap, subst, Option, Some, None}
+use Rattle.std.specs.Prelude.{set, MatchOption}
 use Rattle.std.proofs.lemmas.Bool.{eqb-false, eqb-true}
 use Rattle.std.proofs.lemmas.List.{get_or-set_other}
 use Rattle.qc_list.specs.Vocabulary.{In}
 use Rattle.qc_list.proofs.Members.{In-filter, In-first, In-second}
-use Rattle.laws_turns.specs.Vocabulary.{HasAnswer, IsAnswerTo, IsAwaited}
+use Rattle.laws_turns.specs.Vocabulary.{HasAnswer, IsAwaited}
 use Rattle.laws_turns.proofs.AwaitedCopies.{at_once, number_added, number_stays}
 use Rattle.qc_link.specs.declared.rule.Fate.{Fate}
-use Rattle.qc_msg.specs.declared.message.Answer.{Answer}
 use Rattle.qc_msg.specs.declared.message.Envelope.{Envelope}
-use Rattle.qc_msg.specs.declared.message.Message.{Message}
-use Rattle.qc_msg.specs.declared.message.Message.TheVariants as messages
 use Rattle.qc_msg.specs.declared.step.Step.{Step}
-use Rattle.qc_msg.specs.declared.step.Step.TheVariants as steps
 use Rattle.qc_script.specs.declared.script.Script.{Script}
-use Rattle.qc_script.specs.Vocabulary.{Inbox, SentRequest, acting, actor_fell, answers_by, comes_at_once, comes_with}
+use Rattle.qc_script.specs.Vocabulary.{Inbox, SentRequest, acting, actor_fell, comes_at_once, comes_with}
 use Rattle.qc_script.specs.Vocabulary.{copies_at_once, emptied, goes_with, has_request, if_up, is_request, is_up}
 use Rattle.qc_script.specs.Vocabulary.{one_more, opened, request_answered, request_numbers, request_sent, requests_to}
 use Rattle.qc_script.specs.Vocabulary.{requests_to_others, with_copies, with_lost, with_number, without_number}
 use Rattle.qc_script.specs.Vocabulary.{without_request}
 use Rattle.qc_script.proofs.InboxesSend.{opened_keeps}
 use Rattle.qc_script.proofs.Requests.{added-number, without-numbers}
+use Rattle.qc_msg.specs.Vocabulary.{Fallen, fell_in, wrote_in, Answered, answer_in}
+use Rattle.qc_msg.specs.declared.record.Record.{Record}
+use Rattle.std.specs.Option.{option_map_or}
 
 -- numbers
 
@@ -116,29 +115,25 @@ awaited_answered n to i f copied is = at (has_request i.unanswered to) (comes_at
     at true true same is_once is_same (inr (inr has)) = inr (inr has)
     at true false same is_once is_same (inr (inr has)) = inr (inr has)
 
-comes_answer : (n : ℕ) (i : Inbox) (e : Envelope) (f : Fate) (to : ℕ) (answer : Answer)
-    → e.message ≡ messages.Answer to answer → comes_at_once f ≡ true → n ≡ to
-    → HasAnswer n (with_copies true i e f).copies
-comes_answer n i e f to answer is once same = record {
+comes_answer : (n : ℕ) (i : Inbox) (e : Envelope) (f : Fate) (a : Answered) → answer_in e.message ≡ Some a
+    → comes_at_once f ≡ true → n ≡ a.to → HasAnswer n (with_copies true i e f).copies
+comes_answer n i e f a is once same = record {
   envelope = e;
   member = In-second e i.copies (copies_at_once f e) (at_once f e once);
-  answers = subst (IsAnswerTo n) (sym is) (sym same);
+  answers = subst (λ (o : Option Answered). MatchOption o ⊥ (λ (x : Answered). x.to ≡ n)) (sym is) (sym same);
 }
 
 pub awaited_comes_with : (n : ℕ) (i : Inbox) (e : Envelope) (f : Fate) → IsAwaited n i
     → IsAwaited n (comes_with true i e f)
-awaited_comes_with n i e f is = at e.message refl
+awaited_comes_with n i e f is = by (answer_in e.message) refl
   where
-    at : (m : Message) → e.message ≡ m → IsAwaited n (answers_by (with_copies true i e f) m f)
-    at (messages.Request tx epoch life want) same = awaited_copies n true i e f is
-    at (messages.Answer to answer) same =
-        awaited_answered n to (with_copies true i e f) f (comes_answer n i e f to answer same)
+    by : (o : Option Answered) → answer_in e.message ≡ o
+        → IsAwaited n
+        (option_map_or (λ (a : Answered). request_answered (with_copies true i e f) a.to f) o (with_copies true i e f))
+    by None same = awaited_copies n true i e f is
+    by (Some a) same =
+        awaited_answered n a.to (with_copies true i e f) f (comes_answer n i e f a same)
         (awaited_copies n true i e f is)
-    at (messages.Decision tx verdict) same = awaited_copies n true i e f is
-    at (messages.Inquiry tx) same = awaited_copies n true i e f is
-    at (messages.Ask tx) same = awaited_copies n true i e f is
-    at (messages.Close epoch) same = awaited_copies n true i e f is
-    at (messages.Install start) same = awaited_copies n true i e f is
 
 -- a message goes
 
@@ -194,16 +189,6 @@ module _ (script : Script) (a : ℕ) where
   -- a step leaves whether the actor is up, unless it writes a record itself, or falls
 
   abbrev pub KeepsUp : ℕ → Step → Type 0
-  KeepsUp b (steps.Phase k) = Unit {0}
-  KeepsUp b (steps.Cut x y) = Unit {0}
-  KeepsUp b (steps.Heal x y) = Unit {0}
-  KeepsUp b (steps.Armed actor kind place) = Unit {0}
-  KeepsUp b (steps.Called command) = Unit {0}
-  KeepsUp b (steps.Got n) = Unit {0}
-  KeepsUp b (steps.Lost n) = Unit {0}
-  KeepsUp b (steps.Wrote written) = (b == a) ≡ false
-  KeepsUp b (steps.Sent n to message) = Unit {0}
-  KeepsUp b (steps.Told reply) = Unit {0}
-  KeepsUp b (steps.Fell cause pending) = (b == a) ≡ false
-  KeepsUp b (steps.Rose records) = Unit {0}
-  KeepsUp b (steps.Damaged offset) = Unit {0}
+  KeepsUp b step =
+      MatchOption (wrote_in step) (MatchOption (fell_in step) (Unit {0}) (λ (f : Fallen). (b == a) ≡ false))
+      (λ (r : Record). (b == a) ≡ false)

@@ -1,7 +1,7 @@
 -- A request that is awaited stays so through falls of others too: then it is lost, if it went to who falls.
 use Rattle.std.proofs.Common.{[], ◌≡◌, ℕ, ◌+◌, ◌-◌, ◌==◌, ◌⊎◌, Bool, true, false, if◌then◌else◌, inl, inr, List, ◌∷◌}
 use Rattle.std.proofs.Common.{◌++◌, drop, Option, Some, None, slice_get, refl, sym, ap, ◌∙◌, subst}
-use Rattle.std.specs.Prelude.{set}
+use Rattle.std.specs.Prelude.{set, MatchOption}
 use Rattle.std.specs.Option.{option_map_or}
 use Rattle.qc_list.specs.Vocabulary.{In}
 use Rattle.laws_turns.specs.Vocabulary.{IsAwaited}
@@ -19,26 +19,14 @@ use Rattle.qc_script.specs.Vocabulary.{requests_to, requests_to_others, with_los
 use Rattle.qc_script.proofs.InboxesSend.{sends_does}
 use Rattle.laws_due.proofs.AwaitedMessages.{lost_stays, parted, answer_second, awaited_if, awaited_more}
 use Rattle.laws_due.proofs.AwaitedMessages.{awaited_comes_with, awaited_goes_with, up_apart, opened_up, up_if, fell_up}
+use Rattle.laws_due.proofs.AwaitedMessages.{KeepsUp}
+use Rattle.qc_msg.specs.Vocabulary.{Fallen, fell_in, lost_in, received_in}
+use Rattle.laws_due.proofs.InboxCases.{inbox_cases}
 
 module _ (script : Script) (a : ℕ) where
-  -- a step leaves whether the actor is up, unless it writes a record itself, or falls
+  -- a step that leaves whether the actor is up
 
-  abbrev KeepsUp : ℕ → Step → Type 0
-  KeepsUp b (steps.Phase k) = Unit {0}
-  KeepsUp b (steps.Cut x y) = Unit {0}
-  KeepsUp b (steps.Heal x y) = Unit {0}
-  KeepsUp b (steps.Armed actor kind place) = Unit {0}
-  KeepsUp b (steps.Called command) = Unit {0}
-  KeepsUp b (steps.Got n) = Unit {0}
-  KeepsUp b (steps.Lost n) = Unit {0}
-  KeepsUp b (steps.Wrote written) = (b == a) ≡ false
-  KeepsUp b (steps.Sent n to message) = Unit {0}
-  KeepsUp b (steps.Told reply) = Unit {0}
-  KeepsUp b (steps.Fell cause pending) = (b == a) ≡ false
-  KeepsUp b (steps.Rose records) = Unit {0}
-  KeepsUp b (steps.Damaged offset) = Unit {0}
-
-  pub keeps_up : (i : Inbox) (b : ℕ) (step : Step) → KeepsUp b step
+  pub keeps_up : (i : Inbox) (b : ℕ) (step : Step) → KeepsUp script a b step
       → is_up (inbox_at script a i b step).up a ≡ is_up i.up a
   keeps_up i b (steps.Phase k) other = at (slice_get script.phases (k - 1))
     where
@@ -177,46 +165,30 @@ module _ (script : Script) (a : ℕ) where
   -- any step, but that the actor takes a message or that a request is lost, or falls itself
 
   abbrev pub Spares : ℕ → Step → Type 0
-  Spares b (steps.Phase k) = Unit {0}
-  Spares b (steps.Cut x y) = Unit {0}
-  Spares b (steps.Heal x y) = Unit {0}
-  Spares b (steps.Armed actor kind place) = Unit {0}
-  Spares b (steps.Called command) = Unit {0}
-  Spares b (steps.Got n) = (b == a) ≡ false
-  Spares b (steps.Lost n) = (b == a) ≡ false
-  Spares b (steps.Wrote written) = Unit {0}
-  Spares b (steps.Sent n to message) = Unit {0}
-  Spares b (steps.Told reply) = Unit {0}
-  Spares b (steps.Fell cause pending) = (b == a) ≡ false
-  Spares b (steps.Rose records) = Unit {0}
-  Spares b (steps.Damaged offset) = Unit {0}
+  Spares b step =
+      MatchOption (received_in step)
+      (MatchOption (lost_in step)
+      (MatchOption (fell_in step) (Unit {0}) (λ (f : Fallen). (b == a) ≡ false)) (λ (n : ℕ). (b == a) ≡ false))
+      (λ (n : ℕ). (b == a) ≡ false)
 
   pub awaited_step : (n : ℕ) (i : Inbox) (b : ℕ) (step : Step) → Spares b step → is_up i.up a ≡ true → IsAwaited n i
       → IsAwaited n (inbox_at script a i b step)
-  awaited_step n i b (steps.Phase k) spares up is = awaited_phase n i (slice_get script.phases (k - 1)) is
-  awaited_step n i b (steps.Cut x y) spares up is =
-      awaited_acted n (record i { cuts = with_cut i.cuts x y })
-      (awaited_more n i (record i { cuts = with_cut i.cuts x y }) refl refl (λ has. has) is)
-  awaited_step n i b (steps.Heal x y) spares up is =
-      awaited_acted n (record i { cuts = without_cut i.cuts x y })
-      (awaited_more n i (record i { cuts = without_cut i.cuts x y }) refl refl (λ has. has) is)
-  awaited_step n i b (steps.Armed actor kind place) spares up is = awaited_acted n i is
-  awaited_step n i b (steps.Called command) spares up is =
-      awaited_if n (b == a) (command_called i) i (awaited_more n i (command_called i) refl refl (λ has. has) is) is
-  awaited_step n i b (steps.Got m) spares up is =
-      subst (λ (t : Bool). IsAwaited n (if t then copy_taken i else i)) (sym spares) is
-  awaited_step n i b (steps.Lost m) spares up is =
-      subst (λ (t : Bool). IsAwaited n (if t then loss_taken i else i)) (sym spares) is
-  awaited_step n i b (steps.Wrote written) spares up is =
-      awaited_if n (is_up i.up b) i _ is
+  awaited_step n i b step spares up is =
+      inbox_cases script a i b (λ (s : Step) (j : Inbox). Spares b s → IsAwaited n j)
+      (λ k spared. awaited_phase n i (slice_get script.phases (k - 1)) is)
+      (λ s cuts spared. awaited_acted n (record i { cuts = cuts })
+      (awaited_more n i (record i { cuts = cuts }) refl refl (λ has. has) is))
+      (λ command spared. awaited_if n (b == a) (command_called i) i
+      (awaited_more n i (command_called i) refl refl (λ has. has) is) is)
+      (λ m spared. subst (λ (t : Bool). IsAwaited n (if t then copy_taken i else i)) (sym spared) is)
+      (λ m spared. subst (λ (t : Bool). IsAwaited n (if t then loss_taken i else i)) (sym spared) is)
+      (λ written spared. awaited_if n (is_up i.up b) i _ is
       (awaited_acted n (record i { up = set i.up b true })
-      (awaited_more n i (record i { up = set i.up b true }) refl refl (λ has. has) is))
-  awaited_step n i b (steps.Sent m to message) spares up is =
-      awaited_message n i (record { number = m; from = b; to = to; message = message }) up is
-  awaited_step n i b (steps.Told reply) spares up is =
-      awaited_if n (b == a) (reply_told i) i (awaited_more n i (reply_told i) refl refl (λ has. has) is) is
-  awaited_step n i b (steps.Fell cause pending) spares up is =
-      awaited_if n (is_by_line (is_up i.up b) cause) (control_acted a (actor_fell a i b)) (actor_fell a i b)
-      (awaited_acted n (actor_fell a i b) (awaited_fell n i b spares is)) (awaited_fell n i b spares is)
-  awaited_step n i b (steps.Rose records) spares up is = is
-  awaited_step n i b (steps.Damaged offset) spares up is = awaited_acted n i is
+      (awaited_more n i (record i { up = set i.up b true }) refl refl (λ has. has) is)))
+      (λ m to message spared. awaited_message n i (record { number = m; from = b; to = to; message = message }) up is)
+      (λ reply spared. awaited_if n (b == a) (reply_told i) i
+      (awaited_more n i (reply_told i) refl refl (λ has. has) is) is)
+      (λ cause pending spared. awaited_if n (is_by_line (is_up i.up b) cause) (control_acted a (actor_fell a i b))
+      (actor_fell a i b) (awaited_acted n (actor_fell a i b) (awaited_fell n i b spared is))
+      (awaited_fell n i b spared is))
+      (λ records spared. is) step spares

@@ -16,7 +16,8 @@ use Rattle.qc_msg.specs.declared.step.Input.{Input}
 use Rattle.qc_msg.specs.declared.step.Input.TheVariants as inputs
 use Rattle.qc_msg.specs.declared.turn.Posting.{Posting}
 use Rattle.qc_msg.specs.declared.turn.Turn.{Turn}
-use Rattle.qc_msg.specs.Vocabulary.{Deed, Falls, Rises, Sends, Takes, Tells, Writes, decisions}
+use Rattle.qc_msg.specs.Vocabulary.{Deed, Falls, Rises, Sends, Takes, Tells, Writes, decisions, Answered, Decided}
+use Rattle.qc_msg.specs.Vocabulary.{Requested}
 use Rattle.qc_commit.specs.declared.desk.Voting.{Voting}
 use Rattle.qc_commit.specs.Conduct as desks
 use Rattle.qc_commit.specs.Vocabulary.{DeskMove}
@@ -31,16 +32,20 @@ use Rattle.qc_client.specs.Vocabulary.{ClientMove, answered, answered_by, by_des
 use Rattle.qc_client.specs.Vocabulary.{client_takes, commits, heard}
 use Rattle.laws_turns.proofs.StampsOwn.{by_two}
 use Rattle.laws_due.proofs.Epochs.{TellPlanned, TellsPlanned}
+use Rattle.laws_turns.proofs.ClientCases.{called_cases, heard_cases}
+use Rattle.laws_turns.proofs.MessageCases.{message_cases}
+use Rattle.laws_due.proofs.AskingCases.{prepare_cases}
+use Rattle.std.specs.Prelude.{MatchOption}
+use Rattle.qc_front.specs.Requests.{IsRequestOf, IsVerdictOf}
 
 sent_planned : (decl : Declaration) (front next : Front) (to : ℕ) (m : Message) → IsSent decl front next to m
     → TellsPlanned decl m
-sent_planned decl front next to (messages.Request tx epoch life want) is = tt
-sent_planned decl front next to (messages.Answer number answer) is = absurd is
-sent_planned decl front next to (messages.Decision tx v) is = tt
-sent_planned decl front next to (messages.Inquiry tx) is = tt
-sent_planned decl front next to (messages.Ask tx) is = tt
-sent_planned decl front next to (messages.Close epoch) is = absurd is
-sent_planned decl front next to (messages.Install start) is = absurd is
+sent_planned decl front next to m is =
+    message_cases
+    (λ (x : Message) (q : Option Requested) (a : Option Answered) (v : Option Decided) (i : Option TxId).
+    MatchOption q (MatchOption v ⊥ (λ (w : Decided). IsVerdictOf front to w.tx w.verdict))
+    (λ (w : Requested). IsRequestOf decl next to w.tx w.epoch w.life w.want) → TellsPlanned decl x)
+    (λ q sent. tt) (λ a never. absurd never) (λ v sent. tt) (λ tx never. absurd never) (λ x never. absurd never) m is
 
 every_of : (P : Posting → Type 0) (ps : List Posting) → ((p : Posting) → In p ps → P p) → Every P ps
 every_of P [] each = tt
@@ -51,19 +56,11 @@ front_planned : (decl : Declaration) (front : Front) (m : FrontMove) → AreSent
 front_planned decl front m are = every_of (λ (p : Posting). TellsPlanned decl p.message) m.turn.sends
     (λ p among. sent_planned decl front m.front p.to p.message (are p among))
 
-prepare_planned : (decl : Declaration) (m : Message) → IsPrepare m → TellsPlanned decl m
-prepare_planned decl (messages.Request tx epoch life want) is = tt
-prepare_planned decl (messages.Answer to answer) is = absurd is
-prepare_planned decl (messages.Decision tx verdict) is = tt
-prepare_planned decl (messages.Inquiry tx) is = tt
-prepare_planned decl (messages.Ask tx) is = tt
-prepare_planned decl (messages.Close epoch) is = absurd is
-prepare_planned decl (messages.Install start) is = absurd is
-
 all_prepare : (decl : Declaration) (ps : List Posting) → Every (λ (p : Posting). IsPrepare p.message) ps
     → TellPlanned decl ps
 all_prepare decl [] are = tt
-all_prepare decl (p ∷ ps) are = (prepare_planned decl p.message are.0, all_prepare decl ps are.1)
+all_prepare decl (p ∷ ps) are =
+    (prepare_cases (TellsPlanned decl) (λ tx epoch life. tt) p.message are.0, all_prepare decl ps are.1)
 
 decisions_planned : (decl : Declaration) (b : Begun) (v : Outcome) → TellPlanned decl (decisions b v)
 decisions_planned decl b v = over b.asked
@@ -95,17 +92,10 @@ commits_planned decl c (Some t) =
 
 called_planned : (decl : Declaration) (c : Client) (command : Command)
     → TellPlanned decl (called decl c command).turn.sends
-called_planned decl c commands.Begin = front_planned decl c.front (fronts.called decl c.front commands.Begin)
-    (called_sent decl c.front commands.Begin)
-called_planned decl c (commands.Do object inv) =
-    front_planned decl c.front (fronts.called decl c.front (commands.Do object inv))
-    (called_sent decl c.front (commands.Do object inv))
-called_planned decl c commands.Commit = commits_planned decl c c.front.transaction
-called_planned decl c commands.Abort = front_planned decl c.front (fronts.called decl c.front commands.Abort)
-    (called_sent decl c.front commands.Abort)
-called_planned decl c (commands.Epoch number) =
-    front_planned decl c.front (fronts.called decl c.front (commands.Epoch number))
-    (called_sent decl c.front (commands.Epoch number))
+called_planned decl c command =
+    called_cases decl c (λ (x : Command) (move : ClientMove). TellPlanned decl move.turn.sends)
+    (λ x. front_planned decl c.front (fronts.called decl c.front x) (called_sent decl c.front x))
+    (commits_planned decl c c.front.transaction) command
 
 answered_planned : (decl : Declaration) (c : Client) (number : ℕ) (answer : Option Answer)
     → TellPlanned decl (answered decl c number answer).turn.sends
@@ -119,13 +109,9 @@ answered_planned decl c number answer = at c.desk.voting
 
 heard_planned : (decl : Declaration) (c : Client) (from number : ℕ) (m : Message)
     → TellPlanned decl (heard decl c from number m).turn.sends
-heard_planned decl c from number (messages.Request tx epoch life want) = tt
-heard_planned decl c from number (messages.Answer to answer) = answered_planned decl c to (Some answer)
-heard_planned decl c from number (messages.Decision tx verdict) = tt
-heard_planned decl c from number (messages.Inquiry tx) = (tt, tt)
-heard_planned decl c from number (messages.Ask tx) = (tt, tt)
-heard_planned decl c from number (messages.Close epoch) = tt
-heard_planned decl c from number (messages.Install start) = tt
+heard_planned decl c from number m =
+    heard_cases decl c from number (λ (x : Message) (move : ClientMove). TellPlanned decl move.turn.sends)
+    (λ x none. tt) (λ to answer. answered_planned decl c to (Some answer)) (λ tx. (tt, tt)) (λ tx. (tt, tt)) m
 
 pub client_takes_planned : (decl : Declaration) (c : Client) (g : Input)
     → TellPlanned decl (client_takes decl c g).turn.sends

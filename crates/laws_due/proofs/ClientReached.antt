@@ -6,7 +6,7 @@ use Rattle.qc_list.specs.Vocabulary.{In}
 use Rattle.qc_list.proofs.Members.{every-In}
 use Rattle.qc_core.specs.declared.actor.Actor.{Actor}
 use Rattle.qc_core.specs.declared.actor.Actor.TheVariants as actor
-use Rattle.qc_core.specs.Vocabulary.{IsLawfulWithFalls, MayReach, actor_after, actor_takes, up_at}
+use Rattle.qc_core.specs.Vocabulary.{IsLawfulWithFalls, actor_after, actor_takes}
 use Rattle.qc_core.specs.Lives as lives
 use Rattle.qc_decl.specs.Vocabulary.{IsAccepted, actors, is_client}
 use Rattle.qc_decl.specs.declared.declaration.Declaration.{Declaration}
@@ -16,7 +16,6 @@ use Rattle.laws_turns.proofs.SiteReplies.{IsReply}
 use Rattle.qc_link.specs.Vocabulary.{most_actors}
 use Rattle.qc_msg.specs.declared.message.Envelope.{Envelope}
 use Rattle.qc_msg.specs.declared.message.Message.{Message}
-use Rattle.qc_msg.specs.declared.message.Message.TheVariants as messages
 use Rattle.qc_msg.specs.declared.record.Record.{Record}
 use Rattle.qc_msg.specs.declared.step.Input.TheVariants as inputs
 use Rattle.qc_msg.specs.declared.turn.Posting.{Posting}
@@ -30,6 +29,7 @@ use Rattle.laws_due.proofs.Somewhere.{AreToOthers, IsOther}
 use Rattle.laws_due.proofs.SiteTurns.{IsDeclared, declared_request, site_up}
 use Rattle.laws_due.proofs.Taken.{AreReplied, IsReplied, RepliesTo}
 use Rattle.laws_due.proofs.Reached.{unanswered_at_receiver}
+use Rattle.laws_due.proofs.AskingCases.{asking_cases}
 
 module _ (decl : Declaration) (script : Script) (accepted : IsAccepted decl) (asks : AsksDeclared decl script)
     (fits : ℕ → List Record → Type 0) (a : ℕ) (client : is_client decl a ≡ true) where
@@ -51,13 +51,9 @@ module _ (decl : Declaration) (script : Script) (accepted : IsAccepted decl) (as
   )
 
   to_site : (to : ℕ) (m : Message) → IsProper decl to m → is_request m ≡ true → IsOther a to
-  to_site to (messages.Request tx epoch life want) is request = site_other to is.0
-  to_site to (messages.Answer number answer) is request = absurd (let never : ⊥ = cc in never)
-  to_site to (messages.Decision tx verdict) is request = absurd (let never : ⊥ = cc in never)
-  to_site to (messages.Inquiry tx) is request = absurd (let never : ⊥ = cc in never)
-  to_site to (messages.Ask tx) is request = absurd is
-  to_site to (messages.Close epoch) is request = absurd is
-  to_site to (messages.Install start) is request = absurd is
+  to_site to m is request =
+      asking_cases (λ (x : Message). IsProper decl to x → IsOther a to) (λ q proper. site_other to proper.0)
+      (λ tx never. absurd never) (λ epoch never. absurd never) (λ start never. absurd never) m request is
 
   to_sites : (ps : List Posting) → AreProper decl ps → AreToOthers a ps
   to_sites [] are = tt

@@ -1,7 +1,7 @@
 -- In a run with falls each command that is called is one that the script asks of that client.
 use Rattle.std.proofs.Common.{[], ◌≡◌, ℕ, ◌+◌, ◌-◌, ◌==◌, Bool, true, false, cond, List, ◌∷◌, ◌++◌, filter, map, length}
 use Rattle.std.proofs.Common.{Option, Some, None, slice_get, refl, subst, eqb-true}
-use Rattle.std.specs.Prelude.{option_to_list}
+use Rattle.std.specs.Prelude.{option_to_list, MatchOption}
 use Rattle.std.specs.List.{AllByRecursion as Every}
 use Rattle.qc_decl.specs.Vocabulary.{controller}
 use Rattle.qc_decl.specs.declared.declaration.Declaration.{Declaration}
@@ -13,23 +13,22 @@ use Rattle.qc_msg.specs.declared.record.Record.{Record}
 use Rattle.qc_msg.specs.declared.reply.Reply.{Reply}
 use Rattle.qc_msg.specs.declared.step.Command.{Command}
 use Rattle.qc_msg.specs.declared.step.Control.{Control}
-use Rattle.qc_msg.specs.declared.step.Control.TheVariants as controls
 use Rattle.qc_msg.specs.declared.step.Input.{Input}
 use Rattle.qc_msg.specs.declared.step.Input.TheVariants as inputs
 use Rattle.qc_msg.specs.declared.step.Step.{Step}
-use Rattle.qc_msg.specs.declared.step.Step.TheVariants as steps
 use Rattle.qc_msg.specs.declared.turn.Appended.{Appended}
 use Rattle.qc_msg.specs.declared.turn.Appended.TheVariants.{Done, Failed, Stopped}
 use Rattle.qc_msg.specs.declared.turn.Posting.{Posting}
 use Rattle.qc_msg.specs.declared.turn.Turn.{Turn}
 use Rattle.qc_msg.specs.Vocabulary.{Deed, Entry, by, deed_at, deeds, envelope_of, fell, heard, mail, posted_as, sents}
-use Rattle.qc_msg.specs.Vocabulary.{step_of, told, wrote}
+use Rattle.qc_msg.specs.Vocabulary.{step_of, told, wrote, commanded_in}
 use Rattle.qc_script.specs.Vocabulary.{RunsWithFalls, begins, commands_for, control, controller_step, damaged}
 use Rattle.qc_script.specs.Vocabulary.{empty_inbox, falls, inbox, phase, posts, ready, rises, takes, unopened}
 use Rattle.qc_script.specs.declared.script.CommandLine.{CommandLine}
 use Rattle.qc_script.specs.declared.script.PhaseLines.{PhaseLines}
 use Rattle.qc_script.specs.declared.script.Script.{Script}
 use Rattle.laws_due.proofs.AskedCommands.{asks_all, ready_command}
+use Rattle.laws_turns.proofs.StepCases.{controller_cases, deed_cases}
 
 -- a script that asks for what is declared
 
@@ -57,19 +56,7 @@ ready_askable decl script asks a h c is =
 -- the steps of a run
 
 abbrev StepAskable : Declaration → ℕ → Step → Type 0
-StepAskable decl a (steps.Phase k) = Unit {0}
-StepAskable decl a (steps.Cut x y) = Unit {0}
-StepAskable decl a (steps.Heal x y) = Unit {0}
-StepAskable decl a (steps.Armed actor kind at) = Unit {0}
-StepAskable decl a (steps.Called command) = IsAskable decl a command
-StepAskable decl a (steps.Got n) = Unit {0}
-StepAskable decl a (steps.Lost n) = Unit {0}
-StepAskable decl a (steps.Wrote written) = Unit {0}
-StepAskable decl a (steps.Sent n to message) = Unit {0}
-StepAskable decl a (steps.Told reply) = Unit {0}
-StepAskable decl a (steps.Fell cause pending) = Unit {0}
-StepAskable decl a (steps.Rose records) = Unit {0}
-StepAskable decl a (steps.Damaged offset) = Unit {0}
+StepAskable decl a step = MatchOption (commanded_in step) (Unit {0}) (IsAskable decl a)
 
 abbrev AreStepsAskable : Declaration → List Entry → Type 0
 AreStepsAskable decl h = Every (λ (e : Entry). StepAskable decl e.actor e.step) h
@@ -102,15 +89,8 @@ post_askable decl a n Stopped t = told_askable decl a t.failed_told (fell _ t.wr
 
 line_askable : (decl : Declaration) (a : ℕ) (line : Control) (step : Step) → controller_step line ≡ Some step
     → StepAskable decl a step
-line_askable decl a (controls.Phase k) step is = absurd (let never : ⊥ = cc in never)
-line_askable decl a (controls.Cut x y) step is =
-    subst (StepAskable decl a) (let same : steps.Cut x y ≡ step = cc in same) tt
-line_askable decl a (controls.Heal x y) step is =
-    subst (StepAskable decl a) (let same : steps.Heal x y ≡ step = cc in same) tt
-line_askable decl a (controls.Armed r kind at) step is =
-    subst (StepAskable decl a) (let same : steps.Armed r kind at ≡ step = cc in same) tt
-line_askable decl a (controls.Crash x) step is = absurd (let never : ⊥ = cc in never)
-line_askable decl a (controls.Restart x) step is = absurd (let never : ⊥ = cc in never)
+line_askable decl a line step is =
+    controller_cases (StepAskable decl a) (λ x y. tt) (λ x y. tt) (λ x. tt) line step is
 
 module _ (lawful : ℕ → List Deed → Turn → Type 0) (fits : ℕ → List Record → Type 0) (decl : Declaration)
     (script : Script) (asks : AsksDeclared decl script) where
@@ -150,19 +130,11 @@ heard_askable decl a (Some e) = (tt, tt)
 
 step_askable : (decl : Declaration) (a : ℕ) (ms : List Envelope) (step : Step) → StepAskable decl a step
     → Every (IsAskableDeed decl a) (deed_at ms step)
-step_askable decl a ms (steps.Phase k) is = tt
-step_askable decl a ms (steps.Cut x y) is = tt
-step_askable decl a ms (steps.Heal x y) is = tt
-step_askable decl a ms (steps.Armed actor kind at) is = tt
-step_askable decl a ms (steps.Called command) is = (is, tt)
-step_askable decl a ms (steps.Got n) is = heard_askable decl a (slice_get ms n)
-step_askable decl a ms (steps.Lost n) is = (tt, tt)
-step_askable decl a ms (steps.Wrote written) is = (tt, tt)
-step_askable decl a ms (steps.Sent n to message) is = (tt, tt)
-step_askable decl a ms (steps.Told reply) is = (tt, tt)
-step_askable decl a ms (steps.Fell cause pending) is = (tt, tt)
-step_askable decl a ms (steps.Rose kept) is = (tt, tt)
-step_askable decl a ms (steps.Damaged offset) is = tt
+step_askable decl a ms step is =
+    deed_cases ms (λ (s : Step) (ds : List Deed). StepAskable decl a s → Every (IsAskableDeed decl a) ds)
+    (λ s w m r asks. tt) (λ command asks. (asks, tt)) (λ n asks. heard_askable decl a (slice_get ms n))
+    (λ n asks. (tt, tt)) (λ written asks. (tt, tt)) (λ n to message asks. (tt, tt)) (λ reply asks. (tt, tt))
+    (λ cause pending asks. (tt, tt)) (λ records asks. (tt, tt)) step is
 
 deeds_askable : (decl : Declaration) (a : ℕ) (ms : List Envelope) (h : List Entry) → AreStepsAskable decl h
     → Every (IsAskableDeed decl a) (deeds a ms h)

@@ -1,6 +1,6 @@
 -- A command runs by the account just where it runs by the deeds.
-use Rattle.std.proofs.Common.{◌≡◌, ℕ, ◌-◌, ◌++◌, ◌<◌, ◌≤◌, nat_lt, ◌&&◌, Bool, true, false, cond, List, [], ◌∷◌, Option}
-use Rattle.std.proofs.Common.{Some, None, is_some, refl, sym, ap, ◌∙◌, arith}
+use Rattle.std.proofs.Common.{◌≡◌, ℕ, ◌-◌, ◌<◌, ◌≤◌, nat_lt, ◌&&◌, Bool, true, false, cond, List, [], ◌∷◌, Option, Some}
+use Rattle.std.proofs.Common.{None, is_some, refl, sym, ap, ◌∙◌, arith}
 use Rattle.std.specs.Prelude.{fold}
 use Rattle.std.specs.List.{find}
 use Rattle.std.proofs.lemmas.Bool.{ltb-true}
@@ -9,92 +9,41 @@ use Rattle.qc_decl.specs.declared.declaration.Declaration.{Declaration}
 use Rattle.qc_decl.specs.Vocabulary.{is_client, is_site}
 use Rattle.qc_core.specs.Vocabulary.{AreSteady, IsLawful, MayTake, is_running, runs_at}
 use Rattle.qc_client.specs.Vocabulary.{client_after}
-use Rattle.qc_entry.specs.declared.line.Line.{Line}
 use Rattle.qc_msg.specs.declared.message.Answer.{Answer}
-use Rattle.qc_msg.specs.declared.message.Answer.TheVariants as answers
 use Rattle.qc_msg.specs.declared.message.Message.{Message}
-use Rattle.qc_msg.specs.declared.message.Message.TheVariants as messages
-use Rattle.qc_msg.specs.declared.message.Want.{Want}
-use Rattle.qc_msg.specs.declared.message.Want.TheVariants.{Read, Append, Prepare}
 use Rattle.qc_msg.specs.declared.record.Record.{Record}
-use Rattle.qc_msg.specs.declared.record.Record.TheVariants as records
 use Rattle.qc_msg.specs.declared.step.Command.{Command}
 use Rattle.qc_msg.specs.declared.step.Input.{Input}
 use Rattle.qc_msg.specs.declared.step.Input.TheVariants as inputs
 use Rattle.qc_msg.specs.declared.turn.Turn.{Turn}
-use Rattle.qc_msg.specs.Vocabulary.{Deed, Falls, Rises, Sends, Takes, Tells, Writes}
+use Rattle.qc_msg.specs.Vocabulary.{Deed, Falls, Rises, Sends, Takes, Tells, Writes, Answered, answer_in}
 use Rattle.qc_promise.specs.Vocabulary.{Account, ClientRequest, IsFreeFor, account_at, account_heard, account_sent}
-use Rattle.qc_promise.specs.Vocabulary.{account_written, counted, counted_for, granted, is_asked_for, is_open}
-use Rattle.qc_promise.specs.Vocabulary.{new_account, promised, taken_for, told_by}
+use Rattle.qc_promise.specs.Vocabulary.{account_written, counted, counted_for, is_open, new_account, taken_for}
 use Rattle.qc_site.specs.Vocabulary.{site_after}
-
-granted_command : (d : Account) (site life clock : ℕ) (log : List Line) (w : Want)
-    → (granted d site life clock log w).command ≡ d.command
-granted_command d site life clock log (Read read) = refl
-granted_command d site life clock log (Append object view own) = refl
-granted_command d site life clock log Prepare = refl
-
-promised_command : (d : Account) (clock : ℕ) (w : Want) → (promised d clock w).command ≡ d.command
-promised_command d clock (Read read) = refl
-promised_command d clock (Append object view own) = refl
-promised_command d clock Prepare = refl
-
-told_command : (d : Account) (q : ClientRequest) (answer : Option Answer) → (told_by d q answer).command ≡ d.command
-told_command d q None = refl
-told_command d q (Some (answers.Granted grant)) = granted_command d q.site grant.life grant.clock grant.log q.want
-told_command d q (Some (answers.Clash holder inv event)) = refl
-told_command d q (Some (answers.Closed epoch)) = refl
-told_command d q (Some (answers.Behind epoch)) = refl
-told_command d q (Some (answers.Restarted life)) = refl
-told_command d q (Some answers.Stale) = refl
-told_command d q (Some answers.Fault) = refl
-told_command d q (Some (answers.Yes clock)) = promised_command d clock q.want
-told_command d q (Some (answers.Shut snapshot)) = refl
-told_command d q (Some answers.Installed) = refl
-told_command d q (Some (answers.Answered verdict)) = refl
+use Rattle.laws_turns.proofs.ReadingCases.{mapped}
+use Rattle.laws_due.proofs.AccountCases.{sent_cases, told_cases, written_cases}
 
 counted_command : (d : Account) (n : ℕ) (answer : Option Answer) → (counted d n answer).command ≡ d.command
 counted_command d n answer = by (find (is_open n) d.requests)
   where
     by : (o : Option ClientRequest) → (counted_for d n answer o).command ≡ d.command
     by None = refl
-    by (Some q) = told_command (record d { requests = taken_for n answer d.requests }) q answer
+    by (Some q) =
+        told_cases (record d { requests = taken_for n answer d.requests }) q answer
+        (λ (e : Account). e.command ≡ d.command) refl (λ clock. refl) (λ clock change same. refl) (λ epoch is. refl)
 
 heard_command : (d : Account) (m : Message) → (account_heard d m).command ≡ d.command
-heard_command d (messages.Request tx epoch life want) = refl
-heard_command d (messages.Answer to answer) = counted_command d to (Some answer)
-heard_command d (messages.Decision tx verdict) = refl
-heard_command d (messages.Inquiry tx) = refl
-heard_command d (messages.Ask tx) = refl
-heard_command d (messages.Close epoch) = refl
-heard_command d (messages.Install start) = refl
+heard_command d m =
+    mapped (λ (e : Account). e.command ≡ d.command) (λ (a : Answered). counted d a.to (Some a.answer)) d (answer_in m)
+    (λ a. counted_command d a.to (Some a.answer)) refl
 
 written_command : (d : Account) (w : Record) → (account_written d w).command ≡ d.command
-written_command d records.Life = refl
-written_command d (records.Prepare prepared) = refl
-written_command d (records.Done tx clock) = refl
-written_command d (records.Close epoch) = refl
-written_command d (records.Install start) = refl
-written_command d (records.Commit commit) = refl
-written_command d (records.Decide start) = refl
+written_command d w = written_cases d (λ (e : Account). e.command ≡ d.command) refl refl (λ commit. refl) w
 
 sent_command : (decl : Declaration) (d : Account) (n to : ℕ) (m : Message)
     → (account_sent decl d n to m).command ≡ d.command
-sent_command decl d n to (messages.Request tx epoch life want) = by (is_asked_for decl d to tx epoch life want)
-  where
-    by : (b : Bool)
-        → (cond b (record d {
-          requests = d.requests
-              ++ record { number = n; site = to; life = life; want = want; taken = None } ∷ [];
-        }) d).command ≡ d.command
-    by true = refl
-    by false = refl
-sent_command decl d n to (messages.Answer request answer) = refl
-sent_command decl d n to (messages.Decision tx verdict) = refl
-sent_command decl d n to (messages.Inquiry tx) = refl
-sent_command decl d n to (messages.Ask tx) = refl
-sent_command decl d n to (messages.Close epoch) = refl
-sent_command decl d n to (messages.Install start) = refl
+sent_command decl d n to m =
+    sent_cases decl d n to (λ (m : Message) (e : Account). e.command ≡ d.command) (λ m. refl) (λ q. refl) m
 
 runs_step : (decl : Declaration) (d : Account) (deed : Deed)
     → runs_at (is_some d.command) deed ≡ is_some (account_at decl d deed).command

@@ -27,7 +27,7 @@ use Rattle.qc_msg.specs.declared.step.Step.TheVariants as steps
 use Rattle.qc_msg.specs.declared.turn.Posting.{Posting}
 use Rattle.qc_msg.specs.declared.turn.Turn.{Turn}
 use Rattle.qc_msg.specs.Vocabulary.{Entry, Sends, by, posted, sends_of, sents, step_of, tells_of, told, turn_deeds}
-use Rattle.qc_msg.specs.Vocabulary.{writes_of, wrote}
+use Rattle.qc_msg.specs.Vocabulary.{writes_of, wrote, Fallen, fell_in, lost_in, received_in, wrote_in}
 use Rattle.qc_script.specs.declared.script.Script.{Script}
 use Rattle.qc_script.specs.Vocabulary.{Inbox, control_acted, copy_taken, inbox_at, is_request, is_up, loss_taken}
 use Rattle.qc_script.specs.Vocabulary.{ready_in}
@@ -35,6 +35,7 @@ use Rattle.laws_due.proofs.AdminCalls.{KeepsCalls, sent_call, takes_keep}
 use Rattle.laws_due.proofs.AdminNumbers.{DoingPlain, open_numbers}
 use Rattle.laws_due.proofs.AwaitedMessages.{KeepsUp}
 use Rattle.laws_due.proofs.Awaiting.{Spares, awaited_step, keeps_up}
+use Rattle.laws_turns.proofs.ReadingCases.{matched}
 
 -- each open request of a client is awaited, and the client is up by its inbox
 pub record AreAwaited (a : ℕ) (c : Client) (i : Inbox) : Type 0 where
@@ -76,34 +77,15 @@ module _ (decl : Declaration) (script : Script) (a : ℕ) where
   -- another's steps
 
   spared : (b : ℕ) (step : Step) → (b == a) ≡ false → Spares script a b step
-  spared b (steps.Phase k) other = tt
-  spared b (steps.Cut x y) other = tt
-  spared b (steps.Heal x y) other = tt
-  spared b (steps.Armed actor kind place) other = tt
-  spared b (steps.Called command) other = tt
-  spared b (steps.Got n) other = other
-  spared b (steps.Lost n) other = other
-  spared b (steps.Wrote written) other = tt
-  spared b (steps.Sent n to message) other = tt
-  spared b (steps.Told reply) other = tt
-  spared b (steps.Fell cause pending) other = other
-  spared b (steps.Rose records) other = tt
-  spared b (steps.Damaged offset) other = tt
+  spared b step other =
+      matched _ (λ (n : ℕ). (b == a) ≡ false) (received_in step) (λ n. other)
+      (matched _ (λ (n : ℕ). (b == a) ≡ false) (lost_in step) (λ n. other)
+      (matched (Unit {0}) (λ (f : Fallen). (b == a) ≡ false) (fell_in step) (λ f. other) tt))
 
   kept_up : (b : ℕ) (step : Step) → (b == a) ≡ false → KeepsUp script a b step
-  kept_up b (steps.Phase k) other = tt
-  kept_up b (steps.Cut x y) other = tt
-  kept_up b (steps.Heal x y) other = tt
-  kept_up b (steps.Armed actor kind place) other = tt
-  kept_up b (steps.Called command) other = tt
-  kept_up b (steps.Got n) other = tt
-  kept_up b (steps.Lost n) other = tt
-  kept_up b (steps.Wrote written) other = other
-  kept_up b (steps.Sent n to message) other = tt
-  kept_up b (steps.Told reply) other = tt
-  kept_up b (steps.Fell cause pending) other = other
-  kept_up b (steps.Rose records) other = tt
-  kept_up b (steps.Damaged offset) other = tt
+  kept_up b step other =
+      matched _ (λ (r : Record). (b == a) ≡ false) (wrote_in step) (λ r. other)
+      (matched (Unit {0}) (λ (f : Fallen). (b == a) ≡ false) (fell_in step) (λ f. other) tt)
 
   pub others_steps : (v : Actor) (i : Inbox) (b : ℕ) (xs : List Step) → (b == a) ≡ false → Awaits a v i
       → Awaits a v (fold step_in i (by b xs))

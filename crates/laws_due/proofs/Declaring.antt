@@ -1,16 +1,15 @@
 -- In a run what comes to a client is declared: scripts ask of declared objects, and nobody tells of another epoch than
 -- the first.
 use Rattle.std.proofs.Common.{◌≡◌, ℕ, Bool, true, List, [], ◌∷◌, Option, Some, None, is_some, slice_get, refl, ap}
-use Rattle.std.specs.Prelude.{option_and_then, option_map}
+use Rattle.std.specs.Prelude.{option_and_then, option_map, MatchOption}
 use Rattle.std.specs.List.{AllByRecursion as Every}
 use Rattle.qc_decl.specs.Vocabulary.{IsAccepted, kind_at, table_at}
 use Rattle.qc_decl.specs.declared.declaration.Declaration.{Declaration}
 use Rattle.qc_msg.specs.declared.message.Message.{Message}
-use Rattle.qc_msg.specs.declared.message.Message.TheVariants as messages
 use Rattle.qc_msg.specs.declared.step.Command.{Command}
-use Rattle.qc_msg.specs.declared.step.Command.TheVariants as commands
 use Rattle.qc_msg.specs.declared.step.Input.TheVariants as inputs
 use Rattle.qc_msg.specs.Vocabulary.{Deed, Entry, Falls, Rises, Sends, Takes, Tells, Writes, deeds, first_epoch}
+use Rattle.qc_msg.specs.Vocabulary.{Answered, Invocation, answer_in, closed_in, do_in}
 use Rattle.qc_plan.specs.declared.plan.Plan.{Plan}
 use Rattle.qc_table.specs.declared.kind.Kind.{Kind}
 use Rattle.qc_core.specs.Vocabulary.{IsLawful}
@@ -22,6 +21,7 @@ use Rattle.laws_turns.proofs.SoundClients.{IsAskableDeed, run_askable}
 use Rattle.laws_due.proofs.Epochs.{DeedPlanned, TellsPlanned}
 use Rattle.laws_due.proofs.PlannedMail.{deeds_planned, run_planned}
 use Rattle.laws_due.specs.Vocabulary.{ArePlanned, Declares, IsDeclaredCommand, IsDeclaredDeed, IsPlanned, epoch_told}
+use Rattle.laws_turns.proofs.ReadingCases.{matched_by}
 
 module _ (decl : Declaration) (accepted : IsAccepted decl) where
   pub first_planned : IsPlanned decl first_epoch
@@ -30,13 +30,13 @@ module _ (decl : Declaration) (accepted : IsAccepted decl) where
 
   -- an answer's epoch, where it says that another one is closed
   told_planned : (m : Message) → TellsPlanned decl m → ArePlanned decl (epoch_told m)
-  told_planned (messages.Request tx epoch life want) told = tt
-  told_planned (messages.Answer to answer) told = told
-  told_planned (messages.Decision tx verdict) told = tt
-  told_planned (messages.Inquiry tx) told = tt
-  told_planned (messages.Ask tx) told = tt
-  told_planned (messages.Close k) told = tt
-  told_planned (messages.Install start) told = tt
+  told_planned m told = by _ (answer_in m) told
+    where
+      by : (N : Type 0) (o : Option Answered)
+          → MatchOption o N (λ (a : Answered). ArePlanned decl (closed_in a.answer))
+          → ArePlanned decl (option_and_then (λ (a : Answered). closed_in a.answer) o)
+      by N None planned = tt
+      by N (Some a) planned = planned
 
   -- an object that has a kind has a table
   has_table : (object : ℕ) → is_some (kind_at decl object) ≡ true → is_some (table_at decl object) ≡ true
@@ -52,11 +52,9 @@ module _ (decl : Declaration) (accepted : IsAccepted decl) where
       at (Some n) is = kind (slice_get decl.kinds n) is
 
   command_declared : (a : ℕ) (c : Command) → IsAskable decl a c → IsDeclaredCommand decl c
-  command_declared a commands.Begin is = tt
-  command_declared a (commands.Do object inv) is = has_table object is
-  command_declared a commands.Commit is = tt
-  command_declared a commands.Abort is = tt
-  command_declared a (commands.Epoch number) is = tt
+  command_declared a c is =
+      matched_by _ (Unit {0}) _ (λ (i : Invocation). is_some (table_at decl i.object) ≡ true) (do_in c)
+      (λ i kind. has_table i.object kind) (λ u. tt) is
 
   deed_declared : (a : ℕ) (x : Deed) → IsAskableDeed decl a x → DeedPlanned decl x → IsDeclaredDeed decl x
   deed_declared a (Takes (inputs.Called command)) is first = command_declared a command is

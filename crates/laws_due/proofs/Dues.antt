@@ -1,119 +1,43 @@
 -- What is by the rows is due, where the client is up and what comes to it is declared.
-use Rattle.std.proofs.Common.{[], ◌≡◌, ℕ, Bool, true, false, cond, List, ◌∷◌, ◌++◌, Option, Some, None, is_some, refl}
-use Rattle.std.proofs.Common.{sym, ap, ◌∙◌, subst}
+use Rattle.std.proofs.Common.{[], ◌≡◌, ℕ, List, ◌∷◌, ◌++◌, Option, None, is_some, refl, sym, ap, ◌∙◌, subst}
 use Rattle.std.specs.Prelude.{fold}
 use Rattle.std.specs.List.{AllByRecursion as Every}
 use Rattle.std.proofs.lemmas.List.{append-nil}
 use Rattle.qc_decl.specs.declared.declaration.Declaration.{Declaration}
-use Rattle.qc_msg.specs.declared.message.Answer.{Answer}
 use Rattle.qc_msg.specs.declared.message.Message.{Message}
-use Rattle.qc_msg.specs.declared.message.Message.TheVariants as messages
-use Rattle.qc_msg.specs.declared.message.Want.TheVariants.{Read, Append, Prepare}
 use Rattle.qc_msg.specs.declared.record.Record.{Record}
-use Rattle.qc_msg.specs.declared.record.Record.TheVariants as records
-use Rattle.qc_msg.specs.declared.reply.Half.{Half}
-use Rattle.qc_msg.specs.declared.reply.Half.TheVariants as halves
 use Rattle.qc_msg.specs.declared.reply.Reply.{Reply}
-use Rattle.qc_msg.specs.declared.reply.Reply.TheVariants as replies
-use Rattle.qc_msg.specs.declared.step.Command.{Command}
-use Rattle.qc_msg.specs.declared.step.Command.TheVariants as commands
 use Rattle.qc_msg.specs.declared.step.Input.TheVariants as inputs
 use Rattle.qc_msg.specs.Vocabulary.{Deed, Falls, Rises, Sends, Takes, Tells, Writes}
 use Rattle.qc_core.specs.Vocabulary.{AreSteady, IsSteady}
-use Rattle.qc_promise.specs.Vocabulary.{Account, Current, IsInputDue, IsRecordDue, account_at, answer_of, due}
-use Rattle.qc_promise.specs.Vocabulary.{is_asked_for, new_account, pending_next}
+use Rattle.qc_promise.specs.Vocabulary.{Account, IsInputDue, IsRecordDue, account_at, due, new_account, pending_next}
 use Rattle.qc_promise.specs.Accounting as accounting
 use Rattle.qc_promise.specs.Replies as promise
 use Rattle.laws_due.specs.Vocabulary.{AreByRows, Declares, IsByRow, IsDeclaredDeed}
 use Rattle.laws_due.proofs.DuesOfDeeds.{IsWithin, due_is, changed, passed, asked, lost, heard}
+use Rattle.laws_due.proofs.AccountCases.{reply_cases, sent_cases, written_cases}
 
 module _ (decl : Declaration) where
   wrote : (d : Account) (r : Record) → IsWithin decl d → IsWithin decl (accounting.account_written d r)
-  wrote d records.Life w = record { up = w.up; known = w.known; current = w.current; command = w.command }
-  wrote d (records.Prepare prepared) w = w
-  wrote d (records.Done tx clock) w = w
-  wrote d (records.Close epoch) w = w
-  wrote d (records.Install start) w = w
-  wrote d (records.Commit commit) w = record { up = w.up; known = w.known; current = w.current; command = w.command }
-  wrote d (records.Decide start) w = w
+  wrote d r w =
+      written_cases d (IsWithin decl) w
+      (record { up = w.up; known = w.known; current = w.current; command = w.command })
+      (λ commit. record { up = w.up; known = w.known; current = w.current; command = w.command }) r
 
   sent : (d : Account) (number to : ℕ) (m : Message) → IsWithin decl d
       → IsWithin decl (accounting.account_sent decl d number to m)
-  sent d number to (messages.Request tx epoch life want) w = by (is_asked_for decl d to tx epoch life want)
-    where
-      by : (b : Bool)
-          → IsWithin decl
-          (cond b
-          (record d {
-            requests = d.requests
-                ++ record { number = number; site = to; life = life; want = want; taken = None } ∷ [];
-          }) d)
-      by true =
-          asked decl d
-          (d.requests ++ record { number = number; site = to; life = life; want = want; taken = None } ∷ []) w
-      by false = w
-  sent d number to (messages.Answer request answer) w = w
-  sent d number to (messages.Decision tx verdict) w = w
-  sent d number to (messages.Inquiry tx) w = w
-  sent d number to (messages.Ask tx) w = w
-  sent d number to (messages.Close epoch) w = w
-  sent d number to (messages.Install start) w = w
-
-  responded : (d : Account) (o : Option Command) → IsWithin decl d → IsWithin decl (accounting.responded decl d o)
-  responded d None w = w
-  responded d (Some commands.Begin) w = w
-  responded d (Some (commands.Do object inv)) w =
-      changed decl d (λ (t : Current). accounting.with_response decl t object inv (answer_of decl t object inv))
-      (λ t. by t (answer_of decl t object inv)) w
-    where
-      by : (t : Current) (event : Option ℕ) → (accounting.with_response decl t object inv event).epoch ≡ t.epoch
-      by t None = refl
-      by t (Some event) = refl
-  responded d (Some commands.Commit) w = w
-  responded d (Some commands.Abort) w = w
-  responded d (Some (commands.Epoch number)) w = w
-
-  absent : (d : Account) (o : Option Command) → IsWithin decl d → IsWithin decl (accounting.found_absent d o)
-  absent d None w = w
-  absent d (Some commands.Begin) w = w
-  absent d (Some (commands.Do object inv)) w =
-      changed decl d (λ (t : Current). accounting.with_absent t object inv) (λ t. refl) w
-  absent d (Some commands.Commit) w = w
-  absent d (Some commands.Abort) w = w
-  absent d (Some (commands.Epoch number)) w = w
-
-  doomed : (d : Account) (b : Bool) → IsWithin decl d
-      → IsWithin decl (accounting.with_current d (accounting.doomed_if b))
-  doomed d b w = changed decl d (accounting.doomed_if b) (λ t. refl) w
-
-  short : (d : Account) (half : Half) → IsWithin decl d → IsWithin decl (accounting.short_of d half)
-  short d halves.Read w = w
-  short d halves.Append w = doomed d true w
-  short d halves.Close w = w
-
-  ended : (d : Account) → IsWithin decl d → IsWithin decl (accounting.ended d)
-  ended d w = record { up = w.up; known = w.known; current = tt; command = w.command }
+  sent d number to m w =
+      sent_cases decl d number to (λ (m : Message) (e : Account). IsWithin decl e) (λ m. w) (λ q. asked decl d _ w) m
 
   told_in : (d : Account) (reply : Reply) → IsWithin decl d → IsWithin decl (accounting.account_told_in decl d reply)
-  told_in d replies.Down w = w
-  told_in d (replies.Already tx) w = w
-  told_in d (replies.Began tx) w = record { up = w.up; known = w.known; current = w.known; command = w.command }
-  told_in d replies.NoTransaction w = w
-  told_in d replies.Doomed w = w
-  told_in d replies.TooLong w = w
-  told_in d (replies.Closed epoch site) w = doomed d _ w
-  told_in d (replies.Conflict tx site) w = doomed d _ w
-  told_in d (replies.Quorum half got need) w = short d half w
-  told_in d replies.Absent w = absent d d.command w
-  told_in d (replies.Response resp) w = responded d d.command w
-  told_in d (replies.Aborted why) w = ended d w
-  told_in d replies.Unknown w = ended d w
-  told_in d (replies.Committed stamp) w = passed decl (accounting.ended d) stamp.clock (ended d w)
-  told_in d replies.Dropped w = ended d w
-  told_in d (replies.Order current) w = w
-  told_in d (replies.InDoubt tx site) w = w
-  told_in d replies.Fault w = w
-  told_in d (replies.Moved closed installed) w = w
+  told_in d reply w =
+      reply_cases decl d (IsWithin decl) w
+      (λ tx. record { up = w.up; known = w.known; current = w.known; command = w.command }) ended
+      (λ stamp. passed decl (accounting.ended d) stamp.clock ended)
+      (λ change same. changed decl d change same w) reply
+    where
+      ended : IsWithin decl (accounting.ended d)
+      ended = record { up = w.up; known = w.known; current = tt; command = w.command }
 
   told : (d : Account) (reply : Reply) → IsWithin decl d → IsWithin decl (accounting.account_told decl d reply)
   told d reply w =

@@ -1,28 +1,25 @@
 -- An account of a client that is up, which runs what is declared, has a row for each reply that is due; deeds leave it
 -- so.
 use Rattle.std.proofs.Common.{◌≡◌, ◌⊎◌, ◌<◌, ◌≤◌, ℕ, ◌&&◌, max, Bool, true, false, cond, List, inl, inr, Option, Some}
-use Rattle.std.proofs.Common.{None, refl, sym, ap, ◌∙◌, subst, arith}
-use Rattle.std.specs.Prelude.{option_and_then, option_map}
+use Rattle.std.proofs.Common.{None, refl, sym, ap, ◌∙◌, subst, arith, is_some}
+use Rattle.std.specs.Prelude.{option_and_then, option_map, MatchOption}
 use Rattle.std.specs.List.{find}
 use Rattle.std.proofs.lemmas.Bool.{cases_lt}
 use Rattle.qc_decl.specs.declared.declaration.Declaration.{Declaration}
-use Rattle.qc_entry.specs.declared.line.Line.{Line}
 use Rattle.qc_msg.specs.declared.message.Answer.{Answer}
-use Rattle.qc_msg.specs.declared.message.Answer.TheVariants as answers
 use Rattle.qc_msg.specs.declared.message.Message.{Message}
-use Rattle.qc_msg.specs.declared.message.Message.TheVariants as messages
-use Rattle.qc_msg.specs.declared.message.Want.{Want}
-use Rattle.qc_msg.specs.declared.message.Want.TheVariants.{Read, Append, Prepare}
 use Rattle.qc_msg.specs.declared.reply.Reply.{Reply}
 use Rattle.qc_msg.specs.declared.reply.Reply.TheVariants as replies
 use Rattle.qc_msg.specs.declared.step.Command.{Command}
-use Rattle.qc_msg.specs.declared.step.Command.TheVariants as commands
 use Rattle.qc_msg.specs.declared.step.Input.TheVariants as inputs
-use Rattle.qc_msg.specs.Vocabulary.{Takes}
+use Rattle.qc_msg.specs.Vocabulary.{Takes, Answered, Invocation, answer_in, closed_in, do_in}
 use Rattle.qc_promise.specs.Vocabulary.{Account, ClientRequest, Current, due, is_declared_for, reply_to, row_of}
 use Rattle.qc_promise.specs.Vocabulary.{running_row}
 use Rattle.qc_promise.specs.Accounting as accounting
-use Rattle.laws_due.specs.Vocabulary.{IsDeclaredCommand, IsDeclaredDeed, IsPlanned}
+use Rattle.laws_due.specs.Vocabulary.{IsDeclaredCommand, IsDeclaredDeed, IsPlanned, ArePlanned}
+use Rattle.laws_due.proofs.AccountCases.{told_cases}
+use Rattle.std.specs.Option.{option_map_or}
+use Rattle.qc_decl.specs.Vocabulary.{plan_in, table_at}
 
 -- an account of a client that is up, which knows, has begun and runs what is declared
 
@@ -49,11 +46,15 @@ module _ (decl : Declaration) (d : Account) (w : IsWithin decl d) where
   is_declared : (o : Option Current) → HasPlan decl o → (c : Command) → IsDeclaredCommand decl c
       → is_declared_for decl o c ≡ true
   is_declared None plan c table = refl
-  is_declared (Some t) plan commands.Begin table = refl
-  is_declared (Some t) plan (commands.Do object inv) table = λ i. plan i && table i
-  is_declared (Some t) plan commands.Commit table = refl
-  is_declared (Some t) plan commands.Abort table = refl
-  is_declared (Some t) plan (commands.Epoch number) table = refl
+  is_declared (Some t) plan c table = by (do_in c) table
+    where
+      by : (o : Option Invocation)
+          → MatchOption o (Unit {0}) (λ (i : Invocation). is_some (table_at decl i.object) ≡ true)
+          → option_map_or (λ (i : Invocation). is_some (plan_in decl t.epoch) && is_some (table_at decl i.object)) o
+          true
+          ≡ true
+      by None declared = refl
+      by (Some i) declared = λ j. plan j && declared j
 
   pub due_as : (unwritten : Bool) → due decl d unwritten ≡ running_row decl d unwritten
   due_as unwritten = by d.command w.command
@@ -110,59 +111,27 @@ module _ (decl : Declaration) where
   pub passed : (d : Account) (clock : ℕ) → IsWithin decl d → IsWithin decl (record d { clock = clock })
   passed d clock w = record { up = w.up; known = w.known; current = w.current; command = w.command }
 
-  granted : (d : Account) (site life clock : ℕ) (log : List Line) (want : Want) → IsWithin decl d
-      → IsWithin decl (accounting.granted d site life clock log want)
-  granted d site life clock log (Read read) w =
-      changed (record d { clock = max d.clock clock })
-      (λ (t : Current). accounting.with_read (accounting.lived t site life) read.object log) (λ t. refl)
-      (passed d (max d.clock clock) w)
-  granted d site life clock log (Append object view own) w =
-      changed (record d { clock = max d.clock clock }) (λ (t : Current). accounting.lived t site life) (λ t. refl)
-      (passed d (max d.clock clock) w)
-  granted d site life clock log Prepare w = w
-
-  promised : (d : Account) (clock : ℕ) (want : Want) → IsWithin decl d
-      → IsWithin decl (accounting.promised d clock want)
-  promised d clock (Read read) w = w
-  promised d clock (Append object view own) w = w
-  promised d clock Prepare w = passed d (max d.clock clock) w
-
-  told_by : (d : Account) (q : ClientRequest) (a : Answer) (to : ℕ)
-      → IsDeclaredDeed decl
-      (Takes (inputs.Got (record { number = 0; from = 0; to = 0; message = messages.Answer to a }))) → IsWithin decl d
-      → IsWithin decl (accounting.told_by d q (Some a))
-  told_by d q (answers.Granted grant) to plan w = granted d q.site grant.life grant.clock grant.log q.want w
-  told_by d q (answers.Clash holder inv event) to plan w = w
-  told_by d q (answers.Closed epoch) to plan w =
-      record {
-        up = w.up;
-        known = planned_max decl d.known epoch w.known plan;
-        current = w.current;
-        command = w.command;
-      }
-  told_by d q (answers.Behind epoch) to plan w = w
-  told_by d q (answers.Restarted life) to plan w = w
-  told_by d q answers.Stale to plan w = w
-  told_by d q answers.Fault to plan w = w
-  told_by d q (answers.Yes clock) to plan w = promised d clock q.want w
-  told_by d q (answers.Shut snapshot) to plan w = w
-  told_by d q answers.Installed to plan w = w
-  told_by d q (answers.Answered verdict) to plan w = w
-
   pub asked : (d : Account) (qs : List ClientRequest) → IsWithin decl d → IsWithin decl (record d { requests = qs })
   asked d qs w = record { up = w.up; known = w.known; current = w.current; command = w.command }
 
-  answered : (d : Account) (to : ℕ) (a : Answer)
-      → IsDeclaredDeed decl
-      (Takes (inputs.Got (record { number = 0; from = 0; to = 0; message = messages.Answer to a }))) → IsWithin decl d
+  answered : (d : Account) (to : ℕ) (a : Answer) → ArePlanned decl (closed_in a) → IsWithin decl d
       → IsWithin decl (accounting.counted d to (Some a))
   answered d to a plan w = by (find (accounting.is_open to) d.requests)
     where
       by : (o : Option ClientRequest) → IsWithin decl (accounting.counted_for d to (Some a) o)
       by None = w
       by (Some q) =
-          told_by (record d { requests = accounting.taken_for to (Some a) d.requests }) q a to plan
-          (asked d (accounting.taken_for to (Some a) d.requests) w)
+          told_cases (record d { requests = accounting.taken_for to (Some a) d.requests }) q (Some a) (IsWithin decl) v
+          (λ clock. passed _ clock v) (λ clock change same. changed _ change same (passed _ clock v))
+          (λ epoch is. record {
+            up = w.up;
+            known = planned_max decl d.known epoch w.known (subst (ArePlanned decl) is plan);
+            current = w.current;
+            command = w.command;
+          })
+        where
+          v : IsWithin decl (record d { requests = accounting.taken_for to (Some a) d.requests })
+          v = asked d (accounting.taken_for to (Some a) d.requests) w
 
   pub lost : (d : Account) (number : ℕ) → IsWithin decl d → IsWithin decl (accounting.counted d number None)
   lost d number w = by (find (accounting.is_open number) d.requests)
@@ -174,10 +143,9 @@ module _ (decl : Declaration) where
   pub heard : (d : Account) (m : Message)
       → IsDeclaredDeed decl (Takes (inputs.Got (record { number = 0; from = 0; to = 0; message = m })))
       → IsWithin decl d → IsWithin decl (accounting.account_heard d m)
-  heard d (messages.Request tx epoch life want) plan w = w
-  heard d (messages.Answer to a) plan w = answered d to a plan w
-  heard d (messages.Decision tx verdict) plan w = w
-  heard d (messages.Inquiry tx) plan w = w
-  heard d (messages.Ask tx) plan w = w
-  heard d (messages.Close epoch) plan w = w
-  heard d (messages.Install start) plan w = w
+  heard d m plan w = by (answer_in m) plan
+    where
+      by : (o : Option Answered) → ArePlanned decl (option_and_then (λ (a : Answered). closed_in a.answer) o)
+          → IsWithin decl (option_map_or (λ (a : Answered). accounting.counted d a.to (Some a.answer)) o d)
+      by None planned = w
+      by (Some a) planned = answered d a.to a.answer planned w

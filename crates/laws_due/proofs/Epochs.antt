@@ -1,6 +1,6 @@
 -- A site tells and writes of epochs with plans alone: it closes, installs and tells of those that it is asked for.
 use Rattle.std.proofs.Common.{ℕ, ◌==◌, nat_le, nat_lt, not, List, [], ◌∷◌, Option, Some, None, subst}
-use Rattle.std.specs.Prelude.{option_to_list}
+use Rattle.std.specs.Prelude.{option_to_list, MatchOption}
 use Rattle.std.specs.List.{AllByRecursion as Every, fold}
 use Rattle.qc_stamp.specs.declared.stamp.Stamp.{Stamp}
 use Rattle.qc_stamp.specs.declared.stamp.TxId.{TxId}
@@ -14,7 +14,6 @@ use Rattle.qc_lock.specs.Vocabulary.{append_clash, is_held, read_clash}
 use Rattle.qc_msg.specs.declared.message.Answer.{Answer}
 use Rattle.qc_msg.specs.declared.message.Answer.TheVariants as answers
 use Rattle.qc_msg.specs.declared.message.Message.{Message}
-use Rattle.qc_msg.specs.declared.message.Message.TheVariants as messages
 use Rattle.qc_msg.specs.declared.message.Outcome.{Outcome}
 use Rattle.qc_msg.specs.declared.message.Outcome.TheVariants.{Committed, Aborted, Active}
 use Rattle.qc_msg.specs.declared.message.Want.{Want}
@@ -26,6 +25,7 @@ use Rattle.qc_msg.specs.declared.step.Input.TheVariants as inputs
 use Rattle.qc_msg.specs.declared.turn.Posting.{Posting}
 use Rattle.qc_msg.specs.declared.turn.Turn.{Turn}
 use Rattle.qc_msg.specs.Vocabulary.{Deed, Falls, Rises, Sends, Takes, Tells, Writes, closed_in, quiet, sending}
+use Rattle.qc_msg.specs.Vocabulary.{Answered, answer_in, closing_in, installing_in, start_with}
 use Rattle.qc_site.specs.Vocabulary.{SiteMove, SiteState, appends_by, closed, closed_fault, fault_of, finishes, grants}
 use Rattle.qc_site.specs.Vocabulary.{is_prepared, joins, moved, names_declared, passed, prepare_length, prepared_of}
 use Rattle.qc_site.specs.Vocabulary.{prepares, promise_of, promises, reads_by, recording, relation_at, requested}
@@ -34,17 +34,17 @@ use Rattle.qc_site.proofs.RequestCases.{close_rows, install_rows}
 use Rattle.qc_site.proofs.Cases.{state_cases}
 use Rattle.laws_turns.proofs.StampsOwn.{by_two}
 use Rattle.laws_due.specs.Vocabulary.{ArePlanned, IsPlanned, IsRecordPlanned}
+use Rattle.laws_turns.proofs.SiteCases.{site_cases}
+use Rattle.qc_msg.specs.declared.payload.EpochStart.{EpochStart}
 
 -- an epoch that is told has a plan, and so has one that is to be closed for or installed
 
 abbrev pub TellsPlanned : Declaration → Message → Type 0
-TellsPlanned decl (messages.Request tx epoch life want) = Unit {0}
-TellsPlanned decl (messages.Answer to answer) = ArePlanned decl (closed_in answer)
-TellsPlanned decl (messages.Decision tx verdict) = Unit {0}
-TellsPlanned decl (messages.Inquiry tx) = Unit {0}
-TellsPlanned decl (messages.Ask tx) = Unit {0}
-TellsPlanned decl (messages.Close k) = IsPlanned decl k
-TellsPlanned decl (messages.Install start) = IsPlanned decl start.epoch
+TellsPlanned decl m =
+    MatchOption (answer_in m)
+    (MatchOption (closing_in m)
+    (MatchOption (installing_in m) (Unit {0}) (λ (start : EpochStart). IsPlanned decl start.epoch)) (IsPlanned decl))
+    (λ (a : Answered). ArePlanned decl (closed_in a.answer))
 
 abbrev pub TellPlanned : Declaration → List Posting → Type 0
 TellPlanned decl ps = Every (λ (p : Posting). TellsPlanned decl p.message) ps
@@ -140,7 +140,7 @@ grants_planned : (decl : Declaration) (s : SiteState) (from number : ℕ) (tx : 
     → Answers decl (grants decl s from number tx want)
 grants_planned decl s from number tx (Read read) =
     reads_planned decl s from number tx read.object read.inv
-        (read_clash (relation_at decl read.object) s.held tx read.object read.inv)
+    (read_clash (relation_at decl read.object) s.held tx read.object read.inv)
 grants_planned decl s from number tx (Append object view own) =
     appends_planned decl s from number tx view own (append_clash (relation_at decl object) s.held tx own)
 grants_planned decl s from number tx Prepare = prepares_planned decl s from number tx
@@ -162,22 +162,19 @@ decision_planned decl s tx Active = says_nothing decl
 
 site_planned : (decl : Declaration) (s : SiteState) (from number : ℕ) (m : Message) → TellsPlanned decl m
     → SitePlanned decl s → Answers decl (site_at decl s from number m)
-site_planned decl s from number (messages.Request tx epoch life want) told w =
-    by_two (Answers decl) (names_declared decl tx want) (requested decl s from number tx want (fault_of s epoch life))
-    (moved s quiet)
-    (requested_planned decl s from number tx want (fault_of s epoch life) (fault_planned decl s epoch life w))
-    (says_nothing decl)
-site_planned decl s from number (messages.Answer to answer) told w = says_nothing decl
-site_planned decl s from number (messages.Decision tx verdict) told w = decision_planned decl s tx verdict
-site_planned decl s from number (messages.Inquiry tx) told w = says_nothing decl
-site_planned decl s from number (messages.Ask tx) told w = says_nothing decl
-site_planned decl s from number (messages.Close k) told w =
-    close_rows (Answers decl) s from number k (says decl _ (tt, tt)) (says decl _ (w.epoch, tt)) (says decl _ (tt, tt))
-    (records_so decl from number (records.Close k) (shut_answer (closed s k)) told tt)
-site_planned decl s from number (messages.Install start) told w =
-    install_rows (Answers decl) s from number start.epoch start.clock start.lines (says decl _ (tt, tt))
-        (says decl _ (tt, tt))
-    (records_so decl from number (records.Install start) answers.Installed told tt)
+site_planned decl s from number m told w =
+    site_cases decl s from number (λ (x : Message) (move : SiteMove). TellsPlanned decl x → Answers decl move)
+    (λ x planned. says_nothing decl)
+    (λ q planned. by_two (Answers decl) (names_declared decl q.tx q.want)
+    (requested decl s from number q.tx q.want (fault_of s q.epoch q.life)) (moved s quiet)
+    (requested_planned decl s from number q.tx q.want (fault_of s q.epoch q.life)
+    (fault_planned decl s q.epoch q.life w)) (says_nothing decl))
+    (λ tx verdict planned. decision_planned decl s tx verdict)
+    (λ k planned. close_rows (Answers decl) s from number k (says decl _ (tt, tt)) (says decl _ (w.epoch, tt))
+    (says decl _ (tt, tt)) (records_so decl from number (records.Close k) (shut_answer (closed s k)) planned tt))
+    (λ k clock lines planned. install_rows (Answers decl) s from number k clock lines (says decl _ (tt, tt))
+    (says decl _ (tt, tt))
+    (records_so decl from number (records.Install (start_with k clock lines)) answers.Installed planned tt)) m told
 
 pub takes_planned : (decl : Declaration) (s : SiteState) (g : Input) → TakesPlanned decl g → SitePlanned decl s
     → Answers decl (site_takes decl s g)

@@ -1,7 +1,7 @@
 -- What holds of a client between two inputs holds after each of its turns.
 use Rattle.std.proofs.Common.{◌≡◌, ℕ, ◌+◌, Bool, true, false, cond, inl, inr, List, [], ◌∷◌, ◌++◌, map, Option, Some}
 use Rattle.std.proofs.Common.{None, is_some, refl, sym, ap, ◌∙◌, subst}
-use Rattle.std.specs.Prelude.{fold}
+use Rattle.std.specs.Prelude.{fold, MatchOption}
 use Rattle.std.specs.List.{AllByRecursion as Every}
 use Rattle.qc_list.proofs.Members.{every-from_In, every-weaker}
 use Rattle.qc_stamp.specs.declared.stamp.TxId.{TxId}
@@ -9,7 +9,7 @@ use Rattle.qc_decl.specs.declared.declaration.Declaration.{Declaration}
 use Rattle.qc_commit.specs.declared.desk.Voting.{Voting}
 use Rattle.qc_commit.specs.Conduct as desks
 use Rattle.qc_commit.specs.Vocabulary.{DeskMove}
-use Rattle.qc_commit.proofs.Moves.{IsMove, IsPrepare, IsPromiseWanted, prepare-moves, tx_of, vote-moves}
+use Rattle.qc_commit.proofs.Moves.{IsMove, IsPrepare, prepare-moves, tx_of, vote-moves}
 use Rattle.qc_front.specs.declared.doing.Doing.{Doing}
 use Rattle.qc_front.specs.declared.doing.Doing.TheVariants.{Idle, Reading, Appending}
 use Rattle.qc_front.specs.declared.front.Front.{Front}
@@ -23,7 +23,7 @@ use Rattle.qc_front.proofs.Keeping.{ended_holds, takes_holds}
 use Rattle.qc_front.proofs.Numbering.{sent_holds}
 use Rattle.qc_client.specs.declared.client.Client.{Client}
 use Rattle.qc_client.specs.Vocabulary.{ClientMove, answered, answered_by, by_desk, by_front, called, client_does}
-use Rattle.qc_client.specs.Vocabulary.{client_takes, commits, heard, moved, sent_one}
+use Rattle.qc_client.specs.Vocabulary.{client_takes, commits, heard, moved, sent_one, requested}
 use Rattle.qc_msg.specs.declared.begun.Begun.{Begun}
 use Rattle.qc_msg.specs.declared.call.Call.{Call}
 use Rattle.qc_msg.specs.declared.message.Answer.{Answer}
@@ -41,9 +41,12 @@ use Rattle.qc_msg.specs.declared.step.Input.{Input}
 use Rattle.qc_msg.specs.declared.step.Input.TheVariants as inputs
 use Rattle.qc_msg.specs.declared.turn.Posting.{Posting}
 use Rattle.qc_msg.specs.declared.turn.Turn.{Turn}
-use Rattle.qc_msg.specs.Vocabulary.{sends_of, tells_of, turn_deeds, writes_of}
+use Rattle.qc_msg.specs.Vocabulary.{sends_of, tells_of, turn_deeds, writes_of, Requested, request_in}
 use Rattle.qc_plan.specs.Vocabulary.{RoundState}
 use Rattle.laws_due.specs.Vocabulary.{Holds}
+use Rattle.laws_turns.proofs.ClientCases.{called_cases, heard_cases}
+use Rattle.laws_due.proofs.AskingCases.{prepare_cases}
+use Rattle.std.specs.Option.{option_map_or}
 
 -- a turn's record and reply are nothing to the client
 
@@ -72,29 +75,23 @@ NoPromise (Append object view own) = Unit {0}
 NoPromise Prepare = ⊥
 
 abbrev IsFrontal : Message → Type 0
-IsFrontal (messages.Request tx epoch life want) = NoPromise want
-IsFrontal (messages.Answer number answer) = Unit {0}
-IsFrontal (messages.Decision tx verdict) = Unit {0}
-IsFrontal (messages.Inquiry tx) = Unit {0}
-IsFrontal (messages.Ask tx) = Unit {0}
-IsFrontal (messages.Close epoch) = Unit {0}
-IsFrontal (messages.Install start) = Unit {0}
+IsFrontal m = MatchOption (request_in m) (Unit {0}) (λ (q : Requested). NoPromise q.want)
 
 one_frontal : (c : Client) (n to : ℕ) (m : Message) → IsFrontal m
     → sent_one c n to m ≡ record c { front = numbered_one c.front n to m }
-one_frontal c n to (messages.Request tx epoch life want) is = by want is
+one_frontal c n to m is = by (request_in m) is
   where
-    by : (w : Want) → NoPromise w → sent_one c n to (messages.Request tx epoch life w)
-        ≡ record c { front = numbered_one c.front n to (messages.Request tx epoch life w) }
-    by (Read read) ok = refl
-    by (Append object view own) ok = refl
-    by Prepare ok = absurd ok
-one_frontal c n to (messages.Answer number answer) is = refl
-one_frontal c n to (messages.Decision tx verdict) is = refl
-one_frontal c n to (messages.Inquiry tx) is = refl
-one_frontal c n to (messages.Ask tx) is = refl
-one_frontal c n to (messages.Close epoch) is = refl
-one_frontal c n to (messages.Install start) is = refl
+    at : (q : Requested) (w : Want) → NoPromise w
+        → requested c n to w ≡ record c { front = fronts.requested c.front n to }
+    at q (Read read) ok = refl
+    at q (Append object view own) ok = refl
+    at q Prepare ok = absurd ok
+
+    by : (o : Option Requested) → MatchOption o (Unit {0}) (λ (q : Requested). NoPromise q.want)
+        → option_map_or (λ (q : Requested). requested c n to q.want) o c
+        ≡ record c { front = option_map_or (λ (x : Requested). fronts.requested c.front n to) o c.front }
+    by None ok = refl
+    by (Some q) ok = at q q.want ok
 
 all_frontal : (decl : Declaration) (move : ClientMove) (n : ℕ) (ps : List Posting)
     → Every (λ (p : Posting). IsFrontal p.message) ps
@@ -110,13 +107,11 @@ requests_frontal b want ok [] = tt
 requests_frontal b want ok (s ∷ sites) = (ok s, requests_frontal b want ok sites)
 
 no_request : (m : Message) → is_request m ≡ false → IsFrontal m
-no_request (messages.Request tx epoch life want) is = let never : ⊥ = cc in absurd never
-no_request (messages.Answer number answer) is = tt
-no_request (messages.Decision tx verdict) is = tt
-no_request (messages.Inquiry tx) is = tt
-no_request (messages.Ask tx) is = tt
-no_request (messages.Close epoch) is = tt
-no_request (messages.Install start) is = tt
+no_request m is = by (request_in m) is
+  where
+    by : (o : Option Requested) → is_some o ≡ false → MatchOption o (Unit {0}) (λ (q : Requested). NoPromise q.want)
+    by None none = tt
+    by (Some q) some = absurd (let never : ⊥ = cc in never)
 
 nobody_frontal : (sends : List Posting) → AsksNobody sends → Every (λ (p : Posting). IsFrontal p.message) sends
 nobody_frontal sends none = every-from_In (λ (p : Posting). IsFrontal p.message) sends
@@ -124,7 +119,7 @@ nobody_frontal sends none = every-from_In (λ (p : Posting). IsFrontal p.message
 
 asks_frontal : (b : Begun) (want : ℕ → Want) (calls : List Call) (round : RoundState) (sends : List Posting)
     → ((site : ℕ) → NoPromise (want site)) → AsksAll b want calls round sends
-        → Every (λ (p : Posting). IsFrontal p.message) sends
+    → Every (λ (p : Posting). IsFrontal p.message) sends
 asks_frontal b want calls round sends ok (inl quiet) =
     subst (λ (ps : List Posting). Every (λ (p : Posting). IsFrontal p.message) ps) (sym quiet.0) tt
 asks_frontal b want calls round sends ok (inr asks) =
@@ -168,27 +163,20 @@ NoHalf (Append object view own) = ⊥
 NoHalf Prepare = Unit {0}
 
 abbrev IsDeskly : Message → Type 0
-IsDeskly (messages.Request tx epoch life want) = NoHalf want
-IsDeskly (messages.Answer number answer) = Unit {0}
-IsDeskly (messages.Decision tx verdict) = Unit {0}
-IsDeskly (messages.Inquiry tx) = Unit {0}
-IsDeskly (messages.Ask tx) = Unit {0}
-IsDeskly (messages.Close epoch) = Unit {0}
-IsDeskly (messages.Install start) = Unit {0}
+IsDeskly m = MatchOption (request_in m) (Unit {0}) (λ (q : Requested). NoHalf q.want)
 
 one_deskly : (c : Client) (n to : ℕ) (m : Message) → IsDeskly m → (sent_one c n to m).front ≡ c.front
-one_deskly c n to (messages.Request tx epoch life want) is = by want is
+one_deskly c n to m is = by (request_in m) is
   where
-    by : (w : Want) → NoHalf w → (sent_one c n to (messages.Request tx epoch life w)).front ≡ c.front
-    by (Read read) ok = absurd ok
-    by (Append object view own) ok = absurd ok
-    by Prepare ok = refl
-one_deskly c n to (messages.Answer number answer) is = refl
-one_deskly c n to (messages.Decision tx verdict) is = refl
-one_deskly c n to (messages.Inquiry tx) is = refl
-one_deskly c n to (messages.Ask tx) is = refl
-one_deskly c n to (messages.Close epoch) is = refl
-one_deskly c n to (messages.Install start) is = refl
+    at : (w : Want) → NoHalf w → (requested c n to w).front ≡ c.front
+    at (Read read) ok = absurd ok
+    at (Append object view own) ok = absurd ok
+    at Prepare ok = refl
+
+    by : (o : Option Requested) → MatchOption o (Unit {0}) (λ (q : Requested). NoHalf q.want)
+        → (option_map_or (λ (q : Requested). requested c n to q.want) o c).front ≡ c.front
+    by None ok = refl
+    by (Some q) ok = at q.want ok
 
 all_deskly : (decl : Declaration) (move : ClientMove) (n : ℕ) (ps : List Posting)
     → Every (λ (p : Posting). IsDeskly p.message) ps
@@ -198,18 +186,7 @@ all_deskly decl move n (p ∷ ps) all = all_deskly decl (record move { client = 
     (n + 1) ps all.1 ∙ one_deskly move.client n p.to p.message all.0
 
 deskly_prepare : (m : Message) → IsPrepare m → IsDeskly m
-deskly_prepare (messages.Request tx epoch life want) is = by want is
-  where
-    by : (w : Want) → IsPromiseWanted w → NoHalf w
-    by (Read read) ok = ok
-    by (Append object view own) ok = ok
-    by Prepare ok = tt
-deskly_prepare (messages.Answer number answer) is = tt
-deskly_prepare (messages.Decision tx verdict) is = tt
-deskly_prepare (messages.Inquiry tx) is = tt
-deskly_prepare (messages.Ask tx) is = tt
-deskly_prepare (messages.Close epoch) is = tt
-deskly_prepare (messages.Install start) is = tt
+deskly_prepare m is = prepare_cases IsDeskly (λ tx epoch life. tt) m is
 
 decisions_deskly : (b : Begun) (o : Outcome) (sites : List ℕ)
     → Every (λ (p : Posting). IsDeskly p.message)
@@ -277,21 +254,17 @@ commits_holds decl n c (Some t) h = by t.begun.doomed
 
 called_fits : (decl : Declaration) (n : ℕ) (c : Client) (command : Command) → Holds decl c
     → HoldsAfter decl n (called decl c command)
-called_fits decl n c commands.Begin h = command_holds decl n c commands.Begin h
-called_fits decl n c (commands.Do object inv) h = command_holds decl n c (commands.Do object inv) h
-called_fits decl n c commands.Commit h = commits_holds decl n c c.front.transaction h
-called_fits decl n c commands.Abort h = command_holds decl n c commands.Abort h
-called_fits decl n c (commands.Epoch k) h = command_holds decl n c (commands.Epoch k) h
+called_fits decl n c command h =
+    called_cases decl c (λ (x : Command) (move : ClientMove). HoldsAfter decl n move)
+    (λ x. command_holds decl n c x h) (commits_holds decl n c c.front.transaction h) command
 
 heard_fits : (decl : Declaration) (n : ℕ) (c : Client) (from number : ℕ) (m : Message) → Holds decl c
     → HoldsAfter decl n (heard decl c from number m)
-heard_fits decl n c from number (messages.Request tx epoch life want) h = h
-heard_fits decl n c from number (messages.Answer to answer) h = answered_holds decl n c to (Some answer) h
-heard_fits decl n c from number (messages.Decision tx verdict) h = h
-heard_fits decl n c from number (messages.Inquiry tx) h = record { front = h.front; numbered = h.numbered }
-heard_fits decl n c from number (messages.Ask tx) h = record { front = h.front; numbered = h.numbered }
-heard_fits decl n c from number (messages.Close epoch) h = h
-heard_fits decl n c from number (messages.Install start) h = h
+heard_fits decl n c from number m h =
+    heard_cases decl c from number (λ (x : Message) (move : ClientMove). HoldsAfter decl n move) (λ x none. h)
+    (λ to answer. answered_holds decl n c to (Some answer) h)
+    (λ tx. record { front = h.front; numbered = h.numbered })
+    (λ tx. record { front = h.front; numbered = h.numbered }) m
 
 pub takes_fit : (decl : Declaration) (n : ℕ) (c : Client) (g : Input) → Holds decl c
     → HoldsAfter decl n (client_takes decl c g)

@@ -1,7 +1,7 @@
 -- What is taken while a `do` runs: the first thing for an open request counts, all else changes nothing.
 use Rattle.std.proofs.Common.{[], ◌≡◌, ℕ, ◌==◌, ◌&&◌, Bool, true, false, cond, List, ◌∷◌, filter, max, Option, Some}
 use Rattle.std.proofs.Common.{None, option_map, refl, sym, ap, ◌∙◌, subst, arith}
-use Rattle.std.specs.Prelude.{is_none}
+use Rattle.std.specs.Prelude.{is_none, option_and_then}
 use Rattle.std.specs.List.{find, AllByRecursion as Every}
 use Rattle.qc_list.proofs.Members.{every-In}
 use Rattle.qc_decl.specs.declared.declaration.Declaration.{Declaration}
@@ -14,7 +14,7 @@ use Rattle.qc_commit.specs.declared.desk.Desk.{Desk}
 use Rattle.qc_front.specs.declared.doing.Doing.TheVariants.{Appending}
 use Rattle.qc_front.specs.declared.front.Front.{Front}
 use Rattle.qc_front.specs.declared.transaction.Transaction.{Transaction}
-use Rattle.qc_front.specs.Vocabulary.{append_counts, appending_takes, learns, takes}
+use Rattle.qc_front.specs.Vocabulary.{append_counts, appending_takes, learns, takes, lived as front_lived}
 use Rattle.qc_front.specs.Rounds as fronts
 use Rattle.qc_client.specs.declared.client.Client.{Client}
 use Rattle.qc_client.specs.Vocabulary.{by_front}
@@ -23,17 +23,18 @@ use Rattle.qc_msg.specs.declared.message.Answer.{Answer}
 use Rattle.qc_msg.specs.declared.message.Answer.TheVariants as answers
 use Rattle.qc_msg.specs.declared.message.Want.{Want}
 use Rattle.qc_msg.specs.declared.message.Want.TheVariants.{Read, Append, Prepare}
-use Rattle.qc_msg.specs.Vocabulary.{without_call}
-use Rattle.qc_msg.specs.Vocabulary.{grant_with}
+use Rattle.qc_msg.specs.Vocabulary.{without_call, grant_with, closed_in, granted_in, promised_in}
 use Rattle.qc_promise.specs.Vocabulary.{Account, ClientRequest, Current, answer_of, append_row, counted, counted_for}
-use Rattle.qc_promise.specs.Vocabulary.{granted, is_append, is_open, is_read, lived, promised, standing_of, taken_for}
-use Rattle.qc_promise.specs.Vocabulary.{told_by}
+use Rattle.qc_promise.specs.Vocabulary.{is_append, is_open, is_read, lived, standing_of, taken_for, told_by}
 use Rattle.laws_due.specs.Vocabulary.{AreApart, Goes, IsOpenIn, calls_in, front_of, transaction_of}
 use Rattle.laws_due.proofs.DoRows.{Runs, run}
 use Rattle.laws_due.proofs.DoAppends.{appends_go, appends_tie, row_is}
 use Rattle.laws_due.proofs.Halves.{round_at, round_from, round_taken, waiting_verdict}
 use Rattle.laws_due.proofs.OpenRequests.{IsFound, calls_taken, every_taken, find_call, found, numbers_open, sites_in}
 use Rattle.laws_due.proofs.Turns.{desk_kept, still_goes}
+use Rattle.laws_due.proofs.TakenCases.{learned_of, taken_cases, told_of}
+use Rattle.std.specs.Option.{option_map_or}
+use Rattle.qc_msg.specs.declared.payload.Grant.{Grant}
 
 -- Appends
 
@@ -152,7 +153,7 @@ module _ (decl : Declaration) (number : ℕ) (d : Account) (desk : Desk) (t : Cu
       (taken_for n (Some (answers.Granted (grant_with life clock log))) qs))
       (by_front ahere
       (append_counts decl (learns anow (Some (answers.Granted (grant_with life clock log)))) ax object inv event
-          (calls_in qs)
+      (calls_in qs)
       around n q.site (Some (answers.Granted (grant_with life clock log)))))
   agrants n life clock log q is =
       aon_with (record d { clock = max d.clock clock }) (lived t q.site life) kept chosen (λ hs. refl) (λ rs. refl) n
@@ -169,38 +170,31 @@ module _ (decl : Declaration) (number : ℕ) (d : Account) (desk : Desk) (t : Cu
                 desk_kept d (record d { clock = max d.clock clock }) desk k.desk_is refl (omega arith) (omega arith);
           }
 
-  acounts_go : (n : ℕ) (q : ClientRequest) → find (is_open n) qs ≡ Some q → (w : Want) → is_append w ≡ true → q.want ≡ w
+  acounts_go : (n : ℕ) (q : ClientRequest) → find (is_open n) qs ≡ Some q → (w : Want) → is_append w ≡ true
+      → q.want ≡ w
       → (answer : Option Answer)
       → Goes decl number (told_by (run d t object inv (taken_for n answer qs)) q answer)
       (by_front ahere
       (append_counts decl (learns anow answer) ax object inv event (calls_in qs) around n q.site answer))
   acounts_go n q is (Read read) half want answer = absurd (let never : ⊥ = cc in never)
   acounts_go n q is Prepare half want answer = absurd (let never : ⊥ = cc in never)
-  acounts_go n q is (Append o v own) half want None = astays n None q is
-  acounts_go n q is (Append o v own) half want (Some (answers.Granted grant)) =
-      subst (λ (w : Want). Goes decl number (granted (run d t object inv (taken_for n (Some (answers.Granted grant)) qs)) q.site grant.life grant.clock grant.log w)
-      (by_front ahere (append_counts decl (learns anow (Some (answers.Granted grant))) ax object inv event (calls_in qs) around n q.site (Some (answers.Granted grant))))) (sym want) (agrants n grant.life grant.clock grant.log q is)
-  acounts_go n q is (Append o v own) half want (Some (answers.Clash holder i ev)) =
-      astays n (Some (answers.Clash holder i ev)) q is
-  acounts_go n q is (Append o v own) half want (Some (answers.Closed epoch)) = acloses n epoch q is
-  acounts_go n q is (Append o v own) half want (Some (answers.Behind epoch)) =
-      astays n (Some (answers.Behind epoch)) q is
-  acounts_go n q is (Append o v own) half want (Some (answers.Restarted life)) =
-      astays n (Some (answers.Restarted life)) q is
-  acounts_go n q is (Append o v own) half want (Some answers.Stale) = astays n (Some answers.Stale) q is
-  acounts_go n q is (Append o v own) half want (Some answers.Fault) = astays n (Some answers.Fault) q is
-  acounts_go n q is (Append o v own) half want (Some (answers.Yes clock)) =
-      subst (λ (w : Want). Goes decl number
-      (promised (run d t object inv (taken_for n (Some (answers.Yes clock)) qs)) clock w)
+  acounts_go n q is (Append o v own) half want answer =
+      subst
+      (λ (w : Want). Goes decl number
+      (told_of (run d t object inv (taken_for n answer qs)) q.site w (option_and_then granted_in answer)
+      (option_and_then closed_in answer) (option_and_then promised_in answer))
       (by_front ahere
-      (append_counts decl (learns anow (Some (answers.Yes clock))) ax object inv event (calls_in qs) around n
-      q.site (Some (answers.Yes clock)))))
-      (sym want) (astays n (Some (answers.Yes clock)) q is)
-  acounts_go n q is (Append o v own) half want (Some (answers.Shut snapshot)) =
-      astays n (Some (answers.Shut snapshot)) q is
-  acounts_go n q is (Append o v own) half want (Some answers.Installed) = astays n (Some answers.Installed) q is
-  acounts_go n q is (Append o v own) half want (Some (answers.Answered verdict)) =
-      astays n (Some (answers.Answered verdict)) q is
+      (append_counts decl (learns anow answer) ax object inv event (calls_in qs) around n q.site answer)))
+      (sym want)
+      (taken_cases
+      (λ (a : Option Answer) (g : Option Grant) (c : Option ℕ) (y : Option ℕ). Goes decl number
+      (told_of (run d t object inv (taken_for n a qs)) q.site (Append o v own) g c y)
+      (by_front ahere
+      (fronts.appends decl (learned_of anow g c)
+      (option_map_or (λ (z : Grant). front_lived ax q.site z.life) g ax) object inv event
+      (without_call (calls_in qs) n) (note around q.site (standing_of a)))))
+      (λ a. astays n a q is) (λ g. agrants n g.life g.clock g.log q is) (λ epoch. acloses n epoch q is)
+      (λ clock. astays n (Some (answers.Yes clock)) q is) answer)
 
   pub appending_goes : (n : ℕ) (answer : Option Answer)
       → Goes decl number (counted (run d t object inv qs) n answer) (by_front ahere (takes decl anow n answer))

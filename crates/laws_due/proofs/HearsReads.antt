@@ -6,13 +6,14 @@ use Rattle.qc_list.proofs.Members.{every-In, every-weaker}
 use Rattle.qc_decl.specs.declared.declaration.Declaration.{Declaration}
 use Rattle.qc_decl.specs.Vocabulary.{read_need_of}
 use Rattle.qc_entry.specs.declared.line.Line.{Line}
-use Rattle.qc_plan.specs.Vocabulary.{RoundState, all_noted, note, verdict}
+use Rattle.qc_plan.specs.Vocabulary.{RoundState, all_noted, note}
 use Rattle.qc_view.specs.declared.view.View.{View}
 use Rattle.qc_commit.specs.declared.desk.Desk.{Desk}
 use Rattle.qc_front.specs.declared.doing.Doing.TheVariants.{Reading}
 use Rattle.qc_front.specs.declared.front.Front.{Front}
 use Rattle.qc_front.specs.declared.transaction.Transaction.{Transaction}
 use Rattle.qc_front.specs.Vocabulary.{RecordsHold, learns, read_counts, read_with, reading_takes, takes, with_granted}
+use Rattle.qc_front.specs.Vocabulary.{lived as front_lived}
 use Rattle.qc_front.specs.Rounds as fronts
 use Rattle.qc_front.proofs.Recording.{read_recorded}
 use Rattle.qc_client.specs.declared.client.Client.{Client}
@@ -22,10 +23,9 @@ use Rattle.qc_msg.specs.declared.message.Answer.{Answer}
 use Rattle.qc_msg.specs.declared.message.Answer.TheVariants as answers
 use Rattle.qc_msg.specs.declared.message.Want.{Want}
 use Rattle.qc_msg.specs.declared.message.Want.TheVariants.{Read}
-use Rattle.qc_msg.specs.Vocabulary.{without_call}
-use Rattle.qc_msg.specs.Vocabulary.{grant_with, read_of}
-use Rattle.qc_promise.specs.Vocabulary.{Account, ClientRequest, Current, counted, counted_for, granted, is_open}
-use Rattle.qc_promise.specs.Vocabulary.{is_read, lived, promised, read_row, standing_of, taken_for, told_by, with_read}
+use Rattle.qc_msg.specs.Vocabulary.{without_call, grant_with, read_of, closed_in, granted_in, promised_in}
+use Rattle.qc_promise.specs.Vocabulary.{Account, ClientRequest, Current, counted, counted_for, is_open, is_read, lived}
+use Rattle.qc_promise.specs.Vocabulary.{read_row, standing_of, taken_for, told_by, with_read}
 use Rattle.laws_due.specs.Vocabulary.{AreApart, Goes, IsBegun, IsOpenIn, calls_in, front_of, transaction_of}
 use Rattle.laws_due.proofs.DoRows.{Runs, due_do, run}
 use Rattle.laws_due.proofs.ReadRequests.{IsRead, open_read}
@@ -34,6 +34,10 @@ use Rattle.laws_due.proofs.Halves.{round_at, round_taken, waiting_verdict}
 use Rattle.laws_due.proofs.OpenRequests.{calls_taken, every_taken, find_call, found, numbers_open, sites_in}
 use Rattle.laws_due.proofs.Turns.{desk_kept, still_goes}
 use Rattle.laws_due.proofs.Views.{granted_begun}
+use Rattle.laws_due.proofs.TakenCases.{learned_of, taken_cases, told_of}
+use Rattle.std.specs.Option.{option_map_or}
+use Rattle.qc_msg.specs.declared.payload.Grant.{Grant}
+use Rattle.std.specs.Prelude.{option_and_then}
 
 module _ (decl : Declaration) (number : ℕ) (d : Account) (desk : Desk) (t : Current) (asked : List ℕ)
     (views : List View) (object inv : ℕ) (k : Runs decl d desk t views)
@@ -80,7 +84,9 @@ module _ (decl : Declaration) (number : ℕ) (d : Account) (desk : Desk) (t : Cu
           (every-weaker (IsRead object inv) (IsOpenIn is_read) (open_read object inv) qs all) sites numbers is
 
   stays : (n : ℕ) (answer : Option Answer) (q : ClientRequest) → find (is_open n) qs ≡ Some q
-      → Goes decl number (run d t object inv (taken_for n answer qs)) (by_front here (fronts.reads decl now x object inv (without_call (calls_in qs) n) (note round q.site (standing_of answer))))
+      → Goes decl number (run d t object inv (taken_for n answer qs))
+      (by_front here (fronts.reads decl now x object inv (without_call (calls_in qs) n)
+      (note round q.site (standing_of answer))))
   stays n answer q is = on_with d t asked views k (λ rs. refl) n answer q is
 
   closes : (n epoch : ℕ) (q : ClientRequest) → find (is_open n) qs ≡ Some q
@@ -112,15 +118,16 @@ module _ (decl : Declaration) (number : ℕ) (d : Account) (desk : Desk) (t : Cu
       (fronts.reads decl (learns now (Some (answers.Granted (grant_with life clock log))))
       (read_with x q.site object (Some (answers.Granted (grant_with life clock log)))) object inv
       (without_call (calls_in qs) n)
-          (note round q.site (standing_of (Some (answers.Granted (grant_with life clock log)))))))
+      (note round q.site (standing_of (Some (answers.Granted (grant_with life clock log)))))))
   grants n life clock log q is =
-      subst (λ (y : Transaction). Goes decl number (run e u object inv (taken_for n (Some (answers.Granted (grant_with life clock log))) qs))
+      subst (λ (y : Transaction). Goes decl number
+      (run e u object inv (taken_for n (Some (answers.Granted (grant_with life clock log))) qs))
       (by_front here
       (fronts.reads decl (learns now (Some (answers.Granted (grant_with life clock log)))) y object inv
       (without_call (calls_in qs) n)
-          (note round q.site (standing_of (Some (answers.Granted (grant_with life clock log))))))))
+      (note round q.site (standing_of (Some (answers.Granted (grant_with life clock log))))))))
       (sym b.is) (on_with e u y.begun.asked y.views kept (λ rs. refl) n
-          (Some (answers.Granted (grant_with life clock log))) q is)
+      (Some (answers.Granted (grant_with life clock log))) q is)
     where
       e : Account
       e = record d { clock = max d.clock clock }
@@ -151,26 +158,22 @@ module _ (decl : Declaration) (number : ℕ) (d : Account) (desk : Desk) (t : Cu
       → (answer : Option Answer)
       → Goes decl number (told_by (run d t object inv (taken_for n answer qs)) q answer)
       (by_front here (read_counts decl (learns now answer) x object inv (calls_in qs) round n q.site answer))
-  counts_go n q is want None = stays n None q is
-  counts_go n q is want (Some (answers.Granted grant)) =
-      subst (λ (w : Want). Goes decl number (granted (run d t object inv (taken_for n (Some (answers.Granted grant)) qs)) q.site grant.life grant.clock grant.log w)
-      (by_front here (read_counts decl (learns now (Some (answers.Granted grant))) x object inv (calls_in qs) round n q.site (Some (answers.Granted grant))))) (sym want) (grants n grant.life grant.clock grant.log q is)
-  counts_go n q is want (Some (answers.Clash holder i event)) = stays n (Some (answers.Clash holder i event)) q is
-  counts_go n q is want (Some (answers.Closed epoch)) = closes n epoch q is
-  counts_go n q is want (Some (answers.Behind epoch)) = stays n (Some (answers.Behind epoch)) q is
-  counts_go n q is want (Some (answers.Restarted life)) = stays n (Some (answers.Restarted life)) q is
-  counts_go n q is want (Some answers.Stale) = stays n (Some answers.Stale) q is
-  counts_go n q is want (Some answers.Fault) = stays n (Some answers.Fault) q is
-  counts_go n q is want (Some (answers.Yes clock)) =
-      subst (λ (w : Want). Goes decl number
-      (promised (run d t object inv (taken_for n (Some (answers.Yes clock)) qs)) clock w)
+  counts_go n q is want answer =
+      subst
+      (λ (w : Want). Goes decl number
+      (told_of (run d t object inv (taken_for n answer qs)) q.site w (option_and_then granted_in answer)
+      (option_and_then closed_in answer) (option_and_then promised_in answer))
+      (by_front here (read_counts decl (learns now answer) x object inv (calls_in qs) round n q.site answer)))
+      (sym want)
+      (taken_cases
+      (λ (o : Option Answer) (g : Option Grant) (c : Option ℕ) (y : Option ℕ). Goes decl number
+      (told_of (run d t object inv (taken_for n o qs)) q.site (Read (read_of object inv)) g c y)
       (by_front here
-      (read_counts decl (learns now (Some (answers.Yes clock))) x object inv (calls_in qs) round n q.site
-      (Some (answers.Yes clock)))))
-      (sym want) (stays n (Some (answers.Yes clock)) q is)
-  counts_go n q is want (Some (answers.Shut snapshot)) = stays n (Some (answers.Shut snapshot)) q is
-  counts_go n q is want (Some answers.Installed) = stays n (Some answers.Installed) q is
-  counts_go n q is want (Some (answers.Answered verdict)) = stays n (Some (answers.Answered verdict)) q is
+      (fronts.reads decl (learned_of now g c)
+      (option_map_or (λ (v : Grant). with_granted (front_lived x q.site v.life) object v.log) g x) object inv
+      (without_call (calls_in qs) n) (note round q.site (standing_of o)))))
+      (λ o. stays n o q is) (λ g. grants n g.life g.clock g.log q is) (λ epoch. closes n epoch q is)
+      (λ clock. stays n (Some (answers.Yes clock)) q is) answer)
 
   pub reading_goes : (n : ℕ) (answer : Option Answer)
       → Goes decl number (counted (run d t object inv qs) n answer) (by_front here (takes decl now n answer))

@@ -1,7 +1,7 @@
 -- Where records are kept, each record that rises names epochs with plans: nobody wrote another.
 use Rattle.std.proofs.Common.{◌≡◌, ◌≤◌, ℕ, ◌+◌, ◌==◌, Bool, true, false, cond, List, [], ◌∷◌, ◌++◌, filter, map, length}
 use Rattle.std.proofs.Common.{Option, Some, None, inl, inr, refl, sym, ap, ◌∙◌, subst, append_assoc}
-use Rattle.std.specs.Prelude.{fold, option_to_list}
+use Rattle.std.specs.Prelude.{fold, option_to_list, MatchOption}
 use Rattle.std.specs.List.{AllByRecursion as Every}
 use Rattle.laws_turns.proofs.SoundClients.{IsAskableDeed}
 use Rattle.laws_due.proofs.Commanded.{run_askable}
@@ -16,7 +16,6 @@ use Rattle.laws_turns.proofs.FallKept.{kept_rises}
 use Rattle.qc_msg.specs.declared.record.Record.{Record}
 use Rattle.qc_msg.specs.declared.reply.Reply.{Reply}
 use Rattle.qc_msg.specs.declared.step.Control.{Control}
-use Rattle.qc_msg.specs.declared.step.Control.TheVariants as controls
 use Rattle.qc_msg.specs.declared.step.Fall.TheVariants as causes
 use Rattle.qc_msg.specs.declared.step.Input.{Input}
 use Rattle.qc_msg.specs.declared.step.Input.TheVariants as inputs
@@ -27,6 +26,7 @@ use Rattle.qc_msg.specs.declared.turn.Appended.TheVariants.{Done, Failed, Stoppe
 use Rattle.qc_msg.specs.declared.turn.Posting.{Posting}
 use Rattle.qc_msg.specs.declared.turn.Turn.{Turn}
 use Rattle.qc_msg.specs.Vocabulary.{Entry, by, deeds, fell, mail, marked, own, posted_as, sents, step_of, told, wrote}
+use Rattle.qc_msg.specs.Vocabulary.{Deed, Fallen, fell_in, rose_in, wrote_in}
 use Rattle.qc_promise.specs.Vocabulary.{Due, IsGivenBack, Journal, Kept, journal_of, journal_with, no_journal}
 use Rattle.qc_promise.specs.Vocabulary.{pending_with}
 use Rattle.qc_script.specs.Vocabulary.{RunsWithFalls, begins, control, controller_step, damaged, falls, phase, posts}
@@ -39,42 +39,28 @@ use Rattle.qc_mailbox.proofs.Keeping.{same_mail}
 use Rattle.laws_due.proofs.AllDue.{runs_due}
 use Rattle.laws_due.proofs.ActorsPlanned.{lawful_writes}
 use Rattle.laws_due.proofs.MailPlanned.{deeds_risen, rise_askable, run_planned}
+use Rattle.laws_turns.proofs.StepCases.{controller_cases, deed_cases}
+use Rattle.std.specs.Option.{option_map_or}
 
 module _ (decl : Declaration) where
   -- steps that put records of epochs with plans alone into a journal
 
   abbrev PutsPlanned : Step → Type 0
-  PutsPlanned (steps.Phase k) = Unit {0}
-  PutsPlanned (steps.Cut x y) = Unit {0}
-  PutsPlanned (steps.Heal x y) = Unit {0}
-  PutsPlanned (steps.Armed actor kind at) = Unit {0}
-  PutsPlanned (steps.Called command) = Unit {0}
-  PutsPlanned (steps.Got n) = Unit {0}
-  PutsPlanned (steps.Lost n) = Unit {0}
-  PutsPlanned (steps.Wrote written) = IsRecordPlanned decl written
-  PutsPlanned (steps.Sent n to message) = Unit {0}
-  PutsPlanned (steps.Told reply) = Unit {0}
-  PutsPlanned (steps.Fell cause pending) = Every (IsRecordPlanned decl) (option_to_list pending)
-  PutsPlanned (steps.Rose kept) = Every (IsRecordPlanned decl) kept
-  PutsPlanned (steps.Damaged offset) = Unit {0}
+  PutsPlanned step =
+      MatchOption (wrote_in step)
+      (MatchOption (fell_in step) (MatchOption (rose_in step) (Unit {0}) (Every (IsRecordPlanned decl)))
+      (λ (f : Fallen). Every (IsRecordPlanned decl) (option_to_list f.pending))) (IsRecordPlanned decl)
 
   abbrev AllPutPlanned : List Entry → Type 0
   AllPutPlanned h = Every (λ (e : Entry). PutsPlanned e.step) h
 
   rises_so : (step : Step) → PutsPlanned step → RisesPlanned decl step
-  rises_so (steps.Phase k) puts = tt
-  rises_so (steps.Cut x y) puts = tt
-  rises_so (steps.Heal x y) puts = tt
-  rises_so (steps.Armed actor kind at) puts = tt
-  rises_so (steps.Called command) puts = tt
-  rises_so (steps.Got n) puts = tt
-  rises_so (steps.Lost n) puts = tt
-  rises_so (steps.Wrote written) puts = tt
-  rises_so (steps.Sent n to message) puts = tt
-  rises_so (steps.Told reply) puts = tt
-  rises_so (steps.Fell cause pending) puts = tt
-  rises_so (steps.Rose kept) puts = puts
-  rises_so (steps.Damaged offset) puts = tt
+  rises_so step =
+      deed_cases [] (λ (s : Step) (ds : List Deed). PutsPlanned s → RisesPlanned decl s)
+      (λ s w m r puts. subst (λ (o : Option (List Record)). MatchOption o (Unit {0}) (Every (IsRecordPlanned decl)))
+      (sym r) tt)
+      (λ command puts. tt) (λ n puts. tt) (λ n puts. tt) (λ written puts. tt) (λ n to message puts. tt)
+      (λ reply puts. tt) (λ cause pending puts. tt) (λ records puts. puts) step
 
   all_rise : (h : List Entry) → AllPutPlanned h → AllRisePlanned decl h
   all_rise h puts = every-weaker (λ (e : Entry). PutsPlanned e.step) (λ (e : Entry). RisesPlanned decl e.step)
@@ -88,28 +74,28 @@ module _ (decl : Declaration) where
 
   step_puts : (j : Journal) (step : Step) → PutsPlanned step → IsPlannedJournal j
       → IsPlannedJournal (journal_with j step)
-  step_puts j (steps.Phase k) puts its = its
-  step_puts j (steps.Cut x y) puts its = its
-  step_puts j (steps.Heal x y) puts its = its
-  step_puts j (steps.Armed actor kind at) puts its = its
-  step_puts j (steps.Called command) puts its = its
-  step_puts j (steps.Got n) puts its = its
-  step_puts j (steps.Lost n) puts its = its
-  step_puts j (steps.Wrote written) puts its =
-      record {
-        records = both_all (IsRecordPlanned decl) j.records (written ∷ []) its.records (puts, tt);
-        pending = its.pending;
-      }
-  step_puts j (steps.Sent n to message) puts its = its
-  step_puts j (steps.Told reply) puts its = its
-  step_puts j (steps.Fell cause pending) puts its = record { records = its.records; pending = at pending puts }
+  step_puts j step puts its = by (wrote_in step) (fell_in step) (rose_in step) puts
     where
       at : (o : Option Record) → Every (IsRecordPlanned decl) (option_to_list o)
           → Every (IsRecordPlanned decl) (option_to_list (pending_with j.pending o))
       at None all = its.pending
       at (Some written) all = all
-  step_puts j (steps.Rose kept) puts its = record { records = puts; pending = tt }
-  step_puts j (steps.Damaged offset) puts its = its
+
+      by : (w : Option Record) (f : Option Fallen) (r : Option (List Record))
+          → MatchOption w
+          (MatchOption f (MatchOption r (Unit {0}) (Every (IsRecordPlanned decl)))
+          (λ (f : Fallen). Every (IsRecordPlanned decl) (option_to_list f.pending))) (IsRecordPlanned decl)
+          → IsPlannedJournal
+          (option_map_or (λ (written : Record). record j { records = j.records ++ written ∷ [] }) w
+          (option_map_or (λ (f : Fallen). record j { pending = pending_with j.pending f.pending }) f
+          (option_map_or (λ (records : List Record). record { records = records; pending = None }) r j)))
+      by None None None all = its
+      by None None (Some kept) all = record { records = all; pending = tt }
+      by None (Some f) r all = record { records = its.records; pending = at f.pending all }
+      by (Some written) f r all = record {
+        records = both_all (IsRecordPlanned decl) j.records (written ∷ []) its.records (all, tt);
+        pending = its.pending;
+      }
 
   journal_planned : (j : Journal) (ss : List Step) → Every PutsPlanned ss → IsPlannedJournal j
       → IsPlannedJournal (fold journal_with j ss)
@@ -173,13 +159,7 @@ module _ (decl : Declaration) where
   input_puts (inputs.Lost n) = tt
 
   line_puts : (line : Control) (step : Step) → controller_step line ≡ Some step → PutsPlanned step
-  line_puts (controls.Phase k) step is = absurd (let never : ⊥ = cc in never)
-  line_puts (controls.Cut x y) step is = subst PutsPlanned (let same : steps.Cut x y ≡ step = cc in same) tt
-  line_puts (controls.Heal x y) step is = subst PutsPlanned (let same : steps.Heal x y ≡ step = cc in same) tt
-  line_puts (controls.Armed r kind at) step is =
-      subst PutsPlanned (let same : steps.Armed r kind at ≡ step = cc in same) tt
-  line_puts (controls.Crash x) step is = absurd (let never : ⊥ = cc in never)
-  line_puts (controls.Restart x) step is = absurd (let never : ⊥ = cc in never)
+  line_puts line step is = controller_cases PutsPlanned (λ x y. tt) (λ x y. tt) (λ x. tt) line step is
 
 part_kept : (h k : List Entry) → Kept (h ++ k) → Kept h
 part_kept h k kept = λ before later e is. kept before (later ++ k) e

@@ -1,3 +1,12 @@
+pub mod InboxCases
+pub mod TakenCases
+pub mod AdminCounts
+pub mod AdminCloseTurns
+pub mod AdminAskTurns
+pub mod AdminInstallTurns
+pub mod AskingCases
+pub mod MailedCases
+pub mod AccountCases
 pub mod OpenRequests
 pub mod Requests
 pub mod Nexts

@@ -8,7 +8,6 @@ use Rattle.laws_turns.proofs.LivedMoves.{deeds-rise}
 use Rattle.laws_turns.specs.Vocabulary.{AsksDeclared}
 use Rattle.laws_turns.proofs.SoundClients.{IsAskableDeed}
 use Rattle.laws_due.proofs.Commanded.{run_askable}
-use Rattle.qc_core.specs.declared.actor.Actor.TheVariants as actor
 use Rattle.qc_decl.specs.Vocabulary.{controller}
 use Rattle.qc_decl.specs.declared.declaration.Declaration.{Declaration}
 use Rattle.qc_mailbox.proofs.Keeping.{same_mail}
@@ -16,13 +15,12 @@ use Rattle.laws_turns.proofs.Mailed.{both_all}
 use Rattle.qc_msg.specs.declared.message.Envelope.{Envelope}
 use Rattle.qc_msg.specs.declared.record.Record.{Record}
 use Rattle.qc_msg.specs.declared.step.Control.{Control}
-use Rattle.qc_msg.specs.declared.step.Control.TheVariants as controls
 use Rattle.qc_msg.specs.declared.step.Fall.TheVariants as causes
 use Rattle.qc_msg.specs.declared.step.Step.{Step}
 use Rattle.qc_msg.specs.declared.step.Step.TheVariants as steps
 use Rattle.qc_msg.specs.declared.turn.Turn.{Turn}
 use Rattle.qc_msg.specs.Vocabulary.{Entry, Rises, by, deed_at, deeds, envelope_of, first_epoch, heard, mail, marked}
-use Rattle.qc_msg.specs.Vocabulary.{posted_as, sends_as}
+use Rattle.qc_msg.specs.Vocabulary.{posted_as, sends_as, Deed}
 use Rattle.qc_msg.proofs.GrownMail.{mail-append, mail-taken}
 use Rattle.qc_msg.proofs.Growth.{mail-posted_as}
 use Rattle.qc_script.specs.Vocabulary.{RunsWithFalls, begins, control, controller_step, damaged, falls, phase, phase_of}
@@ -32,6 +30,7 @@ use Rattle.laws_due.specs.Vocabulary.{AllRisePlanned, IsPlanned, RisesPlanned}
 use Rattle.laws_due.proofs.Epochs.{TellPlanned, TellsPlanned}
 use Rattle.laws_due.proofs.PlannedMail.{IsMailPlanned, deeds_planned, envelopes_planned}
 use Rattle.laws_due.proofs.ActorsPlanned.{RisesOfPlanned, lawful_sends}
+use Rattle.laws_turns.proofs.StepCases.{controller_cases, deed_cases}
 
 -- the deeds of a history in which nobody rises with an epoch without a plan
 
@@ -41,19 +40,11 @@ heard_risen decl (Some e) = (tt, tt)
 
 step_risen : (decl : Declaration) (ms : List Envelope) (step : Step) → RisesPlanned decl step
     → Every (RisesOfPlanned decl) (deed_at ms step)
-step_risen decl ms (steps.Phase k) is = tt
-step_risen decl ms (steps.Cut x y) is = tt
-step_risen decl ms (steps.Heal x y) is = tt
-step_risen decl ms (steps.Armed actor kind at) is = tt
-step_risen decl ms (steps.Called command) is = (tt, tt)
-step_risen decl ms (steps.Got n) is = heard_risen decl (slice_get ms n)
-step_risen decl ms (steps.Lost n) is = (tt, tt)
-step_risen decl ms (steps.Wrote written) is = (tt, tt)
-step_risen decl ms (steps.Sent n to message) is = (tt, tt)
-step_risen decl ms (steps.Told reply) is = (tt, tt)
-step_risen decl ms (steps.Fell cause pending) is = (tt, tt)
-step_risen decl ms (steps.Rose kept) is = (is, tt)
-step_risen decl ms (steps.Damaged offset) is = tt
+step_risen decl ms step is =
+    deed_cases ms (λ (s : Step) (ds : List Deed). RisesPlanned decl s → Every (RisesOfPlanned decl) ds)
+    (λ s w m r planned. tt) (λ command planned. (tt, tt)) (λ n planned. heard_risen decl (slice_get ms n))
+    (λ n planned. (tt, tt)) (λ written planned. (tt, tt)) (λ n to message planned. (tt, tt))
+    (λ reply planned. (tt, tt)) (λ cause pending planned. (tt, tt)) (λ records planned. (planned, tt)) step is
 
 mine_risen : (decl : Declaration) (mine : Bool) (ms : List Envelope) (step : Step) → RisesPlanned decl step
     → Every (RisesOfPlanned decl) (cond mine (deed_at ms step) [])
@@ -93,21 +84,11 @@ module _ (decl : Declaration) (first : IsPlanned decl first_epoch) (script : Scr
 
   line_still : (a : ℕ) (line : Control) (step : Step) → controller_step line ≡ Some step → (h : List Entry)
       → IsMailPlanned decl (mail h) → IsMailPlanned decl (mail (h ++ marked a step ∷ []))
-  line_still a (controls.Phase k) step is h planned = absurd (let never : ⊥ = cc in never)
-  line_still a (controls.Cut x y) step is h planned =
-      let e : steps.Cut x y ≡ step = cc in
-      subst (λ (s : Step). IsMailPlanned decl (mail (h ++ marked a s ∷ []))) e
-      (still h (marked a (steps.Cut x y)) refl planned)
-  line_still a (controls.Heal x y) step is h planned =
-      let e : steps.Heal x y ≡ step = cc in
-      subst (λ (s : Step). IsMailPlanned decl (mail (h ++ marked a s ∷ []))) e
-      (still h (marked a (steps.Heal x y)) refl planned)
-  line_still a (controls.Armed r kind at) step is h planned =
-      let e : steps.Armed r kind at ≡ step = cc in
-      subst (λ (s : Step). IsMailPlanned decl (mail (h ++ marked a s ∷ []))) e
-      (still h (marked a (steps.Armed r kind at)) refl planned)
-  line_still a (controls.Crash x) step is h planned = absurd (let never : ⊥ = cc in never)
-  line_still a (controls.Restart x) step is h planned = absurd (let never : ⊥ = cc in never)
+  line_still a line step is h planned =
+      controller_cases (λ (s : Step). IsMailPlanned decl (mail (h ++ marked a s ∷ [])))
+      (λ x y. still h (marked a (steps.Cut x y)) refl planned)
+      (λ x y. still h (marked a (steps.Heal x y)) refl planned)
+      (λ x. still h (marked a (steps.Armed x.actor x.kind x.at)) refl planned) line step is
 
   posted_mail : (a n : ℕ) (turn : Turn) (h : List Entry) → TellPlanned decl (sends_as turn.append turn)
       → IsMailPlanned decl (mail h) → IsMailPlanned decl (mail h ++ mail (by a (posted_as turn.append n turn)))

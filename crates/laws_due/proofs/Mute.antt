@@ -1,7 +1,7 @@
 -- A site tells no reply and writes no commit record.
 use Rattle.std.proofs.Common.{◌≡◌, ℕ, ◌+◌, not, nat_le, Bool, true, false, cond, List, [], ◌∷◌, ◌++◌, Option, Some}
 use Rattle.std.proofs.Common.{None, refl, sym, subst}
-use Rattle.std.specs.Prelude.{fold}
+use Rattle.std.specs.Prelude.{fold, MatchOption}
 use Rattle.std.specs.List.{AllByRecursion as Every}
 use Rattle.qc_list.proofs.Members.{every-append}
 use Rattle.qc_stamp.specs.declared.stamp.TxId.{TxId}
@@ -21,29 +21,24 @@ use Rattle.qc_msg.specs.declared.message.Outcome.TheVariants as outcomes
 use Rattle.qc_msg.specs.declared.message.Want.{Want}
 use Rattle.qc_msg.specs.declared.message.Want.TheVariants.{Read, Append, Prepare}
 use Rattle.qc_msg.specs.declared.record.Record.{Record}
-use Rattle.qc_msg.specs.declared.record.Record.TheVariants as records
 use Rattle.qc_msg.specs.declared.reply.Reply.{Reply}
 use Rattle.qc_msg.specs.declared.step.Input.{Input}
 use Rattle.qc_msg.specs.declared.step.Input.TheVariants as inputs
 use Rattle.qc_msg.specs.declared.turn.Posting.{Posting}
 use Rattle.qc_msg.specs.declared.turn.Turn.{Turn}
 use Rattle.qc_msg.specs.Vocabulary.{Deed, Falls, Rises, Sends, Takes, Tells, Writes, quiet, sends_of, tells_of}
-use Rattle.qc_msg.specs.Vocabulary.{turn_deeds, writes_of}
+use Rattle.qc_msg.specs.Vocabulary.{turn_deeds, writes_of, commit_of}
 use Rattle.qc_site.specs.Vocabulary.{SiteMove, SiteState, answers, appends_by, fault_of, finishes, grants, is_prepared}
 use Rattle.qc_site.specs.Vocabulary.{joins, moved, names_declared, new_site, passed, prepare_length, prepared_of}
 use Rattle.qc_site.specs.Vocabulary.{prepares, promise_of, promised, reads_by, relation_at, requested, site_at}
 use Rattle.qc_site.specs.Vocabulary.{site_does, site_takes, votes}
 use Rattle.qc_site.proofs.RequestCases.{close_cases}
 use Rattle.qc_site.proofs.Cases.{install_cases}
+use Rattle.laws_turns.proofs.SiteCases.{site_cases}
+use Rattle.qc_entry.specs.declared.record.Commit.{Commit}
 
 abbrev pub NoCommit : Record → Type 0
-NoCommit records.Life = Unit {0}
-NoCommit (records.Prepare prepared) = Unit {0}
-NoCommit (records.Done tx clock) = Unit {0}
-NoCommit (records.Close epoch) = Unit {0}
-NoCommit (records.Install start) = Unit {0}
-NoCommit (records.Commit commit) = ⊥
-NoCommit (records.Decide start) = Unit {0}
+NoCommit r = MatchOption (commit_of r) (Unit {0}) (λ (c : Commit). ⊥)
 
 abbrev pub NoCommitIn : Option Record → Type 0
 NoCommitIn None = Unit {0}
@@ -80,7 +75,7 @@ grants_mute : (decl : Declaration) (s : SiteState) (from number : ℕ) (tx : TxI
     → IsMute (grants decl s from number tx want).turn
 grants_mute decl s from number tx (Read read) =
     reads_mute decl s from number tx read.object read.inv
-        (read_clash (relation_at decl read.object) s.held tx read.object read.inv)
+    (read_clash (relation_at decl read.object) s.held tx read.object read.inv)
 grants_mute decl s from number tx (Append object view own) = by (append_clash (relation_at decl object) s.held tx own)
   where
     by : (o : Option Conflict) → IsMute (appends_by decl s from number tx view own o).turn
@@ -112,17 +107,13 @@ finishes_mute s tx outcomes.Active = mute_quiet
 
 site_mute : (decl : Declaration) (s : SiteState) (from number : ℕ) (m : Message)
     → IsMute (site_at decl s from number m).turn
-site_mute decl s from number (messages.Request tx epoch life want) = request_mute decl s from number tx epoch life want
-site_mute decl s from number (messages.Answer to answer) = mute_quiet
-site_mute decl s from number (messages.Decision tx verdict) = finishes_mute s tx verdict
-site_mute decl s from number (messages.Inquiry tx) = mute_quiet
-site_mute decl s from number (messages.Ask tx) = mute_quiet
-site_mute decl s from number (messages.Close k) =
-    close_cases (λ (m : SiteMove). IsMute m.turn) s from number k (λ answer. record { told = refl; write = tt })
-    (λ near later. record { told = refl; write = tt })
-site_mute decl s from number (messages.Install start) =
-    install_cases (λ (m : SiteMove). IsMute m.turn) s from number start.epoch start.clock start.lines
-    (λ answer. record { told = refl; write = tt }) (λ later fits. record { told = refl; write = tt })
+site_mute decl s from number m =
+    site_cases decl s from number (λ (x : Message) (move : SiteMove). IsMute move.turn) (λ x. mute_quiet)
+    (λ q. request_mute decl s from number q.tx q.epoch q.life q.want) (finishes_mute s)
+    (λ k. close_cases (λ (m : SiteMove). IsMute m.turn) s from number k (λ answer. record { told = refl; write = tt })
+    (λ near later. record { told = refl; write = tt }))
+    (λ k clock lines. install_cases (λ (m : SiteMove). IsMute m.turn) s from number k clock lines
+    (λ answer. record { told = refl; write = tt }) (λ later fits. record { told = refl; write = tt })) m
 
 takes_mute : (decl : Declaration) (s : SiteState) (g : Input) → IsMute (site_takes decl s g).turn
 takes_mute decl s (inputs.Called command) = mute_quiet

@@ -11,11 +11,12 @@ use Rattle.laws_turns.specs.Vocabulary.{call_in, calls_of}
 use Rattle.qc_msg.specs.declared.message.Envelope.{Envelope}
 use Rattle.qc_msg.specs.declared.step.Step.{Step}
 use Rattle.qc_msg.specs.declared.step.Step.TheVariants as steps
-use Rattle.qc_msg.specs.Vocabulary.{Entry, deed_at, deeds, heard, mail}
+use Rattle.qc_msg.specs.Vocabulary.{Entry, deed_at, deeds, heard, mail, Deed, commanded_in}
 use Rattle.qc_msg.proofs.DeedsGrow.{deeds-append}
 use Rattle.qc_script.specs.Vocabulary.{inbox, phase_at, phase_of}
 use Rattle.qc_script.specs.declared.script.Script.{Script}
 use Rattle.laws_due.proofs.PlainSteps.{IsPlain, ArePlain, Leaves, same_left, left_then, step_left, inbox_then}
+use Rattle.laws_turns.proofs.StepCases.{deed_cases}
 
 -- entry by entry
 pub entries : (P : List Entry → Type 0) (Q : Entry → Type 0)
@@ -35,20 +36,21 @@ entries_left script a h k plain =
 
 -- the phase
 
-step_phase : (k : ℕ) (step : Step) → IsPlain step → phase_at k step ≡ k
-step_phase k (steps.Phase n) is = absurd is
-step_phase k (steps.Cut x y) is = refl
-step_phase k (steps.Heal x y) is = refl
-step_phase k (steps.Armed actor kind at) is = refl
-step_phase k (steps.Called command) is = absurd is
-step_phase k (steps.Got n) is = refl
-step_phase k (steps.Lost n) is = refl
-step_phase k (steps.Wrote written) is = refl
-step_phase k (steps.Sent n to message) is = refl
-step_phase k (steps.Told reply) is = refl
-step_phase k (steps.Fell cause pending) is = refl
-step_phase k (steps.Rose records) is = refl
-step_phase k (steps.Damaged offset) is = refl
+-- a plain step calls nothing
+plain_at : (step : Step) → IsPlain step → ((k : ℕ) → phase_at k step ≡ k) × (commanded_in step ≡ None)
+plain_at (steps.Phase n) is = absurd is
+plain_at (steps.Cut x y) is = (λ k. refl, refl)
+plain_at (steps.Heal x y) is = (λ k. refl, refl)
+plain_at (steps.Armed actor kind at) is = (λ k. refl, refl)
+plain_at (steps.Called command) is = absurd is
+plain_at (steps.Got n) is = (λ k. refl, refl)
+plain_at (steps.Lost n) is = (λ k. refl, refl)
+plain_at (steps.Wrote written) is = (λ k. refl, refl)
+plain_at (steps.Sent n to message) is = (λ k. refl, refl)
+plain_at (steps.Told reply) is = (λ k. refl, refl)
+plain_at (steps.Fell cause pending) is = (λ k. refl, refl)
+plain_at (steps.Rose records) is = (λ k. refl, refl)
+plain_at (steps.Damaged offset) is = (λ k. refl, refl)
 
 pub phase_then : (h : List Entry) (e : Entry) → phase_of (h ++ e ∷ []) ≡ phase_at (phase_of h) e.step
 phase_then h e = fold-append (λ (n : ℕ) (e : Entry). phase_at n e.step) 0 h (e ∷ [])
@@ -56,7 +58,7 @@ phase_then h e = fold-append (λ (n : ℕ) (e : Entry). phase_at n e.step) 0 h (
 pub entries_phase : (h k : List Entry) → ArePlain k → phase_of (h ++ k) ≡ phase_of h
 entries_phase h k plain =
     entries (λ (v : List Entry). phase_of v ≡ phase_of h) (λ (e : Entry). IsPlain e.step)
-    (λ v e is same. phase_then v e ∙ step_phase (phase_of v) e.step is ∙ same) h k plain refl
+    (λ v e is same. phase_then v e ∙ (plain_at e.step is).0 (phase_of v) ∙ same) h k plain refl
 
 -- what an actor called, and whether a command of it runs
 
@@ -67,19 +69,11 @@ heard_calls (Some e) = refl
 step_calls : (mine : Bool) (ms : List Envelope) (step : Step) → IsPlain step
     → filter_map call_in (cond mine (deed_at ms step) [] ++ []) ≡ []
 step_calls false ms step is = refl
-step_calls true ms (steps.Phase k) is = refl
-step_calls true ms (steps.Cut x y) is = refl
-step_calls true ms (steps.Heal x y) is = refl
-step_calls true ms (steps.Armed actor kind at) is = refl
-step_calls true ms (steps.Called command) is = absurd is
-step_calls true ms (steps.Got n) is = heard_calls (slice_get ms n)
-step_calls true ms (steps.Lost n) is = refl
-step_calls true ms (steps.Wrote written) is = refl
-step_calls true ms (steps.Sent n to message) is = refl
-step_calls true ms (steps.Told reply) is = refl
-step_calls true ms (steps.Fell cause pending) is = refl
-step_calls true ms (steps.Rose records) is = refl
-step_calls true ms (steps.Damaged offset) is = refl
+step_calls true ms step is =
+    deed_cases ms (λ (s : Step) (ds : List Deed). commanded_in s ≡ None → filter_map call_in (ds ++ []) ≡ [])
+    (λ s w m r none. refl) (λ command some. absurd (let never : ⊥ = cc in never))
+    (λ n none. heard_calls (slice_get ms n)) (λ n none. refl) (λ written none. refl) (λ n to message none. refl)
+    (λ reply none. refl) (λ cause pending none. refl) (λ records none. refl) step (plain_at step is).1
 
 pub deeds_then : (a : ℕ) (h : List Entry) (e : Entry)
     → deeds a [] (h ++ e ∷ []) ≡ deeds a [] h ++ (cond (e.actor == a) (deed_at (mail h) e.step) [] ++ [])
@@ -101,19 +95,11 @@ heard_idle (Some e) = refl
 step_idle : (mine : Bool) (ms : List Envelope) (step : Step) → IsPlain step
     → fold runs_at false (cond mine (deed_at ms step) [] ++ []) ≡ false
 step_idle false ms step is = refl
-step_idle true ms (steps.Phase k) is = refl
-step_idle true ms (steps.Cut x y) is = refl
-step_idle true ms (steps.Heal x y) is = refl
-step_idle true ms (steps.Armed actor kind at) is = refl
-step_idle true ms (steps.Called command) is = absurd is
-step_idle true ms (steps.Got n) is = heard_idle (slice_get ms n)
-step_idle true ms (steps.Lost n) is = refl
-step_idle true ms (steps.Wrote written) is = refl
-step_idle true ms (steps.Sent n to message) is = refl
-step_idle true ms (steps.Told reply) is = refl
-step_idle true ms (steps.Fell cause pending) is = refl
-step_idle true ms (steps.Rose records) is = refl
-step_idle true ms (steps.Damaged offset) is = refl
+step_idle true ms step is =
+    deed_cases ms (λ (s : Step) (ds : List Deed). commanded_in s ≡ None → fold runs_at false (ds ++ []) ≡ false)
+    (λ s w m r none. refl) (λ command some. absurd (let never : ⊥ = cc in never))
+    (λ n none. heard_idle (slice_get ms n)) (λ n none. refl) (λ written none. refl) (λ n to message none. refl)
+    (λ reply none. refl) (λ cause pending none. refl) (λ records none. refl) step (plain_at step is).1
 
 pub entries_idle : (a : ℕ) (h k : List Entry) → ArePlain k → is_running (deeds a [] h) ≡ false
     → is_running (deeds a [] (h ++ k)) ≡ false

@@ -1,17 +1,21 @@
 -- A plain round: nobody who is asked is noted as closed or clashing. Of the administrator's Closes each round is one.
 use Rattle.std.proofs.Common.{◌≡◌, ℕ, ◌==◌, nat_le, Bool, true, false, cond, List, [], ◌∷◌, ◌++◌, length, drop, Option}
 use Rattle.std.proofs.Common.{Some, None, refl, sym, ap, ◌∙◌, subst}
-use Rattle.std.specs.Prelude.{unwrap_or}
+use Rattle.std.specs.Prelude.{unwrap_or, option_and_then}
 use Rattle.std.specs.List.{AllByRecursion as Every}
 use Rattle.std.specs.Option.{option_or}
 use Rattle.qc_epoch.specs.Vocabulary.{standing_of}
 use Rattle.qc_msg.specs.declared.message.Answer.{Answer}
-use Rattle.qc_msg.specs.declared.message.Answer.TheVariants as answers
 use Rattle.qc_plan.specs.Vocabulary.{RoundState, all_noted, asking_all, clash_at, closed_at, first_clash, first_closed}
 use Rattle.qc_plan.specs.Vocabulary.{has_granted, note_in, refusal, settled, verdict, weight}
 use Rattle.qc_plan.specs.declared.standing.Asked.{Asked}
 use Rattle.qc_plan.specs.declared.standing.Verdict.{Verdict}
 use Rattle.qc_plan.specs.declared.standing.Verdict.TheVariants as verdicts
+use Rattle.laws_turns.proofs.ReadingCases.{mapped}
+use Rattle.qc_msg.specs.Vocabulary.{shut_in}
+use Rattle.qc_plan.specs.declared.standing.Standing.{Standing}
+use Rattle.qc_plan.specs.declared.standing.Standing.TheVariants as standings
+use Rattle.qc_msg.specs.declared.payload.Snapshot.{Snapshot}
 
 abbrev pub IsPlain : Asked → Type 0
 IsPlain a = (closed_at a.site a.standing ≡ None) × (clash_at a.site a.standing ≡ None)
@@ -21,18 +25,9 @@ ArePlain asked = Every IsPlain asked
 
 pub plain_standing : (site : ℕ) (answer : Option Answer)
     → IsPlain (record { site = site; standing = Some (standing_of answer) })
-plain_standing site None = (refl, refl)
-plain_standing site (Some (answers.Granted grant)) = (refl, refl)
-plain_standing site (Some (answers.Clash holder inv event)) = (refl, refl)
-plain_standing site (Some (answers.Closed epoch)) = (refl, refl)
-plain_standing site (Some (answers.Behind epoch)) = (refl, refl)
-plain_standing site (Some (answers.Restarted life)) = (refl, refl)
-plain_standing site (Some answers.Stale) = (refl, refl)
-plain_standing site (Some answers.Fault) = (refl, refl)
-plain_standing site (Some (answers.Yes clock)) = (refl, refl)
-plain_standing site (Some (answers.Shut snapshot)) = (refl, refl)
-plain_standing site (Some answers.Installed) = (refl, refl)
-plain_standing site (Some (answers.Answered verdict)) = (refl, refl)
+plain_standing site answer =
+    mapped (λ (s : Standing). IsPlain (record { site = site; standing = Some s })) (λ (x : Snapshot). standings.Granted)
+    standings.Missing (option_and_then shut_in answer) (λ x. (refl, refl)) (refl, refl)
 
 pub plain_noted : (site : ℕ) (answer : Option Answer) (asked : List Asked) → ArePlain asked
     → ArePlain (note_in site (standing_of answer) asked)

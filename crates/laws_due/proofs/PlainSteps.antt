@@ -1,30 +1,31 @@
 -- Steps that call nothing and begin no phase leave an inbox its commands, and bring it no control line.
 use Rattle.std.proofs.Common.{[], ◌≡◌, ℕ, ◌+◌, ◌==◌, ◌&&◌, Bool, true, false, if◌then◌else◌, List, ◌∷◌, ◌++◌, drop}
-use Rattle.std.proofs.Common.{Option, Some, None, refl, ap, ◌∙◌, subst}
+use Rattle.std.proofs.Common.{Option, Some, None, refl, ap, ◌∙◌}
 use Rattle.std.specs.Prelude.{set}
 use Rattle.std.specs.List.{AllByRecursion as Every}
 use Rattle.std.proofs.lemmas.List.Sums.{fold-append}
-use Rattle.qc_link.specs.Vocabulary.{with_cut, without_cut}
 use Rattle.qc_link.specs.declared.rule.Fate.{Fate}
 use Rattle.qc_msg.specs.declared.message.Envelope.{Envelope}
 use Rattle.qc_msg.specs.declared.message.Message.{Message}
-use Rattle.qc_msg.specs.declared.message.Message.TheVariants as messages
 use Rattle.qc_msg.specs.declared.record.Record.{Record}
 use Rattle.qc_msg.specs.declared.reply.Reply.{Reply}
 use Rattle.qc_msg.specs.declared.step.Control.{Control}
-use Rattle.qc_msg.specs.declared.step.Control.TheVariants as controls
 use Rattle.qc_msg.specs.declared.step.Step.{Step}
 use Rattle.qc_msg.specs.declared.step.Step.TheVariants as steps
 use Rattle.qc_msg.specs.declared.turn.Appended.{Appended}
 use Rattle.qc_msg.specs.declared.turn.Appended.TheVariants.{Done, Failed, Stopped}
 use Rattle.qc_msg.specs.declared.turn.Posting.{Posting}
 use Rattle.qc_msg.specs.declared.turn.Turn.{Turn}
-use Rattle.qc_msg.specs.Vocabulary.{Entry, by, fell, posted_as, sents, told, wrote}
+use Rattle.qc_msg.specs.Vocabulary.{Entry, by, fell, posted_as, sents, told, wrote, Answered, answer_in}
 use Rattle.qc_script.specs.Vocabulary.{Inbox, acting, actor_fell, answers_by, comes, comes_at_once, control_acted}
 use Rattle.qc_script.specs.Vocabulary.{controller_step, copy_taken, emptied, empty_inbox, goes, goes_with, has_request}
 use Rattle.qc_script.specs.Vocabulary.{inbox, inbox_at, is_by_line, is_request, is_up, loss_taken, opened, opened_by}
 use Rattle.qc_script.specs.Vocabulary.{reply_told, requests_to, requests_to_others, with_copies, with_lost}
+use Rattle.qc_script.specs.Vocabulary.{request_answered}
 use Rattle.qc_script.specs.declared.script.Script.{Script}
+use Rattle.laws_turns.proofs.StepCases.{controller_cases}
+use Rattle.laws_turns.proofs.ReadingCases.{mapped}
+use Rattle.laws_due.proofs.InboxCases.{inbox_cases}
 
 abbrev pub IsPlain : Step → Type 0
 IsPlain (steps.Phase k) = ⊥
@@ -72,12 +73,7 @@ post_plain a n Failed t =
 post_plain a n Stopped t = told_plain a t.failed_told (fell _ t.write) (tt, tt)
 
 pub line_plain : (line : Control) (step : Step) → controller_step line ≡ Some step → IsPlain step
-line_plain (controls.Phase k) step is = absurd (let never : ⊥ = cc in never)
-line_plain (controls.Cut x y) step is = subst IsPlain (let same : steps.Cut x y ≡ step = cc in same) tt
-line_plain (controls.Heal x y) step is = subst IsPlain (let same : steps.Heal x y ≡ step = cc in same) tt
-line_plain (controls.Armed r kind at) step is = subst IsPlain (let same : steps.Armed r kind at ≡ step = cc in same) tt
-line_plain (controls.Crash x) step is = absurd (let never : ⊥ = cc in never)
-line_plain (controls.Restart x) step is = absurd (let never : ⊥ = cc in never)
+line_plain line step is = controller_cases IsPlain (λ x y. tt) (λ x y. tt) (λ x. tt) line step is
 
 -- an inbox: its commands stay, and no control line comes
 
@@ -113,14 +109,10 @@ acted_left a i =
     (opened_left a less)
 
 answers_left : (i : Inbox) (m : Message) (f : Fate) → Leaves i (answers_by i m f)
-answers_left i (messages.Request tx epoch life want) f = same_left i i refl refl
-answers_left i (messages.Answer to answer) f =
-    left_if (has_request i.unanswered to) i _ i (same_left i _ refl refl) (same_left i i refl refl)
-answers_left i (messages.Decision tx verdict) f = same_left i i refl refl
-answers_left i (messages.Inquiry tx) f = same_left i i refl refl
-answers_left i (messages.Ask tx) f = same_left i i refl refl
-answers_left i (messages.Close epoch) f = same_left i i refl refl
-answers_left i (messages.Install start) f = same_left i i refl refl
+answers_left i m f =
+    mapped (Leaves i) (λ (a : Answered). request_answered i a.to f) i (answer_in m)
+    (λ a. left_if (has_request i.unanswered a.to) i _ i (same_left i _ refl refl) (same_left i i refl refl))
+    (same_left i i refl refl)
 
 goes_left : (i : Inbox) (e : Envelope) (f : Fate) → Leaves i (goes_with i e f)
 goes_left i e f =
@@ -158,33 +150,24 @@ fell_left a i r =
 
 pub step_left : (script : Script) (a : ℕ) (i : Inbox) (b : ℕ) (step : Step) → IsPlain step
     → Leaves i (inbox_at script a i b step)
-step_left script a i b (steps.Phase k) is = absurd is
-step_left script a i b (steps.Cut x y) is =
-    left_then i (record i { cuts = with_cut i.cuts x y }) _ (same_left i _ refl refl)
-    (acted_left a (record i { cuts = with_cut i.cuts x y }))
-step_left script a i b (steps.Heal x y) is =
-    left_then i (record i { cuts = without_cut i.cuts x y }) _ (same_left i _ refl refl)
-    (acted_left a (record i { cuts = without_cut i.cuts x y }))
-step_left script a i b (steps.Armed actor kind at) is = acted_left a i
-step_left script a i b (steps.Called command) is = absurd is
-step_left script a i b (steps.Got n) is =
-    left_if (b == a) i (copy_taken i) i (same_left i (copy_taken i) refl refl) (same_left i i refl refl)
-step_left script a i b (steps.Lost n) is =
-    left_if (b == a) i (loss_taken i) i (same_left i (loss_taken i) refl refl) (same_left i i refl refl)
-step_left script a i b (steps.Wrote written) is =
-    left_if (is_up i.up b) i i _ (same_left i i refl refl)
+step_left script a i b step is =
+    inbox_cases script a i b (λ (s : Step) (j : Inbox). IsPlain s → Leaves i j) (λ k never. absurd never)
+    (λ s cuts plain. left_then i (record i { cuts = cuts }) _ (same_left i _ refl refl)
+    (acted_left a (record i { cuts = cuts })))
+    (λ command never. absurd never)
+    (λ n plain. left_if (b == a) i (copy_taken i) i (same_left i (copy_taken i) refl refl) (same_left i i refl refl))
+    (λ n plain. left_if (b == a) i (loss_taken i) i (same_left i (loss_taken i) refl refl) (same_left i i refl refl))
+    (λ written plain. left_if (is_up i.up b) i i _ (same_left i i refl refl)
     (left_then i (record i { up = set i.up b true }) _ (same_left i _ refl refl)
-    (acted_left a (record i { up = set i.up b true })))
-step_left script a i b (steps.Sent n to message) is =
-    sent_left script a i (record { number = n; from = b; to = to; message = message })
-step_left script a i b (steps.Told reply) is =
-    left_if (b == a) i (reply_told i) i (same_left i (reply_told i) refl refl) (same_left i i refl refl)
-step_left script a i b (steps.Fell cause pending) is =
-    left_if (is_by_line (is_up i.up b) cause) i (control_acted a (actor_fell a i b)) (actor_fell a i b)
+    (acted_left a (record i { up = set i.up b true }))))
+    (λ n to message plain. sent_left script a i (record { number = n; from = b; to = to; message = message }))
+    (λ reply plain. left_if (b == a) i (reply_told i) i (same_left i (reply_told i) refl refl)
+    (same_left i i refl refl))
+    (λ cause pending plain. left_if (is_by_line (is_up i.up b) cause) i (control_acted a (actor_fell a i b))
+    (actor_fell a i b)
     (left_then i (actor_fell a i b) (control_acted a (actor_fell a i b)) (fell_left a i b)
-    (acted_left a (actor_fell a i b))) (fell_left a i b)
-step_left script a i b (steps.Rose records) is = same_left i i refl refl
-step_left script a i b (steps.Damaged offset) is = acted_left a i
+    (acted_left a (actor_fell a i b))) (fell_left a i b))
+    (λ records plain. same_left i i refl refl) step is
 
 pub inbox_then : (script : Script) (a : ℕ) (h : List Entry) (e : Entry)
     → inbox script a (h ++ e ∷ []) ≡ inbox_at script a (inbox script a h) e.actor e.step

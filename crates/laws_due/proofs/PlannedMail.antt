@@ -24,6 +24,7 @@ use Rattle.laws_turns.proofs.Numbered.{control_silent, mail-silent, phase_silent
 use Rattle.laws_due.proofs.Epochs.{DeedPlanned, TellPlanned, TellsPlanned, folded_planned, says_nothing}
 use Rattle.laws_due.proofs.ClientEpochs.{client_planned}
 use Rattle.laws_due.specs.Vocabulary.{IsPlanned}
+use Rattle.laws_turns.proofs.StepCases.{deed_cases}
 
 -- the mail, and what an actor takes of it
 
@@ -42,19 +43,10 @@ got_planned decl ms n (Some e) first is = (all_at (λ (x : Envelope). TellsPlann
 
 step_planned : (decl : Declaration) (ms : List Envelope) (step : Step) → IsMailPlanned decl ms
     → Every (DeedPlanned decl) (deed_at ms step)
-step_planned decl ms (steps.Phase k) first = tt
-step_planned decl ms (steps.Cut x y) first = tt
-step_planned decl ms (steps.Heal x y) first = tt
-step_planned decl ms (steps.Armed actor kind at) first = tt
-step_planned decl ms (steps.Called command) first = (tt, tt)
-step_planned decl ms (steps.Got n) first = got_planned decl ms n (slice_get ms n) first refl
-step_planned decl ms (steps.Lost n) first = (tt, tt)
-step_planned decl ms (steps.Wrote written) first = (tt, tt)
-step_planned decl ms (steps.Sent n to message) first = (tt, tt)
-step_planned decl ms (steps.Told reply) first = (tt, tt)
-step_planned decl ms (steps.Fell cause pending) first = (tt, tt)
-step_planned decl ms (steps.Rose kept) first = (tt, tt)
-step_planned decl ms (steps.Damaged offset) first = tt
+step_planned decl ms step first =
+    deed_cases ms (λ (s : Step) (ds : List Deed). Every (DeedPlanned decl) ds) (λ s w m r. tt) (λ command. (tt, tt))
+    (λ n. got_planned decl ms n (slice_get ms n) first refl) (λ n. (tt, tt)) (λ written. (tt, tt))
+    (λ n to message. (tt, tt)) (λ reply. (tt, tt)) (λ cause pending. (tt, tt)) (λ records. (tt, tt)) step
 
 mine_planned : (decl : Declaration) (mine : Bool) (ms : List Envelope) (step : Step) → IsMailPlanned decl ms
     → Every (DeedPlanned decl) (cond mine (deed_at ms step) [])

@@ -22,7 +22,6 @@ use Rattle.laws_turns.proofs.LivedMoves.{deeds-rise}
 use Rattle.qc_msg.specs.declared.message.Envelope.{Envelope}
 use Rattle.qc_msg.specs.declared.record.Record.{Record}
 use Rattle.qc_msg.specs.declared.step.Control.{Control}
-use Rattle.qc_msg.specs.declared.step.Control.TheVariants as controls
 use Rattle.qc_msg.specs.declared.step.Fall.TheVariants as causes
 use Rattle.qc_msg.specs.declared.step.Input.{Input}
 use Rattle.qc_msg.specs.declared.step.Input.TheVariants as inputs
@@ -40,6 +39,7 @@ use Rattle.qc_script.specs.Vocabulary.{RunsWithFalls, begins, control, controlle
 use Rattle.qc_script.specs.Vocabulary.{posts, rises, takes, unopened}
 use Rattle.qc_script.specs.declared.script.Script.{Script}
 use Rattle.laws_due.proofs.Places.{client_below, client_past}
+use Rattle.laws_turns.proofs.StepCases.{controller_cases}
 
 module _ (decl : Declaration) (accepted : IsAccepted decl) (a : ℕ) (client : is_client decl a ≡ true) where
   -- the client over its deeds
@@ -169,16 +169,9 @@ module _ (decl : Declaration) (accepted : IsAccepted decl) (a : ℕ) (client : i
 
     line_proper : (b : ℕ) (line : Control) (step : Step) → controller_step line ≡ Some step
         → AreOwnProper (mail (marked b step ∷ []))
-    line_proper b (controls.Phase k) step is = absurd (let never : ⊥ = cc in never)
-    line_proper b (controls.Cut x y) step is =
-        subst (λ (s : Step). AreOwnProper (mail (marked b s ∷ []))) (let same : steps.Cut x y ≡ step = cc in same) tt
-    line_proper b (controls.Heal x y) step is =
-        subst (λ (s : Step). AreOwnProper (mail (marked b s ∷ []))) (let same : steps.Heal x y ≡ step = cc in same) tt
-    line_proper b (controls.Armed r kind place) step is =
-        subst (λ (s : Step). AreOwnProper (mail (marked b s ∷ [])))
-        (let same : steps.Armed r kind place ≡ step = cc in same) tt
-    line_proper b (controls.Crash x) step is = absurd (let never : ⊥ = cc in never)
-    line_proper b (controls.Restart x) step is = absurd (let never : ⊥ = cc in never)
+    line_proper b line step is =
+        controller_cases (λ (s : Step). AreOwnProper (mail (marked b s ∷ []))) (λ x y. tt) (λ x y. tt) (λ x. tt) line
+        step is
 
     pub run_proper : (h : List Entry) (open_inputs : List Bool) → IsRun h open_inputs → AreOwnProper (mail h)
     run_proper h open_inputs begins = tt

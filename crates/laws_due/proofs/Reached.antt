@@ -40,6 +40,7 @@ use Rattle.laws_due.proofs.Somewhere.{AreSomewhere, IsSomewhere, MayAllFollow, M
 use Rattle.laws_due.proofs.SiteTurns.{fell_last, step_on, took_up, turn_ends}
 use Rattle.laws_due.proofs.Taken.{in_numbers, of_number, RepliesTo, IsReplied, AreReplied, moved_to, taken_stays}
 use Rattle.laws_due.proofs.Taken.{take_kept}
+use Rattle.laws_turns.proofs.StepCases.{controller_cases}
 
 module _ (decl : Declaration) (script : Script) (fits : ℕ → List Record → Type 0) (few : actors decl ≤ most_actors)
     (a : ℕ) (a_low : a < most_actors) (are_replied : AreReplied decl script fits a) where
@@ -96,7 +97,8 @@ module _ (decl : Declaration) (script : Script) (fits : ℕ → List Record → 
           (in_numbers r _
           (subst (λ (i : Inbox). In r i.unanswered)
           (fold-append (step_on script a b not_a) empty_inbox older (by b (posted n turn))) member)))
-      ends Failed member = gone (fell_last script a b older (sents n turn.failed_sends ++ told turn.failed_told) causes.Disk turn.write r
+      ends Failed member = gone (fell_last script a b older (sents n turn.failed_sends ++ told turn.failed_told)
+          causes.Disk turn.write r
           (subst (λ (xs : List Step). In r (inbox script a (older ++ by b xs)).unanswered)
           (sym (append_assoc (sents n turn.failed_sends) (told turn.failed_told) (fell causes.Disk turn.write)))
           member))
@@ -161,14 +163,8 @@ module _ (decl : Declaration) (script : Script) (fits : ℕ → List Record → 
       (lines_close (IsLawfulWithFalls decl) fits decl script older before few run line lines left) may are
 
   control_follows : (c : ℕ) (line : Control) (step : Step) → controller_step line ≡ Some step → MayFollow a c step
-  control_follows c (controls.Phase k) step is = absurd (let never : ⊥ = cc in never)
-  control_follows c (controls.Cut x y) step is = subst (MayFollow a c) (let same : steps.Cut x y ≡ step = cc in same) tt
-  control_follows c (controls.Heal x y) step is =
-      subst (MayFollow a c) (let same : steps.Heal x y ≡ step = cc in same) tt
-  control_follows c (controls.Armed r kind place) step is =
-      subst (MayFollow a c) (let same : steps.Armed r kind place ≡ step = cc in same) tt
-  control_follows c (controls.Crash x) step is = absurd (let never : ⊥ = cc in never)
-  control_follows c (controls.Restart x) step is = absurd (let never : ⊥ = cc in never)
+  control_follows c line step is =
+      controller_cases (MayFollow a c) (λ x y. tt) (λ x y. tt) (λ x. tt) line step is
 
   pub run_kept : (h : List Entry) (open_inputs : List Bool) → IsRun h open_inputs → IsKept h open_inputs
   run_kept h open_inputs begins = λ r member. absurd member

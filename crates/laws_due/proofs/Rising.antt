@@ -13,31 +13,23 @@ use Rattle.laws_due.specs.Vocabulary.{Holds, Ties, front_of, rests}
 
 -- the life and the clock of its records are the account's
 
-one_life : (k : Kept) (r : Record) → (keeps k r).life ≡ life_with k.life r
-one_life k records.Life = refl
-one_life k (records.Prepare p) = refl
-one_life k (records.Done tx clock) = refl
-one_life k (records.Close epoch) = refl
-one_life k (records.Install start) = refl
-one_life k (records.Commit commit) = refl
-one_life k (records.Decide start) = refl
-
-one_clock : (k : Kept) (r : Record) → (keeps k r).clock ≡ clock_with k.clock r
-one_clock k records.Life = refl
-one_clock k (records.Prepare p) = refl
-one_clock k (records.Done tx clock) = refl
-one_clock k (records.Close epoch) = refl
-one_clock k (records.Install start) = refl
-one_clock k (records.Commit commit) = refl
-one_clock k (records.Decide start) = refl
+one_kept : (k : Kept) (r : Record)
+    → ((keeps k r).life ≡ life_with k.life r) × ((keeps k r).clock ≡ clock_with k.clock r)
+one_kept k records.Life = (refl, refl)
+one_kept k (records.Prepare p) = (refl, refl)
+one_kept k (records.Done tx clock) = (refl, refl)
+one_kept k (records.Close epoch) = (refl, refl)
+one_kept k (records.Install start) = (refl, refl)
+one_kept k (records.Commit commit) = (refl, refl)
+one_kept k (records.Decide start) = (refl, refl)
 
 all_lives : (rs : List Record) (k : Kept) → (fold keeps k rs).life ≡ fold life_with k.life rs
 all_lives [] k = refl
-all_lives (r ∷ rs) k = all_lives rs (keeps k r) ∙ ap (λ (n : ℕ). fold life_with n rs) (one_life k r)
+all_lives (r ∷ rs) k = all_lives rs (keeps k r) ∙ ap (λ (n : ℕ). fold life_with n rs) (one_kept k r).0
 
 all_clocks : (rs : List Record) (k : Kept) → (fold keeps k rs).clock ≡ fold clock_with k.clock rs
 all_clocks [] k = refl
-all_clocks (r ∷ rs) k = all_clocks rs (keeps k r) ∙ ap (λ (n : ℕ). fold clock_with n rs) (one_clock k r)
+all_clocks (r ∷ rs) k = all_clocks rs (keeps k r) ∙ ap (λ (n : ℕ). fold clock_with n rs) (one_kept k r).1
 
 module _ (decl : Declaration) (client : ℕ) (kept : List Record) where
   -- the account once the record of the rise is written

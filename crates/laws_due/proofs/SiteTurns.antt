@@ -41,6 +41,7 @@ use Rattle.qc_site.specs.Vocabulary.{SiteState, new_site, site_at, site_takes}
 use Rattle.qc_recover.specs.Vocabulary.{client_rises, site_rises}
 use Rattle.laws_due.proofs.Answering.{after_fall}
 use Rattle.laws_due.proofs.PlainSteps.{inbox_then}
+use Rattle.laws_due.proofs.AskingCases.{asking_cases}
 
 -- a site answers each request that names what is declared
 
@@ -50,17 +51,14 @@ pub record IsDeclared (decl : Declaration) (e : Envelope) : Type 0 where
 
 pub declared_request : (decl : Declaration) (e : Envelope) (m : Message) → e.message ≡ m → is_request m ≡ true
     → IsProper decl e.to m → IsDeclared decl e
-declared_request decl e (messages.Request tx epoch life want) is request p = record {
-  site = p.0;
-  replies = λ s. subst (λ (m : Message). IsReply e.from e.number (site_at decl s e.from e.number m)) (sym is)
-      (request_reply decl s e.from e.number tx epoch life want p.1);
-}
-declared_request decl e (messages.Answer to answer) is request p = absurd (let never : ⊥ = cc in never)
-declared_request decl e (messages.Decision tx verdict) is request p = absurd (let never : ⊥ = cc in never)
-declared_request decl e (messages.Inquiry tx) is request p = absurd (let never : ⊥ = cc in never)
-declared_request decl e (messages.Ask tx) is request p = absurd p
-declared_request decl e (messages.Close epoch) is request p = absurd p
-declared_request decl e (messages.Install start) is request p = absurd p
+declared_request decl e m is request p =
+    asking_cases (λ (x : Message). e.message ≡ x → IsProper decl e.to x → IsDeclared decl e)
+    (λ q same proper. record {
+      site = proper.0;
+      replies = λ s. subst (λ (x : Message). IsReply e.from e.number (site_at decl s e.from e.number x)) (sym same)
+          (request_reply decl s e.from e.number q.tx q.epoch q.life q.want proper.1);
+    })
+    (λ tx same never. absurd never) (λ epoch same never. absurd never) (λ start same never. absurd never) m request is p
 
 -- what an actor is while it is up, by its deeds
 

@@ -17,16 +17,20 @@ use Rattle.qc_msg.specs.declared.turn.Appended.{Appended}
 use Rattle.qc_msg.specs.declared.turn.Appended.TheVariants.{Done, Failed, Stopped}
 use Rattle.qc_msg.specs.declared.turn.Posting.{Posting}
 use Rattle.qc_msg.specs.declared.turn.Turn.{Turn}
-use Rattle.qc_msg.specs.Vocabulary.{Entry, by, fell, mail, marked, posted_as, sends_as, sents, told, wrote}
+use Rattle.qc_msg.specs.Vocabulary.{Entry, by, fell, mail, marked, posted_as, sends_as, sents, told, wrote, Mailed}
+use Rattle.qc_msg.specs.Vocabulary.{commanded_in, lost_in, mailed_in, received_in}
 use Rattle.qc_msg.proofs.GrownMail.{mail-append}
 use Rattle.qc_script.proofs.Inboxes.{inboxes_have_in_common, one_fate}
 use Rattle.qc_script.specs.declared.script.Script.{Script}
 use Rattle.qc_script.specs.Vocabulary.{Inbox, SentRequest, comes_at_once, count_of, inbox, inbox_at, is_request, is_up}
 use Rattle.laws_due.proofs.Answering.{IsNew, IsSpared, IsStill, copies_left, copy_made, others_fewer, own_new}
-use Rattle.laws_due.proofs.Answering.{silent_fewer, still_left}
+use Rattle.laws_due.proofs.Answering.{silent_fewer, still_left, IsNoInput}
 use Rattle.laws_due.proofs.Places.{apart}
 use Rattle.laws_due.proofs.PlainSteps.{inbox_then}
 use Rattle.laws_due.proofs.Plain.{entries}
+use Rattle.std.specs.Prelude.{MatchOption}
+use Rattle.qc_msg.specs.declared.step.Command.{Command}
+use Rattle.laws_due.proofs.MailedCases.{mailed_cases}
 
 pub record IsSomewhere (script : Script) (X : Envelope → Type 0) (h : List Entry) (a : ℕ)
     (r : SentRequest) : Type 0 where
@@ -50,19 +54,7 @@ AreToOthers a ps = Every (λ (p : Posting). is_request p.message ≡ true → Is
 
 -- a step of actor b that is no input; a request of actor a's own goes to another
 abbrev pub MayFollow : ℕ → ℕ → Step → Type 0
-MayFollow a b (steps.Phase k) = Unit {0}
-MayFollow a b (steps.Cut x y) = Unit {0}
-MayFollow a b (steps.Heal x y) = Unit {0}
-MayFollow a b (steps.Armed actor kind at) = Unit {0}
-MayFollow a b (steps.Called command) = ⊥
-MayFollow a b (steps.Got n) = ⊥
-MayFollow a b (steps.Lost n) = ⊥
-MayFollow a b (steps.Wrote written) = Unit {0}
-MayFollow a b (steps.Sent n to message) = b ≡ a → is_request message ≡ true → IsOther a to
-MayFollow a b (steps.Told reply) = Unit {0}
-MayFollow a b (steps.Fell cause pending) = Unit {0}
-MayFollow a b (steps.Rose records) = Unit {0}
-MayFollow a b (steps.Damaged offset) = Unit {0}
+MayFollow a b step = IsNoInput (λ (m : Mailed). b ≡ a → is_request m.message ≡ true → IsOther a m.to) step
 
 abbrev pub MayAllFollow : ℕ → List Entry → Type 0
 MayAllFollow a k = Every (λ (e : Entry). MayFollow a e.actor e.step) k
@@ -94,6 +86,22 @@ module _ (a b : ℕ) where
   post_follows n Failed t are = sents_follow n t.failed_sends (told t.failed_told ++ fell _ t.write) are
       (told_follow t.failed_told (fell _ t.write) (tt, tt))
   post_follows n Stopped t are = told_follow t.failed_told (fell _ t.write) (tt, tt)
+
+still_at : (Holds : Mailed → Type 0) (step : Step) → mailed_in step ≡ None → IsNoInput Holds step → IsStill step
+still_at Holds step = by (commanded_in step) (received_in step) (lost_in step) (mailed_in step)
+  where
+    at : (Holds : Mailed → Type 0) (c : Option Command) (g l : Option ℕ) (m : Option Mailed) → Type 0
+    at Holds c g l m =
+        MatchOption c (MatchOption g (MatchOption l (MatchOption m (Unit {0}) Holds) (λ (n : ℕ). ⊥)) (λ (n : ℕ). ⊥))
+        (λ (c : Command). ⊥)
+
+    by : (c : Option Command) (g l : Option ℕ) (m : Option Mailed) → m ≡ None → at Holds c g l m
+        → at (λ (m : Mailed). ⊥) c g l m
+    by (Some c) g l m none is = is
+    by None (Some n) l m none is = is
+    by None None (Some n) m none is = is
+    by None None None None none is = is
+    by None None None (Some m) none is = absurd (let never : ⊥ = cc in never)
 
 module _ (script : Script) (X : Envelope → Type 0) (a : ℕ) (a_low : a < most_actors) where
   sent_more : (h k : List Entry) (x : Envelope) → In x (mail h) → In x (mail (h ++ k))
@@ -189,23 +197,14 @@ module _ (script : Script) (X : Envelope → Type 0) (a : ℕ) (a_low : a < most
 
   follows : (h : List Entry) (e : Entry) → MayFollow a e.actor e.step → AreSomewhere script X h a
       → AreSomewhere script X (h ++ e ∷ []) a
-  follows h e may are = by e.step refl may
-    where
-      by : (step : Step) → e.step ≡ step → MayFollow a e.actor step → AreSomewhere script X (h ++ e ∷ []) a
-      by (steps.Phase k) is may = still h e (subst IsStill (sym is) tt) are
-      by (steps.Cut x y) is may = still h e (subst IsStill (sym is) tt) are
-      by (steps.Heal x y) is may = still h e (subst IsStill (sym is) tt) are
-      by (steps.Armed actor kind place) is may = still h e (subst IsStill (sym is) tt) are
-      by (steps.Called command) is may = absurd may
-      by (steps.Got n) is may = absurd may
-      by (steps.Lost n) is may = absurd may
-      by (steps.Wrote written) is may = still h e (subst IsStill (sym is) tt) are
-      by (steps.Sent n to m) is may = subst (λ (s : Step). AreSomewhere script X (h ++ marked e.actor s ∷ []) a)
-          (sym is) (message h e.actor n to m are may)
-      by (steps.Told reply) is may = still h e (subst IsStill (sym is) tt) are
-      by (steps.Fell cause pending) is may = still h e (subst IsStill (sym is) tt) are
-      by (steps.Rose records) is may = still h e (subst IsStill (sym is) tt) are
-      by (steps.Damaged offset) is may = still h e (subst IsStill (sym is) tt) are
+  follows h e may are =
+      mailed_cases
+      (λ (step : Step) (o : Option Mailed). e.step ≡ step → mailed_in step ≡ o → MayFollow a e.actor step
+      → AreSomewhere script X (h ++ e ∷ []) a)
+      (λ step is none follow. still h e (subst IsStill (sym is) (still_at _ step none follow)) are)
+      (λ m is some follow. subst (λ (s : Step). AreSomewhere script X (h ++ marked e.actor s ∷ []) a) (sym is)
+      (message h e.actor m.number m.to m.message are follow))
+      e.step refl refl may
 
   pub all_follow : (h k : List Entry) → MayAllFollow a k → AreSomewhere script X h a → AreSomewhere script X (h ++ k) a
   all_follow h k may are = entries (λ (v : List Entry). AreSomewhere script X v a)

@@ -16,18 +16,17 @@ use Rattle.qc_front.proofs.Apart.{apart_filter}
 use Rattle.qc_front.proofs.NotedRounds.{round_apart}
 use Rattle.qc_front.proofs.Noting.{ascends_apart}
 use Rattle.qc_client.specs.declared.client.Client.{Client}
-use Rattle.qc_client.specs.Vocabulary.{answered, answered_by, by_front, called, client_takes, heard}
+use Rattle.qc_client.specs.Vocabulary.{answered, answered_by, by_front, called, client_takes, heard, ClientMove, moved}
 use Rattle.qc_msg.specs.declared.call.Call.{Call}
 use Rattle.qc_msg.specs.declared.message.Answer.{Answer}
 use Rattle.qc_msg.specs.declared.message.Message.{Message}
-use Rattle.qc_msg.specs.declared.message.Message.TheVariants as messages
 use Rattle.qc_msg.specs.declared.step.Command.{Command}
 use Rattle.qc_msg.specs.declared.step.Command.TheVariants as commands
 use Rattle.qc_msg.specs.declared.step.Input.{Input}
 use Rattle.qc_msg.specs.declared.step.Input.TheVariants as inputs
-use Rattle.qc_msg.specs.Vocabulary.{has_granted, quiet}
+use Rattle.qc_msg.specs.Vocabulary.{has_granted, quiet, Answered}
 use Rattle.qc_promise.specs.Vocabulary.{Account, ClientRequest, Current, IsFreeFor, account_taken, counted, counted_for}
-use Rattle.qc_promise.specs.Vocabulary.{is_append, is_open, is_read, round_of}
+use Rattle.qc_promise.specs.Vocabulary.{is_append, is_open, is_read, round_of, account_heard}
 use Rattle.laws_due.specs.Vocabulary.{Appends, AreApart, AreBegun, Goes, Holds, Reads, Rests, Ties, Votes, appends}
 use Rattle.laws_due.specs.Vocabulary.{ballot_of, calls_in, front_of, reads, rests, transaction_of, votes}
 use Rattle.laws_due.proofs.VotesCome.{commit_at, voting_desk, voting_front}
@@ -39,6 +38,8 @@ use Rattle.laws_due.proofs.Nothing.{tied_none}
 use Rattle.laws_due.proofs.Turns.{client_at, still_goes}
 use Rattle.laws_due.proofs.VotesIn.{voting_goes}
 use Rattle.laws_due.proofs.AnswersDue.{apart_cyclic, asked_sites}
+use Rattle.laws_turns.proofs.ClientCases.{heard_cases}
+use Rattle.std.specs.Option.{option_map_or}
 
 module _ (decl : Declaration) (number : ℕ) (d : Account) (c : Client) (h : Holds decl c) where
   -- nothing waits for an answer
@@ -260,16 +261,13 @@ module _ (decl : Declaration) (number : ℕ) (d : Account) (c : Client) (h : Hol
   heard_go : (from n : ℕ) (m : Message) → Ties decl d c
       → Goes decl number (account_taken d (inputs.Got (record { number = n; from = from; to = 0; message = m })))
       (heard decl c from n m)
-  heard_go from n (messages.Request tx epoch life want) ties =
-      still_goes decl number d c (tied_none decl d c h ties) ties
-  heard_go from n (messages.Answer to answer) ties = answers_go to (Some answer) ties
-  heard_go from n (messages.Decision tx verdict) ties = still_goes decl number d c (tied_none decl d c h ties) ties
-  heard_go from n (messages.Inquiry tx) ties =
-      record { tells = sym (tied_none decl d c h ties); due = (tt, tt); ties = ties }
-  heard_go from n (messages.Ask tx) ties =
-      record { tells = sym (tied_none decl d c h ties); due = (tt, tt); ties = ties }
-  heard_go from n (messages.Close epoch) ties = still_goes decl number d c (tied_none decl d c h ties) ties
-  heard_go from n (messages.Install start) ties = still_goes decl number d c (tied_none decl d c h ties) ties
+  heard_go from n m ties =
+      heard_cases decl c from n (λ (x : Message) (move : ClientMove). Goes decl number (account_heard d x) move)
+      (λ x none. subst (λ (o : Option Answered). Goes decl number
+      (option_map_or (λ (a : Answered). counted d a.to (Some a.answer)) o d) (moved c quiet)) (sym none)
+      (still_goes decl number d c (tied_none decl d c h ties) ties)) (λ to answer. answers_go to (Some answer) ties)
+      (λ tx. record { tells = sym (tied_none decl d c h ties); due = (tt, tt); ties = ties })
+      (λ tx. record { tells = sym (tied_none decl d c h ties); due = (tt, tt); ties = ties }) m
 
   pub inputs_are_answered_as_is_due : (g : Input) → IsFreeFor d g → Ties decl d c
       → Goes decl number (account_taken d g) (client_takes decl c g)

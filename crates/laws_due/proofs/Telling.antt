@@ -12,10 +12,10 @@ use Rattle.qc_decl.specs.Vocabulary.{is_client}
 use Rattle.laws_turns.specs.Vocabulary.{IsAskable, is_waiting}
 use Rattle.laws_turns.proofs.SoundClients.{IsAskableGiven}
 use Rattle.laws_turns.proofs.Waiting.{Ends, IsClients, IsNoCall, called_ends, sent_waits, takes_ends, takes_rests}
+use Rattle.laws_turns.proofs.Waiting.{are_clients}
 use Rattle.qc_msg.specs.declared.record.Record.{Record}
 use Rattle.qc_msg.specs.declared.reply.Reply.{Reply}
 use Rattle.qc_msg.specs.declared.step.Command.{Command}
-use Rattle.qc_msg.specs.declared.step.Command.TheVariants as commands
 use Rattle.qc_msg.specs.declared.step.Fall.{Fall}
 use Rattle.qc_msg.specs.declared.step.Fall.TheVariants as causes
 use Rattle.qc_msg.specs.declared.step.Input.{Input}
@@ -26,6 +26,7 @@ use Rattle.qc_msg.specs.declared.turn.Posting.{Posting}
 use Rattle.qc_msg.specs.declared.turn.Turn.{Turn}
 use Rattle.qc_msg.specs.Vocabulary.{Deed, Falls, HasRecord, Sends, deeds_as, sends_of, tells_of, turn_deeds, writes_of}
 use Rattle.laws_due.proofs.Standing.{actor_more}
+use Rattle.laws_turns.proofs.ClientCases.{command_cases}
 
 -- a move leaves a client waiting just where the command runs on
 
@@ -48,11 +49,9 @@ no_call_busy decl c g false none still = sym (takes_rests decl c g none still).s
 
 clients_command : (decl : Declaration) (a : ℕ) (command : Command) → is_client decl a ≡ true → IsAskable decl a command
     → IsClients command
-clients_command decl a commands.Begin client is = tt
-clients_command decl a (commands.Do object inv) client is = tt
-clients_command decl a commands.Commit client is = tt
-clients_command decl a commands.Abort client is = tt
-clients_command decl a (commands.Epoch number) client is = let never : ⊥ = cc in never
+clients_command decl a command client is =
+    command_cases (λ (c : Command). IsAskable decl a c → IsClients c) (λ c none asked. are_clients c none)
+    (λ number asked. (let never : ⊥ = cc in never)) command is
 
 pub given_busy : (decl : Declaration) (a : ℕ) → is_client decl a ≡ true → (c : Client) (r : Bool) (g : Input)
     → IsAskableGiven decl a g → is_waiting c ≡ r → (IsNoCall g ⊎ (r ≡ false))

@@ -20,32 +20,10 @@ use Rattle.qc_promise.specs.Vocabulary.{is_prepare, is_read, next_stamp, pending
 use Rattle.qc_promise.specs.Vocabulary.{row_of, running_row, vote_row}
 use Rattle.qc_entry.specs.declared.record.Commit.{Commit}
 use Rattle.qc_msg.specs.declared.record.Record.TheVariants as records
-use Rattle.qc_msg.specs.Vocabulary.{Deed}
-
-abbrev stamp_in : Reply → Option Stamp
-stamp_in replies.Down = None
-stamp_in (replies.Already tx) = None
-stamp_in (replies.Began tx) = None
-stamp_in replies.NoTransaction = None
-stamp_in replies.Doomed = None
-stamp_in replies.TooLong = None
-stamp_in (replies.Closed epoch site) = None
-stamp_in (replies.Conflict tx site) = None
-stamp_in (replies.Quorum half got need) = None
-stamp_in replies.Absent = None
-stamp_in (replies.Response resp) = None
-stamp_in (replies.Aborted why) = None
-stamp_in replies.Unknown = None
-stamp_in (replies.Committed stamp) = Some stamp
-stamp_in replies.Dropped = None
-stamp_in (replies.Order current) = None
-stamp_in (replies.InDoubt tx site) = None
-stamp_in replies.Fault = None
-stamp_in (replies.Moved closed installed) = None
+use Rattle.qc_msg.specs.Vocabulary.{Deed, committed_in}
 
 abbrev stamp_of : Option Reply → Option Stamp
-stamp_of None = None
-stamp_of (Some reply) = stamp_in reply
+stamp_of o = option_and_then committed_in o
 
 none_some : {A : Type 0} (o : Option Stamp) (stamp : Stamp) → o ≡ None → o ≡ Some stamp → A
 none_some o stamp none some = absurd (let never : ⊥ = cc in never)

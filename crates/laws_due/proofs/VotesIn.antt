@@ -2,7 +2,7 @@
 -- nothing.
 use Rattle.std.proofs.Common.{◌≡◌, ◌≤◌, ℕ, ◌==◌, Bool, true, false, cond, List, [], ◌∷◌, map, filter, max, Option, Some}
 use Rattle.std.proofs.Common.{None, option_map, is_some, inl, inr, refl, sym, ap, ◌∙◌, subst, arith}
-use Rattle.std.specs.Prelude.{is_none}
+use Rattle.std.specs.Prelude.{is_none, option_and_then}
 use Rattle.std.specs.List.{find, list_all, AllByRecursion as Every}
 use Rattle.qc_list.specs.Vocabulary.{In}
 use Rattle.qc_list.proofs.Members.{every-In}
@@ -24,9 +24,9 @@ use Rattle.qc_msg.specs.declared.message.Answer.{Answer}
 use Rattle.qc_msg.specs.declared.message.Answer.TheVariants as answers
 use Rattle.qc_msg.specs.declared.message.Want.{Want}
 use Rattle.qc_msg.specs.declared.message.Want.TheVariants.{Prepare}
-use Rattle.qc_msg.specs.Vocabulary.{without_call}
-use Rattle.qc_promise.specs.Vocabulary.{Account, ClientRequest, Current, counted, counted_for, granted, is_open}
-use Rattle.qc_promise.specs.Vocabulary.{participants, promised, taken_for, told_by, view_of}
+use Rattle.qc_msg.specs.Vocabulary.{without_call, closed_in, granted_in, promised_in}
+use Rattle.qc_promise.specs.Vocabulary.{Account, ClientRequest, Current, counted, counted_for, is_open, participants}
+use Rattle.qc_promise.specs.Vocabulary.{taken_for, told_by, view_of}
 use Rattle.laws_due.specs.Vocabulary.{AreApart, Goes, IsPrepare, ballot_of, begun_of, calls_in, transaction_of}
 use Rattle.laws_due.proofs.VotesCome.{commit_at, votes_go, votes_out, votes_tie, voting_desk, voting_front}
 use Rattle.laws_due.proofs.OpenRequests.{calls_taken, every_taken, find_call, found, numbers_open, sites_in}
@@ -34,6 +34,9 @@ use Rattle.laws_due.proofs.OpenRequests.{sites_taken}
 use Rattle.laws_due.proofs.Requests.{first_set, set_taken}
 use Rattle.laws_due.proofs.Turns.{still_goes}
 use Rattle.laws_due.proofs.Views.{LogsAre}
+use Rattle.laws_due.proofs.TakenCases.{taken_cases, told_of}
+use Rattle.std.specs.Option.{option_map_or}
+use Rattle.qc_msg.specs.declared.payload.Grant.{Grant}
 
 cast_first : (site : ℕ) (vote : Vote) (bs : List Ballot)
     → cast bs site vote ≡ first_set (λ (x : Ballot). x.site) site (record { site = site; vote = Some vote }) bs
@@ -135,30 +138,27 @@ module _ (decl : Declaration) (number : ℕ) (d : Account) (t : Current) (asked 
       → Goes decl number (told_by (commit_at d t (taken_for n answer qs)) q answer)
       (by_desk here (desks.counts (desks.learns desk answer) b (without_call (calls_in qs) n)
       (cast (map (ballot_of b) qs) q.site (vote_of b q.site answer))))
-  counts_go n q is want None = stays n None q is
-  counts_go n q is want (Some (answers.Granted grant)) =
-      subst (λ (w : Want). Goes decl number (granted
-      (commit_at d t (taken_for n (Some (answers.Granted grant)) qs)) q.site grant.life grant.clock grant.log w)
-      (by_desk here (desks.counts desk b (without_call (calls_in qs) n)
-      (cast (map (ballot_of b) qs) q.site (vote_of b q.site (Some (answers.Granted grant))))))) (sym want)
-      (stays n (Some (answers.Granted grant)) q is)
-  counts_go n q is want (Some (answers.Clash holder inv event)) = stays n (Some (answers.Clash holder inv event)) q is
-  counts_go n q is want (Some (answers.Closed told)) =
-      on_with (record d { known = max d.known told }) (max desk_epoch told) low
-      (let sum : max epoch desk_epoch ≡ d.known = known in omega arith) n (Some (answers.Closed told)) q is refl
-  counts_go n q is want (Some (answers.Behind told)) = stays n (Some (answers.Behind told)) q is
-  counts_go n q is want (Some (answers.Restarted life)) = stays n (Some (answers.Restarted life)) q is
-  counts_go n q is want (Some answers.Stale) = stays n (Some answers.Stale) q is
-  counts_go n q is want (Some answers.Fault) = stays n (Some answers.Fault) q is
-  counts_go n q is want (Some (answers.Yes told)) =
-      subst (λ (w : Want). Goes decl number (promised (commit_at d t (taken_for n (Some (answers.Yes told)) qs)) told w)
-      (by_desk here (desks.counts (desks.learns desk (Some (answers.Yes told))) b (without_call (calls_in qs) n)
-      (cast (map (ballot_of b) qs) q.site (vote_of b q.site (Some (answers.Yes told))))))) (sym want)
-      (on_with (record d { clock = max d.clock told }) desk_epoch
-      (let less : clock ≤ d.clock = low in omega arith) known n (Some (answers.Yes told)) q is refl)
-  counts_go n q is want (Some (answers.Shut snapshot)) = stays n (Some (answers.Shut snapshot)) q is
-  counts_go n q is want (Some answers.Installed) = stays n (Some answers.Installed) q is
-  counts_go n q is want (Some (answers.Answered verdict)) = stays n (Some (answers.Answered verdict)) q is
+  counts_go n q is want answer =
+      subst
+      (λ (w : Want). Goes decl number
+      (told_of (commit_at d t (taken_for n answer qs)) q.site w (option_and_then granted_in answer)
+      (option_and_then closed_in answer) (option_and_then promised_in answer))
+      (by_desk here (desks.counts (desks.learns desk answer) b (without_call (calls_in qs) n)
+      (cast (map (ballot_of b) qs) q.site (vote_of b q.site answer)))))
+      (sym want)
+      (taken_cases
+      (λ (o : Option Answer) (g : Option Grant) (c : Option ℕ) (y : Option ℕ). Goes decl number
+      (told_of (commit_at d t (taken_for n o qs)) q.site Prepare g c y)
+      (by_desk here
+      (desks.counts
+      (option_map_or (λ (told : ℕ). record desk { epoch = max desk.epoch told }) c
+      (option_map_or (desks.passed desk) y desk)) b (without_call (calls_in qs) n)
+      (cast (map (ballot_of b) qs) q.site (vote_of b q.site o)))))
+      (λ o. stays n o q is) (λ g. stays n (Some (answers.Granted g)) q is)
+      (λ told. on_with (record d { known = max d.known told }) (max desk_epoch told) low
+      (let sum : max epoch desk_epoch ≡ d.known = known in omega arith) n (Some (answers.Closed told)) q is refl)
+      (λ told. on_with (record d { clock = max d.clock told }) desk_epoch
+      (let less : clock ≤ d.clock = low in omega arith) known n (Some (answers.Yes told)) q is refl) answer)
 
   pub voting_goes : (n : ℕ) (answer : Option Answer)
       → Goes decl number (counted (commit_at d t qs) n answer) (by_desk here (desks.vote desk n answer))

@@ -8,14 +8,14 @@ use Rattle.qc_commit.specs.Conduct as desks
 use Rattle.qc_commit.specs.Desk as desk
 use Rattle.qc_commit.specs.Vocabulary.{are_cast, blank, cast, first_against, participants, prepares, vote_of}
 use Rattle.qc_client.specs.declared.client.Client.{Client}
-use Rattle.qc_client.specs.Vocabulary.{answered_by, by_desk, by_front, called, client_takes, commits, heard}
+use Rattle.qc_client.specs.Vocabulary.{answered_by, by_desk, by_front, called, client_takes, commits, heard, ClientMove}
 use Rattle.qc_decl.specs.declared.declaration.Declaration.{Declaration}
 use Rattle.qc_entry.specs.declared.record.Commit.{Commit}
 use Rattle.qc_front.specs.declared.doing.Doing.{Doing}
 use Rattle.qc_front.specs.declared.doing.Doing.TheVariants.{Idle, Reading, Appending}
 use Rattle.qc_front.specs.declared.front.Front.{Front}
 use Rattle.qc_front.specs.declared.transaction.Transaction.{Transaction}
-use Rattle.qc_front.specs.Vocabulary.{answer_of, appended_with, learns, read_with, round_for, standing_of}
+use Rattle.qc_front.specs.Vocabulary.{answer_of, appended_with, learns, read_with, round_for, standing_of, FrontMove}
 use Rattle.qc_front.specs.Conduct as fronts
 use Rattle.qc_front.specs.Front as front
 use Rattle.qc_front.specs.Rounds as rounds
@@ -23,7 +23,6 @@ use Rattle.qc_msg.specs.declared.begun.Begun.{Begun}
 use Rattle.qc_msg.specs.declared.call.Call.{Call}
 use Rattle.qc_msg.specs.declared.message.Answer.{Answer}
 use Rattle.qc_msg.specs.declared.message.Message.{Message}
-use Rattle.qc_msg.specs.declared.message.Message.TheVariants as messages
 use Rattle.qc_msg.specs.declared.record.Record.TheVariants as records
 use Rattle.qc_msg.specs.declared.reply.Reply.TheVariants as replies
 use Rattle.qc_msg.specs.declared.reply.AbortCause.{AbortCause}
@@ -38,6 +37,7 @@ use Rattle.qc_plan.specs.declared.standing.Verdict.{Verdict}
 use Rattle.qc_plan.specs.declared.standing.Verdict.TheVariants as verdicts
 use Rattle.qc_plan.specs.Vocabulary.{RoundState, note, verdict}
 use Rattle.qc_decl.specs.Vocabulary.{append_need_of, most_transaction_operations, read_need_of}
+use Rattle.laws_turns.proofs.ClientCases.{called_cases, front_cases, heard_cases}
 
 -- a turn whose record is a commit's
 pub record IsCommitTurn (turn : Turn) : Type 0 where
@@ -109,11 +109,10 @@ module _ (decl : Declaration) where
   aborts_writes f (Some t) = refl
 
   called_writes : (f : Front) (command : Command) → (fronts.called decl f command).turn.write ≡ None
-  called_writes f commands.Begin = begins_writes f f.transaction
-  called_writes f (commands.Do object inv) = performs_writes f f.transaction object inv
-  called_writes f commands.Commit = commits_writes f f.transaction
-  called_writes f commands.Abort = aborts_writes f f.transaction
-  called_writes f (commands.Epoch number) = refl
+  called_writes f command =
+      front_cases decl f (λ (c : Command) (move : FrontMove). move.turn.write ≡ None) (begins_writes f f.transaction)
+      (performs_writes f f.transaction) (commits_writes f f.transaction) (aborts_writes f f.transaction)
+      (λ number. refl) command
 
   takes_writes : (f : Front) (doing : Doing) (o : Option Transaction) (number : ℕ) (answer : Option Answer)
       → (fronts.takes_in decl f doing o number answer).turn.write ≡ None
@@ -201,21 +200,15 @@ commit_turn decl c (Some t) = by t.begun.doomed
     by false = prepare_turn decl c.desk t.begun c.front.clock.value
 
 called_turn : (decl : Declaration) (c : Client) (command : Command) → IsClientTurn (called decl c command).turn
-called_turn decl c commands.Begin = inl (called_writes decl c.front commands.Begin)
-called_turn decl c (commands.Do object inv) = inl (called_writes decl c.front (commands.Do object inv))
-called_turn decl c commands.Commit = commit_turn decl c c.front.transaction
-called_turn decl c commands.Abort = inl (called_writes decl c.front commands.Abort)
-called_turn decl c (commands.Epoch number) = inl (called_writes decl c.front (commands.Epoch number))
+called_turn decl c command =
+    called_cases decl c (λ (x : Command) (move : ClientMove). IsClientTurn move.turn)
+    (λ x. inl (called_writes decl c.front x)) (commit_turn decl c c.front.transaction) command
 
 heard_turn : (decl : Declaration) (c : Client) (from number : ℕ) (m : Message)
     → IsClientTurn (heard decl c from number m).turn
-heard_turn decl c from number (messages.Request tx epoch life want) = inl refl
-heard_turn decl c from number (messages.Answer to answer) = answered_turn decl c c.desk.voting to (Some answer)
-heard_turn decl c from number (messages.Decision tx verdict) = inl refl
-heard_turn decl c from number (messages.Inquiry tx) = inl refl
-heard_turn decl c from number (messages.Ask tx) = inl refl
-heard_turn decl c from number (messages.Close epoch) = inl refl
-heard_turn decl c from number (messages.Install start) = inl refl
+heard_turn decl c from number m =
+    heard_cases decl c from number (λ (x : Message) (move : ClientMove). IsClientTurn move.turn) (λ x none. inl refl)
+    (λ to answer. answered_turn decl c c.desk.voting to (Some answer)) (λ tx. inl refl) (λ tx. inl refl) m
 
 pub takes_turn : (decl : Declaration) (c : Client) (g : Input) → IsClientTurn (client_takes decl c g).turn
 takes_turn decl c (inputs.Called command) = called_turn decl c command
