@@ -1,4 +1,5 @@
 -- The administrator takes a command, or what comes of a Close.
+use Rattle.std.specs.Option.{option_map_or}
 use Rattle.std.proofs.Common.{[], ◌≡◌, ◌≤◌, ℕ, suc, ◌+◌, ◌==◌, Bool, true, false, cond, inl, inr, List, ◌∷◌, ◌++◌}
 use Rattle.std.proofs.Common.{length, map, Option, Some, None, refl, sym, ◌∙◌, subst, eqb-true, arith}
 use Rattle.qc_list.specs.Vocabulary.{In}
@@ -18,7 +19,7 @@ use Rattle.qc_decl.specs.Vocabulary.{administrator}
 use Rattle.theory_onecopy.proofs.Lists.{Mapped, in_split, map_in}
 use Rattle.qc_msg.specs.declared.call.Call.{Call}
 use Rattle.qc_msg.specs.declared.message.Answer.{Answer}
-use Rattle.qc_msg.specs.declared.message.Answer.TheVariants as answers
+use Rattle.qc_msg.specs.declared.payload.Snapshot.{Snapshot}
 use Rattle.qc_msg.specs.declared.message.Message.TheVariants as messages
 use Rattle.qc_msg.specs.declared.reply.Half.TheVariants as halves
 use Rattle.qc_msg.specs.declared.reply.Reply.TheVariants as replies
@@ -26,12 +27,13 @@ use Rattle.qc_msg.specs.declared.turn.Posting.{Posting}
 use Rattle.qc_msg.specs.Vocabulary.{envelopes, site_called, without_call}
 use Rattle.theory_machine.specs.Vocabulary.{Act, IsRun, state}
 use Rattle.qc_epoch.specs.Vocabulary.{Admin, ShutSite, again, close_need, close_of, close_round, close_round_by, closes}
-use Rattle.qc_epoch.specs.Vocabulary.{closes_by, closing_takes, doing, goes_on, in_asked_order, moves_to, replies_with}
+use Rattle.qc_epoch.specs.Vocabulary.{closes_by, closing_takes, goes_on, in_asked_order, moves_to, replies_with}
 use Rattle.qc_epoch.specs.Vocabulary.{standing_of, with_shut_of}
 use Rattle.qc_epoch.specs.Admin as admins
 use Rattle.laws_refinement.specs.Vocabulary.{AdminMirrors, AreEnough, AreSnapshots, Backed, DoingMirrors}
 use Rattle.laws_refinement.specs.Vocabulary.{IsAnswerBacked, IsMessage, IsPlanned, IsShutTo, IsSnapshot, Mirrors, Net}
 use Rattle.laws_refinement.specs.Vocabulary.{RoundMirrors}
+use Rattle.laws_refinement.proofs.AnswerCases.{answer_cases}
 use Rattle.laws_refinement.proofs.Asks.{IsCalled, called, order_among, order_told}
 use Rattle.laws_refinement.proofs.MessagesStay.{message_later}
 use Rattle.laws_refinement.proofs.Posts.{at_number}
@@ -219,25 +221,27 @@ module _ (decl : Declaration) (acts : List Act) (net : Net) (run : IsRun decl ac
               subst (λ (n : ℕ). IsSnapshot decl (state acts) n k clock log prepared) (sym same_one.0)
               (subst (λ (n : ℕ). IsSnapshot decl (state acts) from n clock log prepared) (sym f) b.told)
 
+      lacks : (site : ℕ)
+          → Goes decl acts net run m up
+          (closes decl net.admin k (without_call calls number) (note round site standings.Missing) shuts)
+      lacks site = missing site standings.Missing (λ e. (let never : ⊥ = cc in never))
+
       of : (site : ℕ) (o : Option Answer) → IsAnswer from number o → site_called calls number ≡ Some site
           → Goes decl acts net run m up
           ((closes decl net.admin k (without_call calls number) (note round site (standing_of o))
           (with_shut_of shuts site o)))
-      of site None b is = missing site standings.Missing (λ e. (let never : ⊥ = cc in never))
-      of site (Some (answers.Granted grant)) b is =
-          missing site standings.Missing (λ e. (let never : ⊥ = cc in never))
-      of site (Some (answers.Clash holder inv event)) b is =
-          missing site standings.Missing (λ e. (let never : ⊥ = cc in never))
-      of site (Some (answers.Closed epoch)) b is = missing site standings.Missing (λ e. (let never : ⊥ = cc in never))
-      of site (Some (answers.Behind epoch)) b is = missing site standings.Missing (λ e. (let never : ⊥ = cc in never))
-      of site (Some (answers.Restarted life)) b is = missing site standings.Missing (λ e. (let never : ⊥ = cc in never))
-      of site (Some answers.Stale) b is = missing site standings.Missing (λ e. (let never : ⊥ = cc in never))
-      of site (Some answers.Fault) b is = missing site standings.Missing (λ e. (let never : ⊥ = cc in never))
-      of site (Some (answers.Yes clock)) b is = missing site standings.Missing (λ e. (let never : ⊥ = cc in never))
-      of site (Some (answers.Shut snapshot)) b is = shut site snapshot.clock snapshot.log snapshot.prepared is b
-      of site (Some answers.Installed) b is = missing site standings.Missing (λ e. (let never : ⊥ = cc in never))
-      of site (Some (answers.Answered verdict)) b is =
-          missing site standings.Missing (λ e. (let never : ⊥ = cc in never))
+      of site =
+          answer_cases (λ x grant closed promised shut_with verdict. IsAnswer from number x
+          → site_called calls number ≡ Some site
+          → Goes decl acts net run m up
+          (closes decl net.admin k (without_call calls number)
+          (note round site (option_map_or (λ (z : Snapshot). standings.Granted) shut_with standings.Missing))
+          (with_shut_of shuts site x)))
+          (λ grant b is. lacks site) (λ epoch b is. lacks site) (λ clock b is. lacks site)
+          (λ snapshot b is. shut site snapshot.clock snapshot.log snapshot.prepared is b) (λ verdict b is. lacks site)
+          (λ x plain b is. subst (λ (ss : List ShutSite). Goes decl acts net run m up
+          (closes decl net.admin k (without_call calls number) (note round site standings.Missing) ss))
+          (sym (plain.not_shut shuts site)) (lacks site))
 
       by : (o : Option ℕ) → site_called calls number ≡ o
           → Goes decl acts net run m up ((closing_takes decl net.admin k calls round shuts number answer o))

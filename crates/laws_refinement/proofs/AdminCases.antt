@@ -1,25 +1,25 @@
 -- What the administrator takes, whatever he does: a command, an answer, or that a request is lost.
+use Rattle.std.specs.Option.{option_map_or}
 use Rattle.std.proofs.Common.{◌≡◌, ℕ, ◌==◌, Bool, true, false, cond, List, length, map, Option, Some, None, is_none}
 use Rattle.std.proofs.Common.{refl, sym, ap, ◌∙◌, subst, eqb-true}
 use Rattle.qc_stamp.specs.declared.stamp.TxId.{TxId}
 use Rattle.qc_list.specs.Vocabulary.{In}
-use Rattle.qc_plan.specs.Vocabulary.{verdict}
 use Rattle.qc_decl.specs.declared.declaration.Declaration.{Declaration}
 use Rattle.qc_decl.specs.Vocabulary.{administrator, client_actor}
 use Rattle.theory_onecopy.proofs.Lists.{Mapped, in_map, map_in}
 use Rattle.qc_msg.specs.declared.call.Call.{Call}
 use Rattle.qc_msg.specs.declared.message.Answer.{Answer}
-use Rattle.qc_msg.specs.declared.message.Answer.TheVariants as answers
 use Rattle.qc_msg.specs.declared.message.Message.{Message}
 use Rattle.qc_msg.specs.declared.message.Message.TheVariants as messages
 use Rattle.qc_msg.specs.declared.reply.Reply.TheVariants as replies
 use Rattle.qc_msg.specs.declared.step.Command.TheVariants as commands
 use Rattle.qc_msg.specs.declared.step.Input.{Input}
 use Rattle.qc_msg.specs.declared.step.Input.TheVariants.{Called, Got, Lost}
-use Rattle.qc_msg.specs.Vocabulary.{quiet, site_called, without_call}
+use Rattle.qc_msg.specs.Vocabulary.{Answered, quiet, site_called, without_call}
 use Rattle.theory_machine.specs.Vocabulary.{Act, IsRun, state}
 use Rattle.qc_epoch.specs.Vocabulary.{Asking, Doing, Installing, Question, Resting, ShutSite, admin_takes, all_taken}
-use Rattle.qc_epoch.specs.Vocabulary.{answered_in, asking_takes, doing, heard, installing_takes, is_number, moved}
+use Rattle.qc_epoch.specs.Vocabulary.{answered, answered_in, asking_takes, doing, heard, installing_takes}
+use Rattle.qc_epoch.specs.Vocabulary.{is_number, moved}
 use Rattle.qc_epoch.specs.Vocabulary.{outcome_in, replies_with, settles, site_set, taken_for, with_installed}
 use Rattle.qc_epoch.specs.Admin as admins
 use Rattle.laws_refinement.specs.Vocabulary.{Backed, DoingMirrors, IsAnswerBacked, IsCovered, IsMessage, IsNumbered}
@@ -27,6 +27,8 @@ use Rattle.laws_refinement.specs.Vocabulary.{IsTaken, IsVerdictBacked, MayAdmini
 use Rattle.laws_refinement.specs.Vocabulary.{QuestionMirrors}
 use Rattle.laws_refinement.proofs.AdminStands.{Goes, ended, nothing, stays}
 use Rattle.laws_refinement.proofs.AdminTurns.{settles_case}
+use Rattle.laws_refinement.proofs.AnswerCases.{answer_cases}
+use Rattle.laws_refinement.proofs.MessageCases.{message_cases}
 use Rattle.laws_refinement.proofs.OpenRequests.{message_same}
 use Rattle.laws_refinement.proofs.AdminAnswers.{called_case, closing_case}
 
@@ -49,23 +51,17 @@ module _ (decl : Declaration) (acts : List Act) (net : Net) (run : IsRun decl ac
       told : (q : Question) (o : Option Answer) → IsAnswer from number o
           → IsMessage net.mail number (client_actor decl q.tx.client) (messages.Ask q.tx)
           → IsTaken (state acts) q.tx (Some (outcome_in o))
-      told q None b mine = tt
-      told q (Some (answers.Granted grant)) b mine = tt
-      told q (Some (answers.Clash holder inv event)) b mine = tt
-      told q (Some (answers.Closed epoch)) b mine = tt
-      told q (Some (answers.Behind epoch)) b mine = tt
-      told q (Some (answers.Restarted life)) b mine = tt
-      told q (Some answers.Stale) b mine = tt
-      told q (Some answers.Fault) b mine = tt
-      told q (Some (answers.Yes clock)) b mine = tt
-      told q (Some (answers.Shut snapshot)) b mine = tt
-      told q (Some answers.Installed) b mine = tt
-      told q (Some (answers.Answered outcome)) b mine =
-          let e : messages.Ask q.tx ≡ messages.Ask b.tx =
-          (message_same net.mail number (client_actor decl q.tx.client) from (messages.Ask q.tx)
-          (messages.Ask b.tx) mine b.asked).1 in
+      told q =
+          answer_cases (λ x grant closed promised shut verdict. IsAnswer from number x
+          → IsMessage net.mail number (client_actor decl q.tx.client) (messages.Ask q.tx)
+          → IsTaken (state acts) q.tx (Some verdict))
+          (λ grant b mine. tt) (λ epoch b mine. tt) (λ clock b mine. tt) (λ snapshot b mine. tt)
+          (λ outcome b mine. (let e : messages.Ask q.tx ≡ messages.Ask b.tx =
+          (message_same net.mail number (client_actor decl q.tx.client) from (messages.Ask q.tx) (messages.Ask b.tx)
+          mine b.asked).1 in
           let same : q.tx ≡ b.tx = cc in
-          subst (λ (t : TxId). IsVerdictBacked (state acts) t outcome) (sym same) b.backed
+          subst (λ (t : TxId). IsVerdictBacked (state acts) t outcome) (sym same) b.backed))
+          (λ x plain b mine. tt)
 
       one : (q : Question) → QuestionMirrors decl (state acts) net.mail q
           → QuestionMirrors decl (state acts) net.mail (taken_for number (outcome_in answer) q)
@@ -178,14 +174,13 @@ module _ (decl : Declaration) (acts : List Act) (net : Net) (run : IsRun decl ac
   admin_case (Lost number) came named = answer_case 0 number None tt net.admin.doing refl
   admin_case (Got e) came named = by e.message refl
     where
-      by : (message : Message) → e.message ≡ message → Goes decl acts net run m up ((heard decl net.admin message))
-      by (messages.Request tx epoch life want) same = nothing decl acts net run m up
-      by (messages.Answer n answer) same =
-          answer_case e.from n (Some answer)
+      by : (message : Message) → e.message ≡ message → Goes decl acts net run m up (heard decl net.admin message)
+      by =
+          message_cases (λ message q a v start. e.message ≡ message → Goes decl acts net run m up
+          (option_map_or (λ (x : Answered). answered decl net.admin x.to (Some x.answer)) a (moved net.admin quiet)))
+          (λ q same. nothing decl acts net run m up)
+          (λ a same. answer_case e.from a.to (Some a.answer)
           (subst (λ (x : Message). Backed decl (state acts) net.mail e.from e.to x) same (m.mail e came.0))
-          net.admin.doing refl
-      by (messages.Decision tx verdict) same = nothing decl acts net run m up
-      by (messages.Inquiry tx) same = nothing decl acts net run m up
-      by (messages.Ask tx) same = nothing decl acts net run m up
-      by (messages.Close epoch) same = nothing decl acts net run m up
-      by (messages.Install start) same = nothing decl acts net run m up
+          net.admin.doing refl)
+          (λ v same. nothing decl acts net run m up) (λ start same. nothing decl acts net run m up)
+          (λ message same. nothing decl acts net run m up)

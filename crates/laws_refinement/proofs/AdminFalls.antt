@@ -1,5 +1,5 @@
 -- The administrator falls and rises: a decision whose record stays is made as he rises, and nothing runs then.
-use Rattle.std.specs.Prelude.{option_to_list}
+use Rattle.std.specs.Prelude.{MatchOption, option_to_list}
 use Rattle.std.proofs.Common.{◌≡◌, ℕ, true, false, inl, inr, List, [], ◌∷◌, ◌++◌, Option, Some, None, refl, sym, ap}
 use Rattle.std.proofs.Common.{◌∙◌, subst}
 use Rattle.std.proofs.lemmas.List.{append-nil}
@@ -19,6 +19,7 @@ use Rattle.laws_refinement.proofs.AdminStands.{rule_more}
 use Rattle.laws_refinement.proofs.MessagesStay.{keeps_same, same_state}
 use Rattle.laws_refinement.proofs.Machine.{put_other}
 use Rattle.laws_refinement.proofs.Nets.{AtAdmin, admin_net}
+use Rattle.laws_refinement.proofs.PendingCases.{admin_pends}
 
 module _ (decl : Declaration) (net : Net) (h : Refines decl net) where
   me : ℕ
@@ -136,13 +137,11 @@ module _ (decl : Declaration) (net : Net) (h : Refines decl net) where
       where
         one : (r : Record) → IsPendingRule decl (state h.acts) (Some r)
             → Stood (keeps (kept_by (net.records (administrator decl))) r)
-        one records.Life b = as_it_was
-        one (records.Prepare p) b = absurd b
-        one (records.Done tx clock) b = absurd b
-        one (records.Close epoch) b = absurd b
-        one (records.Install start) b = absurd b
-        one (records.Commit commit) b = absurd b
-        one (records.Decide start) b = decides_act start.epoch start.clock start.lines b
+        one r =
+            admin_pends decl (state h.acts)
+            (λ (o : Option Record). MatchOption o (Unit {0})
+            (λ (x : Record). Stood (keeps (kept_by (net.records (administrator decl))) x)))
+            tt as_it_was (λ start b. decides_act start.epoch start.clock start.lines b) (Some r)
 
         by : (o : Option Record) → IsPendingRule decl (state h.acts) o
             → Stood (kept_by (net.records (administrator decl) ++ option_to_list o))
@@ -154,14 +153,7 @@ module _ (decl : Declaration) (net : Net) (h : Refines decl net) where
 
     -- no commit record is his
     unwritten : (o : Option Record) → IsPendingRule decl (state h.acts) o → commits_in o ≡ []
-    unwritten None b = refl
-    unwritten (Some records.Life) b = refl
-    unwritten (Some (records.Prepare p)) b = absurd b
-    unwritten (Some (records.Done tx clock)) b = absurd b
-    unwritten (Some (records.Close epoch)) b = absurd b
-    unwritten (Some (records.Install start)) b = absurd b
-    unwritten (Some (records.Commit commit)) b = absurd b
-    unwritten (Some (records.Decide start)) b = refl
+    unwritten = admin_pends decl (state h.acts) (λ (o : Option Record). commits_in o ≡ []) refl refl (λ start b. refl)
 
     -- he rises, and falls before the record of that stands
     pub admin_rises_in_vain : Refines decl (after_vain_rise net (administrator decl) back)

@@ -5,6 +5,7 @@ use Rattle.qc_stamp.specs.declared.stamp.TxId.{TxId}
 use Rattle.qc_list.specs.Vocabulary.{In}
 use Rattle.qc_list.proofs.Members.{In-second}
 use Rattle.qc_plan.specs.Vocabulary.{RoundState, note, verdict}
+use Rattle.qc_plan.specs.declared.standing.Standing.{Standing}
 use Rattle.qc_plan.specs.declared.standing.Standing.TheVariants as standings
 use Rattle.qc_decl.specs.declared.declaration.Declaration.{Declaration}
 use Rattle.qc_decl.specs.Vocabulary.{append_need_of, is_client, most_transaction_operations, read_need_of}
@@ -14,6 +15,7 @@ use Rattle.qc_msg.specs.declared.message.Answer.TheVariants as answers
 use Rattle.qc_msg.specs.declared.message.Envelope.{Envelope}
 use Rattle.qc_msg.specs.declared.message.Want.{Want}
 use Rattle.qc_msg.specs.declared.message.Want.TheVariants.{Read}
+use Rattle.qc_msg.specs.declared.payload.Grant.{Grant}
 use Rattle.qc_msg.specs.declared.reply.Reply.TheVariants as replies
 use Rattle.qc_msg.specs.Vocabulary.{life_of, quiet, site_called, telling, with_life, without_call}
 use Rattle.theory_onecopy.proofs.Lists.{in_map}
@@ -25,9 +27,10 @@ use Rattle.qc_front.specs.declared.doing.Doing.TheVariants.{Idle, Reading, Appen
 use Rattle.qc_front.specs.declared.front.Front.{Front}
 use Rattle.qc_front.specs.declared.transaction.Transaction.{Transaction}
 use Rattle.qc_front.specs.Vocabulary.{AppendingHolds, BegunHolds, DoingHolds, FrontHolds, IsRound, ReadingHolds}
+use Rattle.qc_front.specs.Vocabulary.{appends, reads}
 use Rattle.qc_front.specs.Vocabulary.{RecordsHold, append_by, append_counts, append_want, appending_takes, calls_in}
 use Rattle.qc_front.specs.Vocabulary.{learns, lived, moved, next_own, own_appended, performs, read_by, read_counts}
-use Rattle.qc_front.specs.Vocabulary.{reading_takes, round_for, standing_of, takes_in, view_log, weighs, with_granted}
+use Rattle.qc_front.specs.Vocabulary.{reading_takes, round_for, takes_in, view_log, weighs, with_granted}
 use Rattle.qc_front.proofs.CommandsKeep.{started_round}
 use Rattle.qc_front.proofs.NotedRounds.{note_round}
 use Rattle.qc_front.proofs.Recording.{granted_recorded}
@@ -40,6 +43,7 @@ use Rattle.laws_refinement.specs.Vocabulary.{after_client, append_of, chosen_of,
 use Rattle.laws_refinement.proofs.Named.{core_closed, lives_more, named_on, other_site}
 use Rattle.qc_msg.specs.declared.message.Message.TheVariants as messages
 use Rattle.qc_msg.specs.Vocabulary.{read_of}
+use Rattle.laws_refinement.proofs.AnswerCases.{learned_cases}
 use Rattle.laws_refinement.proofs.Answers.{view_at}
 use Rattle.laws_refinement.proofs.ClientActs.{mid_count}
 use Rattle.laws_refinement.proofs.ClientRounds.{appending, nothing, reading}
@@ -119,14 +123,9 @@ module _ (decl : Declaration) where
     mid : Mid decl (state acts) acts (net.clients a).front.client
     mid = mid_first decl acts (net.clients a).front.client run
 
-    read_case : (from number : ℕ) (t : Transaction) (object inv : ℕ) (calls : List Call) (round : RoundState)
-        (answer : Option Answer) → (net.clients a).front.transaction ≡ Some t
-        → (net.clients a).front.doing ≡ Reading object inv calls round
+    read_case : (from number : ℕ) (t : Transaction) (object inv : ℕ) (calls : List Call) (round : RoundState) (answer : Option Answer) → (net.clients a).front.transaction ≡ Some t → (net.clients a).front.doing ≡ Reading object inv calls round
         → AnswerBacked decl (state acts) net.mail from number answer → (site : ℕ) → site_called calls number ≡ Some site
-        → Refines decl
-            (after_client net a
-              (by_front (net.clients a)
-                (read_counts decl (learns (net.clients a).front answer) t object inv calls round number site answer)))
+        → Refines decl (after_client net a (by_front (net.clients a) (read_counts decl (learns (net.clients a).front answer) t object inv calls round number site answer)))
     read_case from number t object inv calls round answer is doing backed site called = by answer backed
       where
         k : Core decl (state acts) a (net.clients a) t × RunningMirrors decl (state acts) net.mail (net.clients a) t
@@ -139,25 +138,22 @@ module _ (decl : Declaration) where
         chosen : (state acts).chosen t.begun.tx ≡ None
         chosen = subst (λ (d : Doing). IsChosen decl (state acts) t d) doing k.1.chosen
 
-        counted : IsNamedAt decl object inv
-            × AreCounted (state acts).counted t.begun.tx (Lock (record { object = object; inv = inv })) round.asked
+        counted : IsNamedAt decl object inv × AreCounted (state acts).counted t.begun.tx (Lock (record { object = object; inv = inv })) round.asked
         counted = subst (λ (d : Doing). IsRoundCounted decl (state acts) t d) doing k.1.counted
 
         asked : (call : Call) → In call calls → IsAskedBy decl net.mail t (Reading object inv calls round) call
-        asked =
-            subst (λ (d : Doing). (call : Call) → In call (calls_in d) → IsAskedBy decl net.mail t d call) doing
-            k.1.calls
+        asked = subst (λ (d : Doing). (call : Call) → In call (calls_in d) → IsAskedBy decl net.mail t d call) doing k.1.calls
 
         round_is : IsRound decl (net.clients a).front.client t.begun.epoch (read_need_of decl t.begun.epoch object inv) round
         round_is = holds.1.round_is
 
         -- nothing is granted
-        plainly : (x : Option Answer) → (standing_of x ≡ standings.Granted → ⊥) → Refines decl (after_client net a (by_front (net.clients a) (read_by decl (net.clients a).front t object inv (without_call calls number) (note round site (standing_of x)) (verdict (note round site (standing_of x))))))
-        plainly x ungranted = refined decl (state acts) net a _ m client up
-            (reading decl (state acts) net a acts (net.clients a) t object inv (without_call calls number) (note round site (standing_of x)) refl mid refl k.0 holds.0 chosen counted.0
-            (note_round decl (net.clients a).front.client t.begun.epoch (read_need_of decl t.begun.epoch object inv) round site (standing_of x) round_is)
-            (noted_counted (state acts).counted t.begun.tx (Lock (record { object = object; inv = inv })) site (standing_of x) round.asked counted.1 (λ e. absurd (ungranted e)))
-            (λ call more. asked call (still_called calls number call more)) (verdict (note round site (standing_of x))) refl)
+        plainly : (standing : Standing) → (standing ≡ standings.Granted → ⊥) → Refines decl (after_client net a (by_front (net.clients a) (read_by decl (net.clients a).front t object inv (without_call calls number) (note round site standing) (verdict (note round site standing)))))
+        plainly standing ungranted = refined decl (state acts) net a _ m client up
+            (reading decl (state acts) net a acts (net.clients a) t object inv (without_call calls number) (note round site standing) refl mid refl k.0 holds.0 chosen counted.0
+            (note_round decl (net.clients a).front.client t.begun.epoch (read_need_of decl t.begun.epoch object inv) round site standing round_is)
+            (noted_counted (state acts).counted t.begun.tx (Lock (record { object = object; inv = inv })) site standing round.asked counted.1 (λ e. absurd (ungranted e)))
+            (λ call more. asked call (still_called calls number call more)) (verdict (note round site standing)) refl)
 
         -- the epoch is closed there, and the client knows of a later one
         shut : (epoch : ℕ) → IsPlanned decl epoch → Refines decl (after_client net a (by_front (net.clients a) (read_counts decl (learns (net.clients a).front (Some (answers.Closed epoch))) t object inv calls round number site (Some (answers.Closed epoch)))))
@@ -167,19 +163,11 @@ module _ (decl : Declaration) where
             (noted_counted (state acts).counted t.begun.tx (Lock (record { object = object; inv = inv })) site (standings.Closed epoch) round.asked counted.1 (λ e. absurd (let never : ⊥ = cc in never)))
             (λ call more. asked call (still_called calls number call more)) (verdict (note round site (standings.Closed epoch))) refl)
 
-        by : (x : Option Answer) → AnswerBacked decl (state acts) net.mail from number x → Refines decl (after_client net a (by_front (net.clients a) (read_counts decl (learns (net.clients a).front x) t object inv calls round number site x)))
-        by None bk = plainly None (λ e. (let never : ⊥ = cc in never))
-        by (Some (answers.Clash holder i event)) bk = plainly (Some (answers.Clash holder i event)) (λ e. (let never : ⊥ = cc in never))
-        by (Some (answers.Closed epoch)) bk = shut epoch bk
-        by (Some (answers.Behind epoch)) bk = plainly (Some (answers.Behind epoch)) (λ e. (let never : ⊥ = cc in never))
-        by (Some (answers.Restarted life)) bk = plainly (Some (answers.Restarted life)) (λ e. (let never : ⊥ = cc in never))
-        by (Some answers.Stale) bk = plainly (Some answers.Stale) (λ e. (let never : ⊥ = cc in never))
-        by (Some answers.Fault) bk = plainly (Some answers.Fault) (λ e. (let never : ⊥ = cc in never))
-        by (Some (answers.Yes clock)) bk = plainly (Some (answers.Yes clock)) (λ e. (let never : ⊥ = cc in never))
-        by (Some (answers.Shut snapshot)) bk = plainly (Some (answers.Shut snapshot)) (λ e. (let never : ⊥ = cc in never))
-        by (Some answers.Installed) bk = plainly (Some answers.Installed) (λ e. (let never : ⊥ = cc in never))
-        by (Some (answers.Answered outcome)) bk = plainly (Some (answers.Answered outcome)) (λ e. (let never : ⊥ = cc in never))
-        by (Some (answers.Granted grant_here)) bk =
+        granted : (g : Grant) → AnswerBacked decl (state acts) net.mail from number (Some (answers.Granted g))
+            → Refines decl (after_client net a (by_front (net.clients a)
+            (read_counts decl (learns (net.clients a).front (Some (answers.Granted g))) t object inv calls round
+            number site (Some (answers.Granted g)))))
+        granted grant_here bk =
             let found : IsCalled calls number site = called_in calls number site called in
             let r : IsAskedBy decl net.mail t (Reading object inv calls round) found.call = asked found.call found.among in
             let request : IsMessage net.mail number site (messages.Request t.begun.tx t.begun.epoch (life_of t.begun.lives site) (Read (read_of object inv))) =
@@ -202,6 +190,16 @@ module _ (decl : Declaration) where
             (λ e. record { grant = g.grant; counts = inl refl; its = g.its; from = g.by; has = subst (λ (xs : List Item). In (Lock (record { object = object; inv = inv })) xs) (sym g.items_are) (inl refl) })))
             (λ call more. (let q : IsAskedBy decl net.mail t (Reading object inv calls round) call = asked call (still_called calls number call more) in
             (q.0, named_on net.mail t (with_granted (lived t site grant_here.life) object grant_here.log) call.number call.site site grant_here.life q.0 given (other_site decl (net.clients a).front.client t.begun.epoch (read_need_of decl t.begun.epoch object inv) round calls number site round_is holds.1.calls_are called call more) q.1, q.2))) (verdict (note round site standings.Granted)) refl)
+
+        by : (x : Option Answer) → AnswerBacked decl (state acts) net.mail from number x
+            → Refines decl (after_client net a (by_front (net.clients a)
+            (read_counts decl (learns (net.clients a).front x) t object inv calls round number site x)))
+        by =
+            learned_cases (net.clients a).front t site object
+            (λ x front after appended standing. AnswerBacked decl (state acts) net.mail from number x
+            → Refines decl (after_client net a (by_front (net.clients a)
+            (reads decl front after object inv (without_call calls number) (note round site standing)))))
+            granted shut (λ x standing ungranted bk. plainly standing ungranted)
 
     append_case : (from number : ℕ) (t : Transaction) (object inv event : ℕ) (calls : List Call) (round : RoundState) (answer : Option Answer) → (net.clients a).front.transaction ≡ Some t → (net.clients a).front.doing ≡ Appending object inv event calls round
         → AnswerBacked decl (state acts) net.mail from number answer → (site : ℕ) → site_called calls number ≡ Some site
@@ -226,12 +224,12 @@ module _ (decl : Declaration) where
         round_is : IsRound decl (net.clients a).front.client t.begun.epoch (append_need_of decl t.begun.epoch object event) round
         round_is = holds.round_is
 
-        plainly : (x : Option Answer) → (standing_of x ≡ standings.Granted → ⊥) → Refines decl (after_client net a (by_front (net.clients a) (append_by decl (net.clients a).front t object inv event (without_call calls number) (note round site (standing_of x)) (verdict (note round site (standing_of x))))))
-        plainly x ungranted = refined decl (state acts) net a _ m client up
-            (appending decl (state acts) net a acts (net.clients a) t object inv event (without_call calls number) (note round site (standing_of x)) refl mid refl k.0 chosen.0 chosen.1
-            (note_round decl (net.clients a).front.client t.begun.epoch (append_need_of decl t.begun.epoch object event) round site (standing_of x) round_is)
-            (noted_counted (state acts).counted t.begun.tx (Own (next_own t object event)) site (standing_of x) round.asked counted (λ e. absurd (ungranted e)))
-            (λ call more. asked call (still_called calls number call more)) (verdict (note round site (standing_of x))) refl)
+        plainly : (standing : Standing) → (standing ≡ standings.Granted → ⊥) → Refines decl (after_client net a (by_front (net.clients a) (append_by decl (net.clients a).front t object inv event (without_call calls number) (note round site standing) (verdict (note round site standing)))))
+        plainly standing ungranted = refined decl (state acts) net a _ m client up
+            (appending decl (state acts) net a acts (net.clients a) t object inv event (without_call calls number) (note round site standing) refl mid refl k.0 chosen.0 chosen.1
+            (note_round decl (net.clients a).front.client t.begun.epoch (append_need_of decl t.begun.epoch object event) round site standing round_is)
+            (noted_counted (state acts).counted t.begun.tx (Own (next_own t object event)) site standing round.asked counted (λ e. absurd (ungranted e)))
+            (λ call more. asked call (still_called calls number call more)) (verdict (note round site standing)) refl)
 
         -- the epoch is closed there, and the client knows of a later one
         shut : (epoch : ℕ) → IsPlanned decl epoch → Refines decl (after_client net a (by_front (net.clients a) (append_counts decl (learns (net.clients a).front (Some (answers.Closed epoch))) t object inv event calls round number site (Some (answers.Closed epoch)))))
@@ -241,19 +239,11 @@ module _ (decl : Declaration) where
             (noted_counted (state acts).counted t.begun.tx (Own (next_own t object event)) site (standings.Closed epoch) round.asked counted (λ e. absurd (let never : ⊥ = cc in never)))
             (λ call more. asked call (still_called calls number call more)) (verdict (note round site (standings.Closed epoch))) refl)
 
-        by : (x : Option Answer) → AnswerBacked decl (state acts) net.mail from number x → Refines decl (after_client net a (by_front (net.clients a) (append_counts decl (learns (net.clients a).front x) t object inv event calls round number site x)))
-        by None bk = plainly None (λ e. (let never : ⊥ = cc in never))
-        by (Some (answers.Clash holder i e)) bk = plainly (Some (answers.Clash holder i e)) (λ e. (let never : ⊥ = cc in never))
-        by (Some (answers.Closed epoch)) bk = shut epoch bk
-        by (Some (answers.Behind epoch)) bk = plainly (Some (answers.Behind epoch)) (λ e. (let never : ⊥ = cc in never))
-        by (Some (answers.Restarted life)) bk = plainly (Some (answers.Restarted life)) (λ e. (let never : ⊥ = cc in never))
-        by (Some answers.Stale) bk = plainly (Some answers.Stale) (λ e. (let never : ⊥ = cc in never))
-        by (Some answers.Fault) bk = plainly (Some answers.Fault) (λ e. (let never : ⊥ = cc in never))
-        by (Some (answers.Yes clock)) bk = plainly (Some (answers.Yes clock)) (λ e. (let never : ⊥ = cc in never))
-        by (Some (answers.Shut snapshot)) bk = plainly (Some (answers.Shut snapshot)) (λ e. (let never : ⊥ = cc in never))
-        by (Some answers.Installed) bk = plainly (Some answers.Installed) (λ e. (let never : ⊥ = cc in never))
-        by (Some (answers.Answered outcome)) bk = plainly (Some (answers.Answered outcome)) (λ e. (let never : ⊥ = cc in never))
-        by (Some (answers.Granted grant_here)) bk =
+        granted : (g : Grant) → AnswerBacked decl (state acts) net.mail from number (Some (answers.Granted g))
+            → Refines decl (after_client net a (by_front (net.clients a)
+            (append_counts decl (learns (net.clients a).front (Some (answers.Granted g))) t object inv event calls
+            round number site (Some (answers.Granted g)))))
+        granted grant_here bk =
             let found : IsCalled calls number site = called_in calls number site called in
             let r : IsAskedBy decl net.mail t (Appending object inv event calls round) found.call = asked found.call found.among in
             let request : IsMessage net.mail number site (messages.Request t.begun.tx t.begun.epoch (life_of t.begun.lives site) (append_want decl t object event site)) =
@@ -279,6 +269,16 @@ module _ (decl : Declaration) where
             }))
             (λ call more. (let q : IsAskedBy decl net.mail t (Appending object inv event calls round) call = asked call (still_called calls number call more) in
             (q.0, named_on net.mail t (lived t site grant_here.life) call.number call.site site grant_here.life q.0 (lived_given t site grant_here.life) (other_site decl (net.clients a).front.client t.begun.epoch (append_need_of decl t.begun.epoch object event) round calls number site round_is holds.calls_are called call more) q.1, q.2))) (verdict (note round site standings.Granted)) refl)
+
+        by : (x : Option Answer) → AnswerBacked decl (state acts) net.mail from number x
+            → Refines decl (after_client net a (by_front (net.clients a)
+            (append_counts decl (learns (net.clients a).front x) t object inv event calls round number site x)))
+        by =
+            learned_cases (net.clients a).front t site object
+            (λ x front after appended standing. AnswerBacked decl (state acts) net.mail from number x
+            → Refines decl (after_client net a (by_front (net.clients a)
+            (appends decl front appended object inv event (without_call calls number) (note round site standing)))))
+            granted shut (λ x standing ungranted bk. plainly standing ungranted)
 
     -- whatever comes of a request, while no commit waits for votes
     pub takes_case : (from number : ℕ) (answer : Option Answer) → AnswerBacked decl (state acts) net.mail from number answer → (doing : Doing) → (net.clients a).front.doing ≡ doing → (t : Option Transaction) → (net.clients a).front.transaction ≡ t

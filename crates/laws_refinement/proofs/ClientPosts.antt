@@ -1,6 +1,6 @@
 -- A client's turn is posted: its requests have their numbers, and all of its messages are in the mail.
 use Rattle.std.proofs.Common.{[], ◌≡◌, ◌≢◌, ℕ, ◌==◌, ◌+◌, Bool, true, false, inl, inr, List, ◌∷◌, ◌++◌, length, Option}
-use Rattle.std.proofs.Common.{Some, slice_get, refl, sym, ap, ◌∙◌, subst, eq-eqb, eqb-true}
+use Rattle.std.proofs.Common.{Some, None, slice_get, refl, sym, ap, ◌∙◌, subst, eq-eqb, eqb-true}
 use Rattle.qc_stamp.specs.declared.stamp.TxId.{TxId}
 use Rattle.qc_list.specs.Vocabulary.{In}
 use Rattle.qc_list.proofs.Members.{In-first, In-second}
@@ -14,35 +14,28 @@ use Rattle.qc_msg.specs.declared.message.Message.TheVariants as messages
 use Rattle.qc_msg.specs.declared.message.Want.{Want}
 use Rattle.qc_msg.specs.declared.message.Want.TheVariants.{Read, Append, Prepare}
 use Rattle.qc_msg.specs.declared.turn.Posting.{Posting}
-use Rattle.qc_msg.specs.Vocabulary.{envelopes, life_of, with_call}
+use Rattle.qc_msg.specs.Vocabulary.{Requested, envelopes, life_of, request_in, with_call}
 use Rattle.theory_machine.specs.Vocabulary.{Committed, State}
 use Rattle.qc_commit.specs.declared.desk.Desk.{Desk}
 use Rattle.qc_commit.specs.declared.desk.Voting.{Voting}
 use Rattle.qc_commit.specs.Vocabulary.{prepared, prepared_in}
 use Rattle.qc_front.specs.Vocabulary.{requested}
-use Rattle.qc_client.specs.Vocabulary.{ClientMove, sent_one}
+use Rattle.qc_client.specs.Vocabulary.{ClientMove, requested as client_requested, sent_one}
 use Rattle.qc_client.specs.declared.client.Client.{Client}
 use Rattle.laws_refinement.specs.Vocabulary.{Backed, ClientMirrors, IsMessage, IsRequest, Mirrors, Net, after_client}
 use Rattle.laws_refinement.specs.Vocabulary.{commits_in, sent_all}
 use Rattle.laws_refinement.proofs.MessagesStay.{Keeps, Later, keeps_same}
 use Rattle.laws_refinement.proofs.Frames.{keep_client}
+use Rattle.laws_refinement.proofs.MessageCases.{message_cases}
 use Rattle.laws_refinement.proofs.Posts.{AtNumber, at_number}
-use Rattle.std.specs.Prelude.{option_to_list}
+use Rattle.std.specs.Prelude.{MatchOption, option_to_list}
+use Rattle.std.specs.Option.{option_map_or}
 use Rattle.theory_machine.proofs.Names.{put_here}
 use Rattle.laws_refinement.proofs.Machine.{put_other}
 use Rattle.laws_refinement.proofs.Nets.{client_net}
-use Rattle.laws_refinement.proofs.RequestsSent.{AsksFor, for_more, round_sent, prepare_sent}
+use Rattle.laws_refinement.proofs.RequestsSent.{AsksFor, IsAsking, for_more, round_sent, prepare_sent}
 
 module _ (decl : Declaration) where
-  abbrev IsAsking : Client → ℕ → Message → Type 0
-  IsAsking c to (messages.Request tx epoch life want) = AsksFor decl c tx epoch life to want
-  IsAsking c to (messages.Answer number answer) = Unit {0}
-  IsAsking c to (messages.Decision tx verdict) = Unit {0}
-  IsAsking c to (messages.Inquiry tx) = Unit {0}
-  IsAsking c to (messages.Ask tx) = Unit {0}
-  IsAsking c to (messages.Close epoch) = Unit {0}
-  IsAsking c to (messages.Install start) = Unit {0}
-
   -- each message of a turn
 
   found_request : (ms : List Envelope) (a n to : ℕ) (tx u : TxId) (epoch life : ℕ) (want : Want)
@@ -86,17 +79,16 @@ module _ (decl : Declaration) where
       (found_request ms a n to tx k.t.begun.tx epoch life Prepare found k.its)
 
   one_sent : (w : State) (ms : List Envelope) (a : ℕ) (c : Client) (n to : ℕ) (message : Message)
-      → ClientMirrors decl w ms a c → IsAsking c to message
+      → ClientMirrors decl w ms a c → IsAsking decl c to message
       → slice_get ms n ≡ Some (record { number = n; from = a; to = to; message = message })
       → ClientMirrors decl w ms a (sent_one c n to message)
-  one_sent w ms a c n to (messages.Request tx epoch life want) m asks found =
-      want_sent w ms a c n to tx epoch life want m asks found
-  one_sent w ms a c n to (messages.Answer k answer) m asks found = m
-  one_sent w ms a c n to (messages.Decision tx verdict) m asks found = m
-  one_sent w ms a c n to (messages.Inquiry tx) m asks found = m
-  one_sent w ms a c n to (messages.Ask tx) m asks found = m
-  one_sent w ms a c n to (messages.Close epoch) m asks found = m
-  one_sent w ms a c n to (messages.Install start) m asks found = m
+  one_sent w ms a c n to message m =
+      message_cases (λ x q answer v i. MatchOption q (Unit {0})
+      (λ (r : Requested). AsksFor decl c r.tx r.epoch r.life to r.want)
+      → slice_get ms n ≡ Some (record { number = n; from = a; to = to; message = x })
+      → ClientMirrors decl w ms a (option_map_or (λ (r : Requested). client_requested c n to r.want) q c))
+      (λ q asks found. want_sent w ms a c n to q.tx q.epoch q.life q.want m asks found) (λ answer asks found. m)
+      (λ v asks found. m) (λ start asks found. m) (λ x asks found. m) message
 
   -- what was asked for still is after another message
 
@@ -148,31 +140,31 @@ module _ (decl : Declaration) where
 
   asks_still : (c : Client) (n to : ℕ) (first : Message) (tx : TxId) (epoch life dest : ℕ) (want : Want)
       → AsksFor decl c tx epoch life dest want → AsksFor decl (sent_one c n to first) tx epoch life dest want
-  asks_still c n to (messages.Request u e l (Read read)) tx epoch life dest want k =
-      round_still c n to tx epoch life dest want k
-  asks_still c n to (messages.Request u e l (Append object view own)) tx epoch life dest want k =
-      round_still c n to tx epoch life dest want k
-  asks_still c n to (messages.Request u e l Prepare) tx epoch life dest want k =
-      desk_still c n to tx epoch life dest want k
-  asks_still c n to (messages.Answer asked answer) tx epoch life dest want k = k
-  asks_still c n to (messages.Decision u verdict) tx epoch life dest want k = k
-  asks_still c n to (messages.Inquiry u) tx epoch life dest want k = k
-  asks_still c n to (messages.Ask u) tx epoch life dest want k = k
-  asks_still c n to (messages.Close e) tx epoch life dest want k = k
-  asks_still c n to (messages.Install start) tx epoch life dest want k = k
+  asks_still c n to first tx epoch life dest want k = by (request_in first)
+    where
+      asked : (wish : Want) → AsksFor decl (client_requested c n to wish) tx epoch life dest want
+      asked (Read read) = round_still c n to tx epoch life dest want k
+      asked (Append object view own) = round_still c n to tx epoch life dest want k
+      asked Prepare = desk_still c n to tx epoch life dest want k
 
-  still : (c : Client) (n to : ℕ) (first : Message) (dest : ℕ) (message : Message) → IsAsking c dest message
-      → IsAsking (sent_one c n to first) dest message
-  still c n to first dest (messages.Request tx epoch life want) k = asks_still c n to first tx epoch life dest want k
-  still c n to first dest (messages.Answer asked answer) k = tt
-  still c n to first dest (messages.Decision tx verdict) k = tt
-  still c n to first dest (messages.Inquiry tx) k = tt
-  still c n to first dest (messages.Ask tx) k = tt
-  still c n to first dest (messages.Close epoch) k = tt
-  still c n to first dest (messages.Install start) k = tt
+      by : (o : Option Requested)
+          → AsksFor decl (option_map_or (λ (q : Requested). client_requested c n to q.want) o c) tx epoch life dest want
+      by None = k
+      by (Some q) = asked q.want
+
+  still : (c : Client) (n to : ℕ) (first : Message) (dest : ℕ) (message : Message) → IsAsking decl c dest message
+      → IsAsking decl (sent_one c n to first) dest message
+  still c n to first dest message = by (request_in message)
+    where
+      by : (o : Option Requested)
+          → MatchOption o (Unit {0}) (λ (q : Requested). AsksFor decl c q.tx q.epoch q.life dest q.want)
+          → MatchOption o (Unit {0})
+          (λ (q : Requested). AsksFor decl (sent_one c n to first) q.tx q.epoch q.life dest q.want)
+      by None k = tt
+      by (Some q) k = asks_still c n to first q.tx q.epoch q.life dest q.want k
 
   all_sent : (w : State) (ms : List Envelope) (a : ℕ) (c : Client) (n : ℕ) (ps : List Posting)
-      → ClientMirrors decl w ms a c → ((p : Posting) → In p ps → IsAsking c p.to p.message)
+      → ClientMirrors decl w ms a c → ((p : Posting) → In p ps → IsAsking decl c p.to p.message)
       → AtNumber ms a n ps → ClientMirrors decl w ms a (sent_all c n ps)
   all_sent w ms a c n [] m asks at = m
   all_sent w ms a c n (p ∷ ps) m asks at =
@@ -190,7 +182,7 @@ module _ (decl : Declaration) where
     pub alive : v.life ≡ w.life
     pub here : ClientMirrors decl v ms a move.client
     pub turn : (p : Posting) → In p move.turn.sends → Backed decl v ms a p.to p.message
-    pub asking : (p : Posting) → In p move.turn.sends → IsAsking move.client p.to p.message
+    pub asking : (p : Posting) → In p move.turn.sends → IsAsking decl move.client p.to p.message
 
   pub client_goes : (w v : State) (net : Net) (a : ℕ) (move : ClientMove) → Mirrors decl w net → is_client decl a ≡ true
       → net.up a ≡ true → ClientGoes w v net.mail a (net.clients a).front.client move

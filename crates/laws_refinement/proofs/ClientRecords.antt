@@ -1,6 +1,7 @@
 -- What a client's records give, with one more: its commit records, and a clock that has passed their stamps.
 use Rattle.std.proofs.Common.{◌≡◌, ◌≤◌, not, Bool, true, false, cond, ◌⊎◌, inl, inr, List, [], ◌∷◌, ◌++◌, Option, Some}
-use Rattle.std.proofs.Common.{None, filter, fold, refl, sym, ap, ◌∙◌, subst, arith}
+use Rattle.std.specs.Option.{option_map_or}
+use Rattle.std.proofs.Common.{◌+◌, max, None, filter, fold, refl, sym, ap, ◌∙◌, subst, arith}
 use Rattle.qc_stamp.specs.declared.stamp.TxId.{TxId}
 use Rattle.qc_stamp.specs.Vocabulary.{same_tx}
 use Rattle.qc_stamp.proofs.Orders.{same_tx_is}
@@ -8,7 +9,7 @@ use Rattle.qc_list.specs.Vocabulary.{In}
 use Rattle.qc_list.proofs.Members.{In-unfiltered}
 use Rattle.qc_entry.specs.declared.record.Commit.{Commit as CommitRecord}
 use Rattle.qc_msg.specs.declared.record.Record.{Record}
-use Rattle.qc_msg.specs.declared.record.Record.TheVariants as records
+use Rattle.qc_msg.specs.Vocabulary.{commit_of, is_life}
 use Rattle.theory_onecopy.proofs.Lists.{in_split}
 use Rattle.theory_machine.proofs.Names.{tx_test}
 use Rattle.qc_commit.specs.Vocabulary.{record_of}
@@ -30,22 +31,28 @@ abbrev pub ArePassed : Kept → Type 0
 ArePassed k = (r : CommitRecord) → In r k.commits → r.stamp.clock ≤ k.clock
 
 pub passes_one : (k : Kept) (r : Record) → ArePassed k → ArePassed (keeps k r)
-passes_one k records.Life p = p
-passes_one k (records.Prepare x) p = p
-passes_one k (records.Done tx clock) p = p
-passes_one k (records.Close epoch) p = p
-passes_one k (records.Install start) p = p
-passes_one k (records.Commit c) p = λ r among. elim
-    (in_split r (filter (λ (x : CommitRecord). not (same_tx x.tx c.tx)) k.commits) (c ∷ []) among) [
-      | inl old ↦ (let l : r.stamp.clock ≤ k.clock =
-          p r (In-unfiltered (λ (x : CommitRecord). not (same_tx x.tx c.tx)) r k.commits old) in omega arith)
-      | inr new ↦ elim new [
-        | inl same ↦ (let e : r.stamp.clock ≡ c.stamp.clock =
-            ap (λ (x : CommitRecord). x.stamp.clock) same in omega arith)
-        | inr never ↦ absurd never
-      ]
-    ]
-passes_one k (records.Decide start) p = p
+passes_one k r p = by (is_life r) (commit_of r)
+  where
+    with_it : (c x : CommitRecord)
+        → In x (filter (λ (y : CommitRecord). not (same_tx y.tx c.tx)) k.commits ++ c ∷ [])
+        → x.stamp.clock ≤ max k.clock c.stamp.clock
+    with_it c x among = elim
+        (in_split x (filter (λ (y : CommitRecord). not (same_tx y.tx c.tx)) k.commits) (c ∷ []) among) [
+          | inl old ↦ (let l : x.stamp.clock ≤ k.clock =
+              p x (In-unfiltered (λ (y : CommitRecord). not (same_tx y.tx c.tx)) x k.commits old) in omega arith)
+          | inr new ↦ elim new [
+            | inl same ↦ (let e : x.stamp.clock ≡ c.stamp.clock =
+                ap (λ (y : CommitRecord). y.stamp.clock) same in omega arith)
+            | inr never ↦ absurd never
+          ]
+        ]
+
+    by : (b : Bool) (o : Option CommitRecord)
+        → ArePassed (cond b (record k { life = k.life + 1 }) (option_map_or
+        (λ (c : CommitRecord). record k { commits = with_commit k.commits c; clock = max k.clock c.stamp.clock }) o k))
+    by true o = p
+    by false None = p
+    by false (Some c) = with_it c
 
 pub passes_all : (k : Kept) (rs : List Record) → ArePassed k → ArePassed (fold keeps k rs)
 passes_all k [] p = p

@@ -28,6 +28,7 @@ use Rattle.laws_refinement.proofs.ClientEnding.{mid_abort, mid_commit}
 use Rattle.laws_refinement.proofs.ClientSteps.{Mid, mid_first, mid_more, put_tx_other}
 use Rattle.laws_refinement.proofs.Kepts.{client_place}
 use Rattle.laws_refinement.proofs.Machine.{put_other}
+use Rattle.laws_refinement.proofs.PendingCases.{client_pends}
 use Rattle.laws_refinement.proofs.SiteNets.{place}
 use Rattle.laws_refinement.proofs.Nets.{Settles, client_net}
 use Rattle.laws_refinement.proofs.ClientRecords.{client_kept_more, find_some, found_with, passes_one}
@@ -68,8 +69,12 @@ module _ (decl : Declaration) (planned : IsPlanned decl 1) where
           → back ≡ None → Stood
       not_stood r f none = record {
         acts = Abort r.tx ∷ h.acts;
-        mid = mid_abort decl (state h.acts) h.acts (a - decl.sites) (mid_first decl h.acts (a - decl.sites) h.run) r.tx f.pends.1 (subst IsLive (sym f.pends.0.voting) tt);
-        fallen = subst (λ (o : Option Record). FallenMirrors (state (Abort r.tx ∷ h.acts)) (a - decl.sites) (kept_by (net.records a ++ option_to_list o)) None) (sym none)
+        mid =
+            mid_abort decl (state h.acts) h.acts (a - decl.sites) (mid_first decl h.acts (a - decl.sites) h.run) r.tx
+            f.pends.1 (subst IsLive (sym f.pends.0.voting) tt);
+        fallen =
+            subst (λ (o : Option Record). FallenMirrors (state (Abort r.tx ∷ h.acts)) (a - decl.sites)
+            (kept_by (net.records a ++ option_to_list o)) None) (sym none)
             (subst (λ (rs : List Record). FallenMirrors (state (Abort r.tx ∷ h.acts)) (a - decl.sites) (kept_by rs) None) (sym (append-nil (net.records a))) (record {
               to_come = λ t its later. other_status t (λ same. unborn t its later (ap (state h.acts).status same ∙ f.pends.0.voting)) ∙ f.to_come t its later;
               committed = λ x among. ((f.committed x among).0, other_status x.tx (λ same. (let e : Committed x ≡ Voting = sym (f.committed x among).1 ∙ ap (state h.acts).status same ∙ f.pends.0.voting in let never : ⊥ = cc in never)) ∙ (f.committed x among).1);
@@ -152,17 +157,12 @@ module _ (decl : Declaration) (planned : IsPlanned decl 1) where
           next_life v k f = record { to_come = λ t its later. f.to_come t its (omega arith); committed = f.committed; passed = f.passed; ended = f.ended; pends = tt }
 
       stood : Stood
-      stood = by (net.pending a) refl (h.agrees.fallen a client down)
-        where
-          by : (o : Option Record) → net.pending a ≡ o → FallenMirrors (state h.acts) (a - decl.sites) (kept_by (net.records a)) o → Stood
-          by None is f = nothing_new None f (λ t never. never) (elim given [ inl none ↦ none | inr same ↦ same ∙ is ])
-          by (Some records.Life) is f = elim given [ inl none ↦ nothing_new (Some records.Life) f (λ t never. never) none | inr same ↦ a_life f (same ∙ is) ]
-          by (Some (records.Prepare p)) is f = absurd f.pends
-          by (Some (records.Done tx clock)) is f = absurd f.pends
-          by (Some (records.Close epoch)) is f = absurd f.pends
-          by (Some (records.Install start)) is f = absurd f.pends
-          by (Some (records.Commit r)) is f = elim given [ inl none ↦ not_stood r f none | inr same ↦ stands_so r f (same ∙ is) ]
-          by (Some (records.Decide start)) is f = absurd f.pends
+      stood = client_pends (state h.acts) (a - decl.sites) (λ (o : Option Record). net.pending a ≡ o
+          → FallenMirrors (state h.acts) (a - decl.sites) (kept_by (net.records a)) o → Stood)
+          (λ is f. nothing_new None f (λ t h. h) (elim given [ inl none ↦ none | inr same ↦ same ∙ is ]))
+          (λ is f. elim given [ inl n ↦ nothing_new (Some records.Life) f (λ t h. h) n | inr e ↦ a_life f (e ∙ is) ])
+          (λ r may is f. elim given [ inl none ↦ not_stood r f none | inr same ↦ stands_so r f (same ∙ is) ])
+          (net.pending a) fallen.pends refl fallen
 
       -- what is written is the machine's
       settles : (acts : List Act) → IsRun decl acts → (next : Net) → next.written ≡ net.written ++ commits_in back → (state acts).records ≡ commits_in back ++ (state h.acts).records → ((t : TxId) (r : CommitRecord) → t.client ≢ a - decl.sites → (state acts).status t ≡ (state h.acts).status t) → Settles decl (state acts) next

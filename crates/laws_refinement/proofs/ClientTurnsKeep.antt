@@ -1,12 +1,11 @@
 -- A client's turn writes nothing, or one commit record that its desk then has.
-use Rattle.std.proofs.Common.{[], ◌≡◌, ℕ, ◌+◌, ◌-◌, ◌==◌, Bool, true, false, cond, List, ◌∷◌, ◌++◌, Option, Some, None}
+use Rattle.std.proofs.Common.{[], ◌≡◌, ℕ, ◌==◌, Bool, true, false, cond, List, ◌∷◌, ◌++◌, Option, Some, None}
 use Rattle.std.proofs.Common.{is_some, length, map, refl, sym, subst}
 use Rattle.qc_entry.specs.declared.record.Commit.{Commit as CommitRecord}
 use Rattle.qc_decl.specs.declared.declaration.Declaration.{Declaration}
 use Rattle.qc_msg.specs.declared.begun.Begun.{Begun}
 use Rattle.qc_msg.specs.declared.message.Answer.{Answer}
 use Rattle.qc_msg.specs.declared.message.Message.{Message}
-use Rattle.qc_msg.specs.declared.message.Message.TheVariants as messages
 use Rattle.qc_msg.specs.declared.record.Record.{Record}
 use Rattle.qc_msg.specs.declared.record.Record.TheVariants as records
 use Rattle.qc_msg.specs.declared.reply.AbortCause.{AbortCause}
@@ -27,6 +26,7 @@ use Rattle.qc_front.specs.Vocabulary.{FrontMove, ended}
 use Rattle.qc_client.specs.Vocabulary.{ClientMove, answered_by, by_desk, by_front, called, client_takes, commits, heard}
 use Rattle.qc_client.specs.declared.client.Client.{Client}
 use Rattle.qc_front.proofs.Unwritten.{IsCalm, front_called, front_takes}
+use Rattle.laws_refinement.proofs.ClientCases.{called_cases, heard_cases}
 
 -- a turn writes nothing, or one commit record that its desk then has
 pub data IsKept (before after : List CommitRecord) : Option Record → Type 0 where
@@ -135,17 +135,10 @@ module _ (decl : Declaration) where
           (prepare_keeps c.desk t.begun c.front.clock.value)
 
   call_keeps : (c : Client) (command : Command) → Keeping c (called decl c command)
-  call_keeps c commands.Begin =
-      front_keeps c (fronts.called decl c.front commands.Begin) (front_called decl c.front commands.Begin)
-  call_keeps c (commands.Do object inv) =
-      front_keeps c (fronts.called decl c.front (commands.Do object inv))
-      (front_called decl c.front (commands.Do object inv))
-  call_keeps c commands.Commit = commit_keeps c c.front.transaction
-  call_keeps c commands.Abort =
-      front_keeps c (fronts.called decl c.front commands.Abort) (front_called decl c.front commands.Abort)
-  call_keeps c (commands.Epoch number) =
-      front_keeps c (fronts.called decl c.front (commands.Epoch number))
-      (front_called decl c.front (commands.Epoch number))
+  call_keeps c =
+      called_cases decl c (Keeping c)
+      (λ command. front_keeps c (fronts.called decl c.front command) (front_called decl c.front command))
+      (commit_keeps c c.front.transaction)
 
   answer_keeps : (c : Client) (o : Option Voting) (number : ℕ) (answer : Option Answer)
       → Keeping c (answered_by decl c o number answer)
@@ -155,13 +148,11 @@ module _ (decl : Declaration) where
       desk_keeps c (desks.vote c.desk number answer) (vote_keeps c.desk number answer)
 
   hear_keeps : (c : Client) (from number : ℕ) (message : Message) → Keeping c (heard decl c from number message)
-  hear_keeps c from number (messages.Request tx epoch life want) = record { life = refl; kept = nothing refl }
-  hear_keeps c from number (messages.Answer to answer) = answer_keeps c c.desk.voting to (Some answer)
-  hear_keeps c from number (messages.Decision tx verdict) = record { life = refl; kept = nothing refl }
-  hear_keeps c from number (messages.Inquiry tx) = record { life = refl; kept = nothing refl }
-  hear_keeps c from number (messages.Ask tx) = record { life = refl; kept = nothing refl }
-  hear_keeps c from number (messages.Close epoch) = record { life = refl; kept = nothing refl }
-  hear_keeps c from number (messages.Install start) = record { life = refl; kept = nothing refl }
+  hear_keeps c from number =
+      heard_cases decl c from number (λ message move. Keeping c move)
+      (λ message. record { life = refl; kept = nothing refl })
+      (λ to answer. answer_keeps c c.desk.voting to (Some answer))
+      (λ tx. record { life = refl; kept = nothing refl }) (λ tx. record { life = refl; kept = nothing refl })
 
   pub take_keeps : (c : Client) (given : Input) → Keeping c (client_takes decl c given)
   take_keeps c (Called command) = call_keeps c command

@@ -191,13 +191,11 @@ module _ (decl : Declaration) (accepted : IsAccepted decl) (acts : List Act) (ne
                 (v.deeds a)) (sym (put_here (state acts).life a (suc ((state acts).life a))))
                 (subst (λ (ds : List Deed). KeptMirrors decl (kept_by (net.records a ++ records.Close k ∷ []))
                     (state acts).status (suc ((state acts).life a)) ds) (sym (put_here (state acts).deeds a more))
-                (subst (λ (x : Kept). KeptMirrors decl x (state acts).status (suc ((state acts).life a))
-                    ((state acts).deeds a ++ Closes ∷ [])) (sym (kept_more (net.records a) (records.Close k)))
+                (subst (λ (x : Kept). KeptMirrors decl x (state acts).status (suc ((state acts).life a)) ((state acts).deeds a ++ Closes ∷ [])) (sym (kept_more (net.records a) (records.Close k)))
                 (kept_closes decl (kept_by (net.records a)) (state acts).status ((state acts).life a) ((state acts).deeds a) k (m.kept a site) (next ∙ ap (λ (n : ℕ). suc n) (epoch_kept a site up), planned))));
             alike = subst (λ (x : Kept). IsKeptBy (closed (net.sites a) k) x) (sym (kept_more (net.records a) (records.Close k))) (record { began = (m.alike a site up).began; recorded = (m.alike a site up).recorded; promises = (m.alike a site up).promises });
             here = subst (λ (n : ℕ). SiteMirrors decl (closed (net.sites a) k) (v.deeds a) n) (sym (put_here (state acts).life a (suc ((state acts).life a))))
-                (subst (λ (ds : List Deed). SiteMirrors decl (closed (net.sites a) k) ds (suc ((state acts).life a)))
-                    (sym (put_here (state acts).deeds a more)) here);
+                (subst (λ (ds : List Deed). SiteMirrors decl (closed (net.sites a) k) ds (suc ((state acts).life a))) (sym (put_here (state acts).deeds a more)) here);
             there = λ b other. put_other (state acts).deeds a more b other;
             alive = λ b other. put_other (state acts).life a (suc ((state acts).life a)) b other;
             holders = holders;

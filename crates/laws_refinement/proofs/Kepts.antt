@@ -1,5 +1,5 @@
 -- What agrees with the records of an actor stays so as others act.
-use Rattle.std.proofs.Common.{◌≡◌, ◌≤◌, ◌<◌, ◌+◌, ℕ, ◌-◌, true, inl, inr, List, Option, Some, None, map, sym, ap, ◌∙◌}
+use Rattle.std.proofs.Common.{◌≡◌, ◌≤◌, ◌<◌, ◌+◌, ℕ, ◌-◌, true, inl, inr, List, Option, map, sym, ap, ◌∙◌}
 use Rattle.std.proofs.Common.{subst, arith}
 use Rattle.std.proofs.lemmas.Bool.{ltb-true}
 use Rattle.qc_decl.proofs.Clients.{client_below, client_past}
@@ -8,7 +8,6 @@ use Rattle.qc_entry.specs.declared.record.Commit.{Commit as CommitRecord}
 use Rattle.qc_decl.specs.declared.declaration.Declaration.{Declaration}
 use Rattle.qc_decl.specs.Vocabulary.{administrator, client_actor, is_client, is_site}
 use Rattle.qc_msg.specs.declared.record.Record.{Record}
-use Rattle.qc_msg.specs.declared.record.Record.TheVariants as records
 use Rattle.theory_onecopy.specs.Vocabulary.{Executed}
 use Rattle.theory_machine.specs.Vocabulary.{Deed, MayCommit, State, op_of}
 use Rattle.qc_recover.specs.Clients as clients
@@ -17,6 +16,7 @@ use Rattle.laws_refinement.specs.Vocabulary.{FallenMirrors, IsPendingAt, IsPendi
 use Rattle.laws_refinement.specs.Vocabulary.{RulesMirror}
 use Rattle.laws_refinement.proofs.MessagesStay.{Keeps, Later, decided_later, decision_later}
 use Rattle.laws_refinement.proofs.LaterDecisions.{decisions_may_wait}
+use Rattle.laws_refinement.proofs.PendingCases.{admin_pends, client_pends, site_pends}
 use Rattle.qc_msg.specs.declared.payload.EpochStart.{EpochStart}
 
 -- no site is a client
@@ -49,31 +49,22 @@ kept_later decl w v k life ds l m = record {
 
 pub pends_later : (decl : Declaration) (w v : State) (k : Kept) (ds : List Deed) (o : Option Record) → Later w v
     → IsPendingAt decl w k ds o → IsPendingAt decl v k ds o
-pends_later decl w v k ds None l h = tt
-pends_later decl w v k ds (Some records.Life) l h = tt
-pends_later decl w v k ds (Some (records.Prepare p)) l h =
-    record {
+pends_later decl w v k ds o l =
+    site_pends decl w k ds (IsPendingAt decl v k ds) tt tt (λ p h. record {
       asked = l.asked p.tx h.asked;
       fresh = h.fresh;
       same = h.same;
       whole = h.whole;
       lines = h.lines;
       ascends = h.ascends;
-    }
-pends_later decl w v k ds (Some (records.Done tx clock)) l h =
-    record {
+    }) (λ tx clock h. record {
       told = l.verdicts _ h.told;
       promise = h.promise;
       promised = h.promised;
       prepared = h.prepared;
       kept = h.kept;
       same = h.same;
-    }
-pends_later decl w v k ds (Some (records.Close epoch)) l h = h
-pends_later decl w v k ds (Some (records.Install start)) l h =
-    (decided_later decl w v l start.epoch start.clock start.lines h.0, h.1)
-pends_later decl w v k ds (Some (records.Commit commit)) l h = h
-pends_later decl w v k ds (Some (records.Decide start)) l h = h
+    }) (λ epoch h. h) (λ start h. (decided_later decl w v l start.epoch start.clock start.lines h.0, h.1)) o
 
 may_keeps : (w v : State) (n : ℕ) (r : CommitRecord) → r.tx.client ≡ n → Keeps w v n → MayCommit w r → MayCommit v r
 may_keeps w v n r its k m = record {
@@ -87,14 +78,8 @@ may_keeps w v n r its k m = record {
 }
 
 pending_keeps : (w v : State) (n : ℕ) (o : Option Record) → Keeps w v n → IsPendingBy w n o → IsPendingBy v n o
-pending_keeps w v n None k h = tt
-pending_keeps w v n (Some records.Life) k h = tt
-pending_keeps w v n (Some (records.Prepare p)) k h = h
-pending_keeps w v n (Some (records.Done tx clock)) k h = h
-pending_keeps w v n (Some (records.Close epoch)) k h = h
-pending_keeps w v n (Some (records.Install start)) k h = h
-pending_keeps w v n (Some (records.Commit r)) k h = (may_keeps w v n r h.1 k h.0, h.1)
-pending_keeps w v n (Some (records.Decide start)) k h = h
+pending_keeps w v n o k =
+    client_pends w n (IsPendingBy v n) tt tt (λ r h. (may_keeps w v n r h.1 k h.0, h.1)) o
 
 pub fallen_keeps : (w v : State) (n : ℕ) (k : clients.Kept) (o : Option Record) → Keeps w v n → FallenMirrors w n k o
     → FallenMirrors v n k o
@@ -131,19 +116,13 @@ rules_later decl w v k l m = record {
 
 pub ruling_later : (decl : Declaration) (w v : State) (o : Option Record) → Later w v → IsPendingRule decl w o
     → IsPendingRule decl v o
-ruling_later decl w v None l h = tt
-ruling_later decl w v (Some records.Life) l h = tt
-ruling_later decl w v (Some (records.Prepare p)) l h = h
-ruling_later decl w v (Some (records.Done tx clock)) l h = h
-ruling_later decl w v (Some (records.Close epoch)) l h = h
-ruling_later decl w v (Some (records.Install start)) l h = h
-ruling_later decl w v (Some (records.Commit commit)) l h = h
-ruling_later decl w v (Some (records.Decide start)) l h = record {
-  decision = h.decision;
-  may = decisions_may_wait decl w v h.decision l.snapshots l.verdicts h.may;
-  epoch_is = h.epoch_is;
-  clock_is = h.clock_is;
-  log_is = h.log_is;
-  sorted = h.sorted;
-  planned = h.planned;
-}
+ruling_later decl w v o l =
+    admin_pends decl w (IsPendingRule decl v) tt tt (λ start h. record {
+      decision = h.decision;
+      may = decisions_may_wait decl w v h.decision l.snapshots l.verdicts h.may;
+      epoch_is = h.epoch_is;
+      clock_is = h.clock_is;
+      log_is = h.log_is;
+      sorted = h.sorted;
+      planned = h.planned;
+    }) o

@@ -23,6 +23,7 @@ use Rattle.qc_recover.specs.Vocabulary.{Kept, keeps, kept_by, nothing_kept}
 use Rattle.laws_refinement.specs.Vocabulary.{Net, Reaches, Step}
 use Rattle.laws_refinement.specs.Net as nets
 use Rattle.laws_refinement.proofs.Machine.{put_other}
+use Rattle.laws_refinement.proofs.PendingCases.{kept_cases}
 use Rattle.laws_refinement.proofs.SiteNets.{place}
 use Rattle.laws_refinement.proofs.SiteVotes.{no_fault, one_answer}
 use Rattle.laws_refinement.specs.Steps as steps
@@ -30,13 +31,9 @@ use Rattle.laws_refinement.specs.Steps as steps
 -- lives only grow
 
 life_one : (k : Kept) (r : Record) → k.life ≤ (keeps k r).life
-life_one k records.Life = omega arith
-life_one k (records.Prepare p) = omega arith
-life_one k (records.Done tx clock) = omega arith
-life_one k (records.Close epoch) = omega arith
-life_one k (records.Install start) = omega arith
-life_one k (records.Commit commit) = omega arith
-life_one k (records.Decide start) = omega arith
+life_one k =
+    kept_cases k (λ r next. k.life ≤ next.life) (omega arith) (λ p. omega arith) (λ tx clock. omega arith)
+    (λ epoch. omega arith) (λ start. omega arith) (λ r. omega arith)
 
 life_more : (k : Kept) (rs : List Record) → k.life ≤ (fold keeps k rs).life
 life_more k [] = omega arith

@@ -11,7 +11,6 @@ use Rattle.qc_entry.specs.declared.line.Line.{Line}
 use Rattle.qc_entry.specs.declared.record.Prepared.{Prepared}
 use Rattle.qc_decl.specs.declared.declaration.Declaration.{Declaration}
 use Rattle.qc_msg.specs.declared.message.Answer.{Answer}
-use Rattle.qc_msg.specs.declared.message.Answer.TheVariants as answers
 use Rattle.qc_msg.specs.declared.message.Envelope.{Envelope}
 use Rattle.qc_msg.specs.declared.message.Message.{Message}
 use Rattle.qc_msg.specs.declared.message.Message.TheVariants as messages
@@ -23,7 +22,9 @@ use Rattle.qc_decl.specs.Vocabulary.{client_actor}
 use Rattle.qc_epoch.specs.Vocabulary.{Admin, Asking, Doing, Installing, Question, Resting, ShutSite}
 use Rattle.qc_msg.specs.declared.payload.EpochStart.{EpochStart}
 use Rattle.qc_epoch.specs.Admin as admins
+use Rattle.laws_refinement.proofs.AnswerCases.{answer_cases}
 use Rattle.laws_refinement.proofs.Machine.{slice_get-append}
+use Rattle.laws_refinement.proofs.OpenRequests.{AnswerBacked}
 
 -- all that was sent, granted, voted, announced, told and decided stays so; what was begun stays so, in its epoch; what
 -- was sent Prepare stays so, and no more is counted of it
@@ -189,37 +190,30 @@ module _ (decl : Declaration) (w v : State) (l : Later w v) where
 
   answer_later : (ms more : List Envelope) (from n : ℕ) (answer : Answer) → IsAnswerBacked decl w ms from n answer
       → IsAnswerBacked decl v (ms ++ more) from n answer
-  answer_later ms more from n (answers.Granted grant_here) b = record {
-    tx = b.tx;
-    want = b.want;
-    begun = l.born b.tx b.begun;
-    epoch = b.epoch;
-    named = b.named;
-    request = message_later ms more n from (messages.Request b.tx b.epoch b.named b.want) b.request;
-    lived = b.lived;
-    grant = grant_later from grant_here.life grant_here.clock grant_here.log b.tx b.want b.begun b.grant;
-  }
-  answer_later ms more from n (answers.Clash holder inv event) b = tt
-  answer_later ms more from n (answers.Closed epoch) b = b
-  answer_later ms more from n (answers.Behind epoch) b = tt
-  answer_later ms more from n (answers.Restarted life) b = tt
-  answer_later ms more from n answers.Stale b = tt
-  answer_later ms more from n answers.Fault b = tt
-  answer_later ms more from n (answers.Yes clock) b =
-      record { tx = b.tx; request = request_later ms more n from b.tx Prepare b.request; vote = l.votes _ b.vote }
-  answer_later ms more from n (answers.Shut snapshot) b =
-      record {
+  answer_later ms more from n answer =
+      answer_cases (λ x grant closed promised shut verdict. AnswerBacked decl w ms from n x
+      → AnswerBacked decl v (ms ++ more) from n x) (λ g b. record {
+        tx = b.tx;
+        want = b.want;
+        begun = l.born b.tx b.begun;
+        epoch = b.epoch;
+        named = b.named;
+        request = message_later ms more n from (messages.Request b.tx b.epoch b.named b.want) b.request;
+        lived = b.lived;
+        grant = grant_later from g.life g.clock g.log b.tx b.want b.begun b.grant;
+      }) (λ epoch b. b) (λ clock b. record {
+        tx = b.tx;
+        request = request_later ms more n from b.tx Prepare b.request;
+        vote = l.votes _ b.vote;
+      }) (λ snapshot b. record {
         epoch = b.epoch;
         asked = message_later ms more n from (messages.Close b.epoch) b.asked;
         told = snapshot_later from b.epoch snapshot.clock snapshot.log snapshot.prepared b.told;
-      }
-  answer_later ms more from n answers.Installed b = tt
-  answer_later ms more from n (answers.Answered verdict) b =
-      record {
+      }) (λ verdict b. record {
         tx = b.tx;
         asked = message_later ms more n from (messages.Ask b.tx) b.asked;
         backed = verdict_later b.tx verdict b.backed;
-      }
+      }) (λ x plain b. plain.backed decl v (ms ++ more) from n) (Some answer)
 
   pub backed_later : (ms more : List Envelope) (from to : ℕ) (message : Message) → Backed decl w ms from to message
       → Backed decl v (ms ++ more) from to message

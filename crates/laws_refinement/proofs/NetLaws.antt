@@ -1,16 +1,21 @@
 -- The laws of the machine, of every net that may come about.
-use Rattle.std.proofs.Common.{◌≡◌, ◌≤◌, ◌↔◌, ℕ, true, inl, inr, List, [], ◌∷◌, Option, Some, None, refl, sym, subst}
+use Rattle.std.specs.Option.{option_map_or}
+use Rattle.std.proofs.Common.{◌≡◌, ◌≤◌, ◌↔◌, ℕ, true, inl, inr, List, [], ◌∷◌, ◌++◌, Option, Some, None, refl, sym}
+use Rattle.std.proofs.Common.{subst}
 use Rattle.qc_stamp.specs.declared.stamp.Stamp.{Stamp}
 use Rattle.qc_stamp.specs.declared.stamp.TxId.{TxId}
 use Rattle.qc_list.specs.Vocabulary.{In}
-use Rattle.qc_site.specs.Vocabulary.{known}
+use Rattle.qc_site.specs.Vocabulary.{known, view_in}
 use Rattle.qc_entry.specs.declared.line.Line.{Line}
 use Rattle.qc_entry.specs.declared.record.Prepared.{Prepared}
 use Rattle.qc_entry.specs.declared.record.Commit.{Commit as CommitRecord}
 use Rattle.qc_decl.specs.declared.declaration.Declaration.{Declaration}
 use Rattle.qc_decl.specs.Vocabulary.{IsAccepted, is_site}
 use Rattle.qc_msg.specs.declared.message.Answer.{Answer}
-use Rattle.qc_msg.specs.declared.message.Answer.TheVariants as answers
+use Rattle.qc_msg.specs.declared.payload.EpochStart.{EpochStart}
+use Rattle.qc_msg.specs.declared.payload.Grant.{Grant}
+use Rattle.qc_msg.specs.declared.payload.Snapshot.{Snapshot}
+use Rattle.qc_msg.specs.Vocabulary.{Answered, Requested}
 use Rattle.qc_msg.specs.declared.message.Envelope.{Envelope}
 use Rattle.qc_msg.specs.declared.message.Message.{Message}
 use Rattle.qc_msg.specs.declared.message.Message.TheVariants as messages
@@ -27,7 +32,11 @@ use Rattle.theory_machine.specs.Vocabulary.{OfSite, OfSnapshot, site_after, stat
 use Rattle.theory_machine.proofs.ClaimLaws as claims
 use Rattle.theory_machine.proofs.OneCopyLaw.{records_in_order_are_one_copy}
 use Rattle.laws_refinement.specs.Vocabulary.{Backed, IsDecided, IsSnapshot, IsTrueVerdict, Net, Reaches, Refines}
+use Rattle.laws_refinement.specs.Lines.{lines_answered}
 use Rattle.laws_refinement.specs.Vocabulary.{lines_in, lines_promised, own_items}
+use Rattle.laws_refinement.proofs.AnswerCases.{answer_cases}
+use Rattle.laws_refinement.proofs.MessageCases.{message_cases}
+use Rattle.laws_refinement.proofs.OpenRequests.{AnswerBacked}
 use Rattle.laws_refinement.proofs.Refining.{nets_refine}
 
 of_promise : (l : Line) (ps : List Prepared) → In l (lines_promised ps) → (p : Prepared) × In p ps × In l p.lines
@@ -115,26 +124,21 @@ module _ (decl : Declaration) (accepted : IsAccepted decl) (net : Net) (reached 
   answer_lines : (from number : ℕ) (answer : Answer) (l : Line)
       → Backed decl (state mirrored.acts) net.mail from from (messages.Answer number answer)
       → In l (lines_in (messages.Answer number answer)) → IsLogged decl net.written l
-  answer_lines from number (answers.Granted grant_here) l b among =
-      logged l (claims.logs_hold_operations decl accepted mirrored.acts mirrored.run
-      (site_after b.grant.grant.before).volatile (OfGrant b.grant.grant b.grant.given refl) l
-      (b.grant.lines l among))
-  answer_lines from number (answers.Clash holder inv event) l b among = absurd among
-  answer_lines from number (answers.Closed epoch) l b among = absurd among
-  answer_lines from number (answers.Behind epoch) l b among = absurd among
-  answer_lines from number (answers.Restarted life) l b among = absurd among
-  answer_lines from number answers.Stale l b among = absurd among
-  answer_lines from number answers.Fault l b among = absurd among
-  answer_lines from number (answers.Yes clock) l b among = absurd among
-  answer_lines from number (answers.Shut snapshot) l b among =
-      elim (in_split l snapshot.log (lines_promised snapshot.prepared) among) [
+  answer_lines from number answer l =
+      answer_cases (λ x grant closed promised shut verdict.
+      AnswerBacked decl (state mirrored.acts) net.mail from number x → In l (option_map_or (λ (g : Grant). g.log) grant
+      (option_map_or (λ (z : Snapshot). z.log ++ lines_promised z.prepared) shut [])) → IsLogged decl net.written l)
+      (λ grant b among. logged l (claims.logs_hold_operations decl accepted mirrored.acts mirrored.run
+      (site_after b.grant.grant.before).volatile (OfGrant b.grant.grant b.grant.given refl) l (b.grant.lines l among)))
+      (λ epoch b among. absurd among) (λ clock b among. absurd among)
+      (λ snapshot b among. elim (in_split l snapshot.log (lines_promised snapshot.prepared) among) [
         | inl told ↦ snapshot_lines from b.epoch snapshot.clock snapshot.log snapshot.prepared l b.told told
-        | inr brought ↦ (let p : (p : Prepared) × In p snapshot.prepared × In l p.lines = of_promise l snapshot.prepared brought in
+        | inr brought ↦
+            (let p : (p : Prepared) × In p snapshot.prepared × In l p.lines = of_promise l snapshot.prepared brought in
             snapshot_lines from b.epoch snapshot.clock snapshot.log snapshot.prepared l b.told
-                (b.told.lined p.0 p.1 l p.2))
-      ]
-  answer_lines from number answers.Installed l b among = absurd among
-  answer_lines from number (answers.Answered verdict) l b among = absurd among
+            (b.told.lined p.0 p.1 l p.2))
+      ])
+      (λ verdict b among. absurd among) (λ x plain b among. absurd among) (Some answer)
 
   request_lines : (from to : ℕ) (tx : TxId) (epoch life : ℕ) (want : Want) (l : Line)
       → Backed decl (state mirrored.acts) net.mail from to (messages.Request tx epoch life want)
@@ -147,13 +151,14 @@ module _ (decl : Declaration) (accepted : IsAccepted decl) (net : Net) (reached 
 
   lines_of : (from to : ℕ) (message : Message) (l : Line) → Backed decl (state mirrored.acts) net.mail from to message
       → In l (lines_in message) → IsLogged decl net.written l
-  lines_of from to (messages.Request tx epoch life want) l b among = request_lines from to tx epoch life want l b among
-  lines_of from to (messages.Answer number answer) l b among = answer_lines from number answer l b among
-  lines_of from to (messages.Decision tx verdict) l b among = absurd among
-  lines_of from to (messages.Inquiry tx) l b among = absurd among
-  lines_of from to (messages.Ask tx) l b among = absurd among
-  lines_of from to (messages.Close epoch) l b among = absurd among
-  lines_of from to (messages.Install start) l b among = decision_lines start.epoch start.clock start.lines l b among
+  lines_of from to message l =
+      message_cases (λ x q a v start. Backed decl (state mirrored.acts) net.mail from to x
+      → In l (option_map_or (λ (r : Requested). view_in r.want) q
+      (option_map_or (λ (y : Answered). lines_answered y.answer) a
+      (option_map_or (λ (i : EpochStart). i.lines) start []))) → IsLogged decl net.written l)
+      (λ q. request_lines from to q.tx q.epoch q.life q.want l) (λ a. answer_lines from a.to a.answer l)
+      (λ v b among. absurd among) (λ start. decision_lines start.epoch start.clock start.lines l)
+      (λ x b among. absurd among) message
 
   pub message_lines : (e : Envelope) (l : Line) → In e net.mail → In l (lines_in e.message)
       → IsLogged decl net.written l

@@ -1,5 +1,6 @@
 -- A record that was being written as its site fell, and stays: what the machine does for it as the site rises.
-use Rattle.std.proofs.Common.{[], ◌≡◌, ◌<◌, ℕ, suc, arith, true, List, ◌∷◌, ◌++◌, Option, Some, None, refl, sym, subst}
+use Rattle.std.specs.Prelude.{MatchOption}
+use Rattle.std.proofs.Common.{[], ◌≡◌, ◌<◌, ℕ, suc, arith, true, List, ◌∷◌, ◌++◌, Option, Some, refl, sym, subst}
 use Rattle.qc_stamp.specs.declared.stamp.TxId.{TxId}
 use Rattle.qc_list.specs.Vocabulary.{In}
 use Rattle.qc_entry.specs.declared.record.Prepared.{Prepared}
@@ -19,6 +20,7 @@ use Rattle.laws_refinement.proofs.BothPromises.{deed_is}
 use Rattle.laws_refinement.proofs.KeptDeeds.{kept_prepares}
 use Rattle.laws_refinement.proofs.KeptSteps.{kept_closes, kept_installs, kept_finishes, kept_rises}
 use Rattle.laws_refinement.proofs.Machine.{put_other}
+use Rattle.laws_refinement.proofs.PendingCases.{site_pends}
 use Rattle.laws_refinement.proofs.PendingRecords.{SiteMid}
 
 module _ (decl : Declaration) where
@@ -272,22 +274,15 @@ module _ (decl : Declaration) where
     pub pending_act : (k : Kept) (r : Record)
         → KeptMirrors decl k (state acts).status ((state acts).life a) ((state acts).deeds a)
         → IsPendingAt decl (state acts) k ((state acts).deeds a) (Some r) → SiteMid decl (state acts) a (keeps k r)
-    pending_act k records.Life m h = rises_act k m
-    pending_act k (records.Prepare p) m h = prepares_act k p m h
-    pending_act k (records.Done tx clock) m h = finishes_act k tx clock m h
-    pending_act k (records.Close epoch) m h = closes_act k epoch m h
-    pending_act k (records.Install start) m h = installs_act k start.epoch start.clock start.lines m h
-    pending_act k (records.Commit commit) m h = absurd h
-    pending_act k (records.Decide start) m h = absurd h
+    pending_act k r m =
+        site_pends decl (state acts) k ((state acts).deeds a)
+        (λ (o : Option Record). MatchOption o (Unit {0}) (λ (x : Record). SiteMid decl (state acts) a (keeps k x))) tt
+        (rises_act k m) (λ p h. prepares_act k p m h) (λ tx clock h. finishes_act k tx clock m h)
+        (λ epoch h. closes_act k epoch m h) (λ start h. installs_act k start.epoch start.clock start.lines m h) (Some r)
 
   -- no commit record is a site's
   pub unwritten : (w : State) (k : Kept) (ds : List Deed) (o : Option Record) → IsPendingAt decl w k ds o
       → commits_in o ≡ []
-  unwritten w k ds None h = refl
-  unwritten w k ds (Some records.Life) h = refl
-  unwritten w k ds (Some (records.Prepare p)) h = refl
-  unwritten w k ds (Some (records.Done tx clock)) h = refl
-  unwritten w k ds (Some (records.Close epoch)) h = refl
-  unwritten w k ds (Some (records.Install start)) h = refl
-  unwritten w k ds (Some (records.Commit commit)) h = absurd h
-  unwritten w k ds (Some (records.Decide start)) h = absurd h
+  unwritten w k ds =
+      site_pends decl w k ds (λ (o : Option Record). commits_in o ≡ []) refl refl (λ p h. refl) (λ tx clock h. refl)
+      (λ epoch h. refl) (λ start h. refl)

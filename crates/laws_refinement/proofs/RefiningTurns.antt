@@ -28,6 +28,7 @@ use Rattle.qc_msg.specs.declared.record.Record.{Record}
 use Rattle.qc_front.specs.Vocabulary.{FrontMove}
 use Rattle.laws_refinement.proofs.ClientEnds.{Pends}
 use Rattle.qc_front.proofs.Unwritten.{IsCalm, front_called, front_takes}
+use Rattle.laws_refinement.proofs.ClientCases.{called_cases, heard_cases}
 use Rattle.qc_msg.specs.declared.message.Message.TheVariants as messages
 use Rattle.qc_msg.specs.declared.step.Command.TheVariants as commands
 use Rattle.qc_front.specs.Front as fronts
@@ -80,18 +81,17 @@ module _ (decl : Declaration) (accepted : IsAccepted decl) where
 
         by : (message : Message) → e.message ≡ message
             → Refines decl (after_client net a (heard decl (net.clients a) e.from e.number message))
-        by (messages.Request tx epoch life want) same = nothing_done
-        by (messages.Answer n answer) same =
-            answer_case e.from n (Some answer) (back (messages.Answer n answer) same) (net.clients a).desk.voting refl
-        by (messages.Decision tx verdict) same = nothing_done
-        by (messages.Inquiry tx) same =
-            inquiry_case decl acts net a run m client up e.from tx (sym came.1 ∙ (back (messages.Inquiry tx) same).0)
-            (back (messages.Inquiry tx) same).1
-        by (messages.Ask tx) same =
-            ask_case decl acts net a run m client up e.from e.number tx (e, m.numbered e came.0, came.1, same)
-            (sym came.1 ∙ (back (messages.Ask tx) same).0) (back (messages.Ask tx) same).1
-        by (messages.Close epoch) same = nothing_done
-        by (messages.Install start) same = nothing_done
+        by =
+            heard_cases decl (net.clients a) e.from e.number
+            (λ message move. e.message ≡ message → Refines decl (after_client net a move))
+            (λ message same. nothing_done)
+            (λ n answer same. answer_case e.from n (Some answer) (back (messages.Answer n answer) same)
+            (net.clients a).desk.voting refl)
+            (λ tx same. inquiry_case decl acts net a run m client up e.from tx
+            (sym came.1 ∙ (back (messages.Inquiry tx) same).0) (back (messages.Inquiry tx) same).1)
+            (λ tx same. ask_case decl acts net a run m client up e.from e.number tx
+            (e, m.numbered e came.0, came.1, same) (sym came.1 ∙ (back (messages.Ask tx) same).0)
+            (back (messages.Ask tx) same).1)
 
   -- at the beginning
   pub at_first : IsPlanned decl 1 → Mirrors decl (state []) (first_net decl)
@@ -204,25 +204,19 @@ module _ (decl : Declaration) (accepted : IsAccepted decl) where
 
     pub take_fails : (given : Input) → MayCome net a given → MayCommand decl (net.clients a) given
         → Failing (client_takes decl (net.clients a) given)
-    take_fails (Called commands.Begin) came ready = calm _ (front_called decl (net.clients a).front commands.Begin)
-    take_fails (Called (commands.Do object inv)) came ready =
-        calm _ (front_called decl (net.clients a).front (commands.Do object inv))
-    take_fails (Called commands.Commit) came ready =
-        commit_fails decl acts net a run m client up ready.0.doing ready.0.voting (net.clients a).front.transaction refl
-    take_fails (Called commands.Abort) came ready = calm _ (front_called decl (net.clients a).front commands.Abort)
-    take_fails (Called (commands.Epoch number)) came ready =
-        calm _ (front_called decl (net.clients a).front (commands.Epoch number))
+    take_fails (Called command) came ready =
+        called_cases decl (net.clients a) Failing (λ c. calm _ (front_called decl (net.clients a).front c))
+        (commit_fails decl acts net a run m client up ready.0.doing ready.0.voting (net.clients a).front.transaction
+        refl) command
     take_fails (Lost number) came ready = answer_fails 0 number None tt (net.clients a).desk.voting refl
     take_fails (Got e) came ready = by e.message refl
       where
         by : (message : Message) → e.message ≡ message → Failing (heard decl (net.clients a) e.from e.number message)
-        by (messages.Answer n answer) same =
-            answer_fails e.from n (Some answer)
+        by =
+            heard_cases decl (net.clients a) e.from e.number (λ message move. e.message ≡ message → Failing move)
+            (λ message same r wrote. absurd (let never : ⊥ = cc in never))
+            (λ n answer same. answer_fails e.from n (Some answer)
             (subst (λ (x : Message). Backed decl (state acts) net.mail e.from e.to x) same (m.mail e came.0))
-            (net.clients a).desk.voting refl
-        by (messages.Request tx epoch life want) same = λ r wrote. absurd (let never : ⊥ = cc in never)
-        by (messages.Decision tx verdict) same = λ r wrote. absurd (let never : ⊥ = cc in never)
-        by (messages.Inquiry tx) same = λ r wrote. absurd (let never : ⊥ = cc in never)
-        by (messages.Ask tx) same = λ r wrote. absurd (let never : ⊥ = cc in never)
-        by (messages.Close epoch) same = λ r wrote. absurd (let never : ⊥ = cc in never)
-        by (messages.Install start) same = λ r wrote. absurd (let never : ⊥ = cc in never)
+            (net.clients a).desk.voting refl)
+            (λ tx same r wrote. absurd (let never : ⊥ = cc in never))
+            (λ tx same r wrote. absurd (let never : ⊥ = cc in never))

@@ -1,4 +1,5 @@
 -- A request of a client's turn is one of what runs there, with its number.
+use Rattle.std.specs.Prelude.{MatchOption}
 use Rattle.std.proofs.Common.{[], ◌≡◌, ℕ, inl, inr, List, ◌∷◌, Option, Some, None, sym, ap, ◌∙◌, subst}
 use Rattle.qc_stamp.specs.declared.stamp.TxId.{TxId}
 use Rattle.qc_list.specs.Vocabulary.{In}
@@ -10,7 +11,7 @@ use Rattle.qc_msg.specs.declared.message.Message.{Message}
 use Rattle.qc_msg.specs.declared.message.Message.TheVariants as messages
 use Rattle.qc_msg.specs.declared.message.Want.{Want}
 use Rattle.qc_msg.specs.declared.message.Want.TheVariants.{Read, Append, Prepare}
-use Rattle.qc_msg.specs.Vocabulary.{life_of, with_call}
+use Rattle.qc_msg.specs.Vocabulary.{Requested, life_of, request_in, with_call}
 use Rattle.theory_machine.specs.Vocabulary.{State}
 use Rattle.qc_commit.specs.declared.desk.Voting.{Voting}
 use Rattle.qc_commit.specs.Vocabulary.{prepared, prepared_in, with_voting}
@@ -39,13 +40,8 @@ module _ (decl : Declaration) where
     pub for : IsWantOf c t to want
 
   abbrev pub IsAsking : Client → ℕ → Message → Type 0
-  IsAsking c to (messages.Request tx epoch life want) = AsksFor c tx epoch life to want
-  IsAsking c to (messages.Answer number answer) = Unit {0}
-  IsAsking c to (messages.Decision tx verdict) = Unit {0}
-  IsAsking c to (messages.Inquiry tx) = Unit {0}
-  IsAsking c to (messages.Ask tx) = Unit {0}
-  IsAsking c to (messages.Close epoch) = Unit {0}
-  IsAsking c to (messages.Install start) = Unit {0}
+  IsAsking c to message =
+      MatchOption (request_in message) (Unit {0}) (λ (q : Requested). AsksFor c q.tx q.epoch q.life to q.want)
 
   -- a request of the running round gets its number
 

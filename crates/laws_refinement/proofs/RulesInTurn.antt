@@ -1,19 +1,19 @@
 -- Whatever falls, each Decide record of the administrator is of the epoch after the last one.
-use Rattle.std.specs.Prelude.{option_to_list}
+use Rattle.std.specs.Prelude.{◌&&◌, Bool, cond, is_none, option_to_list}
+use Rattle.std.specs.Option.{option_map_or}
 use Rattle.std.proofs.Common.{◌≡◌, ◌≢◌, ℕ, suc, ◌+◌, true, false, inl, inr, List, [], ◌∷◌, ◌++◌, fold, length, Option}
 use Rattle.std.proofs.Common.{Some, None, refl, sym, ap, ◌∙◌, subst}
 use Rattle.std.proofs.lemmas.List.{append-nil}
 use Rattle.qc_decl.specs.Vocabulary.{IsAccepted, administrator, is_client, is_site}
 use Rattle.qc_decl.specs.declared.declaration.Declaration.{Declaration}
 use Rattle.qc_msg.specs.declared.message.Message.{Message}
-use Rattle.qc_msg.specs.declared.message.Message.TheVariants as messages
 use Rattle.qc_msg.specs.declared.record.Record.{Record}
 use Rattle.qc_msg.specs.declared.record.Record.TheVariants as records
 use Rattle.qc_msg.specs.declared.turn.Posting.{Posting}
-use Rattle.qc_msg.specs.Vocabulary.{start_with}
+use Rattle.qc_msg.specs.Vocabulary.{decide_in, request_in, start_with, wants_answer}
 use Rattle.theory_machine.specs.Vocabulary.{put}
 use Rattle.theory_machine.proofs.Names.{put_here}
-use Rattle.qc_epoch.specs.Vocabulary.{Admin, AdminMove, admin_takes, sent_one}
+use Rattle.qc_epoch.specs.Vocabulary.{Admin, AdminMove, admin_takes, doing, requested, sent_one}
 use Rattle.qc_msg.specs.declared.payload.EpochStart.{EpochStart}
 use Rattle.qc_recover.specs.Vocabulary.{epoch_by}
 use Rattle.qc_recover.specs.Admins.{keeps, kept_by}
@@ -29,13 +29,13 @@ use Rattle.laws_refinement.proofs.Refining.{nets_refine}
 -- one record more
 
 epoch_one : (k : Option EpochStart) (r : Record) → epoch_by (keeps k r) ≡ rule_after (epoch_by k) r
-epoch_one k records.Life = refl
-epoch_one k (records.Prepare p) = refl
-epoch_one k (records.Done tx clock) = refl
-epoch_one k (records.Close epoch) = refl
-epoch_one k (records.Install start) = refl
-epoch_one k (records.Commit commit) = refl
-epoch_one k (records.Decide start) = refl
+epoch_one k r = by (decide_in r)
+  where
+    by : (o : Option EpochStart)
+        → epoch_by (option_map_or (λ (start : EpochStart). Some start) o k)
+        ≡ option_map_or (λ (start : EpochStart). start.epoch) o (epoch_by k)
+    by None = refl
+    by (Some start) = refl
 
 turn_from : (k : Option EpochStart) (rs : List Record) (r : Record) → AreInTurn (epoch_by k) rs
     → IsNextRule (epoch_by (fold keeps k rs)) r → AreInTurn (epoch_by k) (rs ++ r ∷ [])
@@ -62,13 +62,11 @@ turn_maybe rs (Some r) old new = turn_more rs r old new
 -- numbers of messages leave the epoch
 
 sent_epoch : (m : Admin) (n to : ℕ) (message : Message) → (sent_one m n to message).epoch ≡ m.epoch
-sent_epoch m n to (messages.Request tx epoch life want) = refl
-sent_epoch m n to (messages.Answer request answer) = refl
-sent_epoch m n to (messages.Decision tx verdict) = refl
-sent_epoch m n to (messages.Inquiry tx) = refl
-sent_epoch m n to (messages.Ask tx) = refl
-sent_epoch m n to (messages.Close epoch) = refl
-sent_epoch m n to (messages.Install start) = refl
+sent_epoch m n to message = by (wants_answer message && is_none (request_in message))
+  where
+    by : (b : Bool) → (cond b (doing m (requested m.doing n to)) m).epoch ≡ m.epoch
+    by true = refl
+    by false = refl
 
 all_epoch : (m : Admin) (n : ℕ) (ps : List Posting) → (all_sent m n ps).epoch ≡ m.epoch
 all_epoch m n [] = refl

@@ -26,6 +26,7 @@ use Rattle.laws_refinement.proofs.SiteSteps.{latest_grows, latest_passes}
 use Rattle.laws_refinement.proofs.GrantCases.{append_case, read_case}
 use Rattle.qc_msg.specs.declared.message.Answer.TheVariants as answers
 use Rattle.qc_msg.specs.declared.message.Message.TheVariants as messages
+use Rattle.laws_refinement.proofs.MessageCases.{site_cases}
 use Rattle.laws_refinement.proofs.PrepareCases.{prepare_case}
 use Rattle.laws_refinement.proofs.SiteDecisions.{Passes, passes, decision_case}
 
@@ -127,21 +128,18 @@ module _ (decl : Declaration) (accepted : IsAccepted decl) (acts : List Act) (ne
 
       by : (message : Message) → e.message ≡ message
           → Continues decl acts (after_site net a (site_on decl (net.sites a) e.from e.number message))
-      by (messages.Request tx epoch life want) same =
-          request_case e.from e.number epoch life tx want (back (messages.Request tx epoch life want) same)
-          (e, m.numbered e among, to, same)
-      by (messages.Decision tx verdict) same =
-          decision_case decl accepted acts net a run m site up tx verdict e.from e.number
-          (back (messages.Decision tx verdict) same)
-      by (messages.Answer n answer) same = nothing
-      by (messages.Inquiry tx) same = nothing
-      by (messages.Ask tx) same = nothing
-      by (messages.Close epoch) same =
-          close_case decl accepted acts net a run m site up e.from e.number epoch (back (messages.Close epoch) same)
-          (e, m.numbered e among, to, same)
-      by (messages.Install start) same =
-          install_case decl acts net a run m site up e.from e.number start.epoch start.clock start.lines
-          (back (messages.Install start) same)
+      by =
+          site_cases decl (net.sites a) e.from e.number
+          (λ message move. e.message ≡ message → Continues decl acts (after_site net a move))
+          (λ q same. request_case e.from e.number q.epoch q.life q.tx q.want
+          (back (messages.Request q.tx q.epoch q.life q.want) same) (e, m.numbered e among, to, same))
+          (λ v same. decision_case decl accepted acts net a run m site up v.tx v.verdict e.from e.number
+          (back (messages.Decision v.tx v.verdict) same))
+          (λ epoch same. close_case decl accepted acts net a run m site up e.from e.number epoch
+          (back (messages.Close epoch) same) (e, m.numbered e among, to, same))
+          (λ start same. install_case decl acts net a run m site up e.from e.number start.epoch start.clock start.lines
+          (back (messages.Install start) same))
+          (λ message same. nothing)
 
   -- whatever a site takes
   pub serve_case : (given : Input) → MayCome net a given

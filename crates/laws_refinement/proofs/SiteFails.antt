@@ -38,6 +38,7 @@ use Rattle.laws_refinement.specs.Vocabulary.{IsPreparing, IsPromiseOf, IsPromise
 use Rattle.laws_refinement.specs.Vocabulary.{Net}
 use Rattle.qc_site.proofs.Sorted.{ascending-without}
 use Rattle.laws_refinement.proofs.Known.{promised_known, unrecorded}
+use Rattle.laws_refinement.proofs.MessageCases.{site_cases}
 
 module _ (decl : Declaration) (acts : List Act) (net : Net) (a : ℕ) (run : IsRun decl acts)
     (m : Mirrors decl (state acts) net) (site : is_site decl a ≡ true) (up : net.up a ≡ true) where
@@ -198,24 +199,23 @@ module _ (decl : Declaration) (acts : List Act) (net : Net) (a : ℕ) (run : IsR
   message_fails : (e : Envelope) → In e net.mail → Fails (site_on decl (net.sites a) e.from e.number e.message)
   message_fails e among = by e.message refl
     where
+      back : (message : Message) → e.message ≡ message → Backed decl (state acts) net.mail e.from e.to message
+      back message same =
+          subst (λ (x : Message). Backed decl (state acts) net.mail e.from e.to x) same (m.mail e among)
+
       by : (message : Message) → e.message ≡ message → Fails (site_on decl (net.sites a) e.from e.number message)
-      by (messages.Request tx epoch life want) same =
-          request_cases Fails decl (passed (net.sites a) (messages.Request tx epoch life want)) e.from e.number tx epoch
-          life want
-          (λ r wrote. absurd (let never : ⊥ = cc in never)) (λ refusal is r wrote. absurd (let never : ⊥ = cc in never))
-          (λ is. want_fails e.from e.to e.number epoch life tx want
-          (subst (λ (x : Message). Backed decl (state acts) net.mail e.from e.to x) same (m.mail e among)))
-      by (messages.Decision tx verdict) same =
-          decision_fails tx verdict e.from e.number
-          (subst (λ (x : Message). Backed decl (state acts) net.mail e.from e.to x) same (m.mail e among))
-      by (messages.Answer n answer) same = λ r wrote. absurd (let never : ⊥ = cc in never)
-      by (messages.Inquiry tx) same = λ r wrote. absurd (let never : ⊥ = cc in never)
-      by (messages.Ask tx) same = λ r wrote. absurd (let never : ⊥ = cc in never)
-      by (messages.Close epoch) same = close_fails e.from e.number epoch
-          (subst (λ (x : Message). Backed decl (state acts) net.mail e.from e.to x) same (m.mail e among))
-      by (messages.Install start) same =
-          install_fails e.from e.number start.epoch start.clock start.lines
-          (subst (λ (x : Message). Backed decl (state acts) net.mail e.from e.to x) same (m.mail e among))
+      by =
+          site_cases decl (net.sites a) e.from e.number (λ message move. e.message ≡ message → Fails move)
+          (λ q same. request_cases Fails decl (passed (net.sites a) (messages.Request q.tx q.epoch q.life q.want))
+          e.from e.number q.tx q.epoch q.life q.want (λ r wrote. absurd (let never : ⊥ = cc in never))
+          (λ refusal is r wrote. absurd (let never : ⊥ = cc in never))
+          (λ is. want_fails e.from e.to e.number q.epoch q.life q.tx q.want
+          (back (messages.Request q.tx q.epoch q.life q.want) same)))
+          (λ v same. decision_fails v.tx v.verdict e.from e.number (back (messages.Decision v.tx v.verdict) same))
+          (λ epoch same. close_fails e.from e.number epoch (back (messages.Close epoch) same))
+          (λ start same. install_fails e.from e.number start.epoch start.clock start.lines
+          (back (messages.Install start) same))
+          (λ message same r wrote. absurd (let never : ⊥ = cc in never))
 
   pub take_fails : (given : Input) → MayCome net a given → Fails (site_takes decl (net.sites a) given)
   take_fails (Got e) came = message_fails e came.0

@@ -15,6 +15,7 @@ use Rattle.qc_msg.specs.declared.message.Answer.{Answer}
 use Rattle.qc_msg.specs.declared.message.Answer.TheVariants as answers
 use Rattle.qc_msg.specs.declared.message.Message.{Message}
 use Rattle.qc_msg.specs.declared.message.Message.TheVariants as messages
+use Rattle.qc_msg.specs.declared.message.Outcome.{Outcome}
 use Rattle.qc_msg.specs.declared.message.Outcome.TheVariants as outcomes
 use Rattle.qc_msg.specs.declared.message.Want.{Want}
 use Rattle.qc_msg.specs.declared.message.Want.TheVariants.{Read, Append, Prepare}
@@ -34,23 +35,22 @@ use Rattle.qc_site.proofs.RequestCases.{append_cases, close_cases, join_cases, p
 use Rattle.qc_site.proofs.Cases.{install_cases}
 use Rattle.qc_recover.specs.Vocabulary.{Kept, inquiry, keeps, kept_by, nothing_kept}
 use Rattle.laws_refinement.proofs.Apart.{found_in}
+use Rattle.laws_refinement.proofs.MessageCases.{site_cases}
+use Rattle.laws_refinement.proofs.PendingCases.{kept_cases}
 
 -- each promise of records is one of them
 
 pub one_more : (k : Kept) (r : Record) (p : Prepared) → In p (keeps k r).promises
     → In p k.promises ⊎ (records.Prepare p ≡ r)
-one_more k records.Life p among = inl among
-one_more k (records.Prepare q) p among = elim (in_split p (without_prepared k.promises q.tx) (q ∷ []) among) [
-  | inl old ↦ inl (In-unfiltered (λ (x : Prepared). not (same_tx x.tx q.tx)) p k.promises old)
-  | inr (inl same) ↦ inr (ap (λ (x : Prepared). records.Prepare x) same)
-  | inr (inr never) ↦ absurd never
-]
-one_more k (records.Done tx clock) p among =
-    inl (In-unfiltered (λ (x : Prepared). not (same_tx x.tx tx)) p k.promises among)
-one_more k (records.Close epoch) p among = inl among
-one_more k (records.Install start) p among = absurd among
-one_more k (records.Commit commit) p among = inl among
-one_more k (records.Decide start) p among = inl among
+one_more k r p =
+    kept_cases k (λ x next. In p next.promises → In p k.promises ⊎ (records.Prepare p ≡ x)) inl
+    (λ q among. elim (in_split p (without_prepared k.promises q.tx) (q ∷ []) among) [
+      | inl old ↦ inl (In-unfiltered (λ (x : Prepared). not (same_tx x.tx q.tx)) p k.promises old)
+      | inr (inl same) ↦ inr (ap (λ (x : Prepared). records.Prepare x) same)
+      | inr (inr never) ↦ absurd never
+    ])
+    (λ tx clock among. inl (In-unfiltered (λ (x : Prepared). not (same_tx x.tx tx)) p k.promises among))
+    (λ epoch among. inl among) (λ start among. absurd among) (λ x among. inl among) r
 
 pub promises_from : (rs : List Record) (k : Kept) (p : Prepared) → In p (fold keeps k rs).promises
     → In p k.promises ⊎ In (records.Prepare p) rs
@@ -205,25 +205,32 @@ module _ (decl : Declaration) (s : SiteState) where
 
   pub message_votes : (from number : ℕ) (message : Message)
       → Votes s number message (site_on decl s from number message)
-  message_votes from number (messages.Request tx epoch life want) =
-      request_cases (Votes s number (messages.Request tx epoch life want)) decl
-      (passed s (messages.Request tx epoch life want)) from number tx epoch life want
-      (λ p among to clock is. absurd among)
-      (λ fault is p among to clock told. absurd
-      (no_fault (passed s (messages.Request tx epoch life want)) epoch life clock
-      (is ∙ ap Some (one_answer from number fault p among to clock told).1)))
-      (λ is. wanted from number epoch life tx want)
-  message_votes from number (messages.Decision tx (outcomes.Committed stamp)) =
-      join_cases (Votes s number (messages.Decision tx (outcomes.Committed stamp)))
-      (passed s (messages.Decision tx (outcomes.Committed stamp))) tx stamp
-      (λ none p among to clock is. absurd among) (λ q some p among to clock is. absurd among)
-  message_votes from number (messages.Decision tx outcomes.Aborted) = λ p among to clock is. absurd among
-  message_votes from number (messages.Decision tx outcomes.Active) = λ p among to clock is. absurd among
-  message_votes from number (messages.Answer n answer) = λ p among to clock is. absurd among
-  message_votes from number (messages.Inquiry tx) = λ p among to clock is. absurd among
-  message_votes from number (messages.Ask tx) = λ p among to clock is. absurd among
-  message_votes from number (messages.Close epoch) = close_votes from number epoch
-  message_votes from number (messages.Install start) = install_votes from number start.epoch start.clock start.lines
+  message_votes from number =
+      site_cases decl s from number (Votes s number) (λ q. asked q.epoch q.life q.tx q.want)
+      (λ v. decided v.tx v.verdict) (close_votes from number)
+      (λ start. install_votes from number start.epoch start.clock start.lines)
+      (λ message p among to clock is. absurd among)
+    where
+      asked : (epoch life : ℕ) (tx : TxId) (want : Want)
+          → Votes s number (messages.Request tx epoch life want)
+          (site_on decl s from number (messages.Request tx epoch life want))
+      asked epoch life tx want =
+          request_cases (Votes s number (messages.Request tx epoch life want)) decl
+          (passed s (messages.Request tx epoch life want)) from number tx epoch life want
+          (λ p among to clock is. absurd among)
+          (λ fault is p among to clock told. absurd
+          (no_fault (passed s (messages.Request tx epoch life want)) epoch life clock
+          (is ∙ ap Some (one_answer from number fault p among to clock told).1)))
+          (λ is. wanted from number epoch life tx want)
+
+      decided : (tx : TxId) (verdict : Outcome)
+          → Votes s number (messages.Decision tx verdict) (site_on decl s from number (messages.Decision tx verdict))
+      decided tx (outcomes.Committed stamp) =
+          join_cases (Votes s number (messages.Decision tx (outcomes.Committed stamp)))
+          (passed s (messages.Decision tx (outcomes.Committed stamp))) tx stamp
+          (λ none p among to clock is. absurd among) (λ q some p among to clock is. absurd among)
+      decided tx outcomes.Aborted = λ p among to clock is. absurd among
+      decided tx outcomes.Active = λ p among to clock is. absurd among
 
 -- what is sent where the record isn't written is no vote
 
@@ -250,24 +257,24 @@ module _ (decl : Declaration) (s : SiteState) where
       (λ held fresh. faulted from number)
 
   message_silent : (from number : ℕ) (message : Message) → Silent (site_on decl s from number message)
-  message_silent from number (messages.Request tx epoch life want) =
-      request_cases Silent decl (passed s (messages.Request tx epoch life want)) from number tx epoch life want
-      (λ p among to clock is. among) (λ fault is p among to clock told. among)
-      (λ is. want_silent from number epoch life tx want)
-  message_silent from number (messages.Decision tx (outcomes.Committed stamp)) =
-      join_cases Silent (passed s (messages.Decision tx (outcomes.Committed stamp))) tx stamp
-      (λ none p among to clock is. among) (λ q some p among to clock is. among)
-  message_silent from number (messages.Decision tx outcomes.Aborted) = λ p among to clock is. among
-  message_silent from number (messages.Decision tx outcomes.Active) = λ p among to clock is. among
-  message_silent from number (messages.Answer n answer) = λ p among to clock is. among
-  message_silent from number (messages.Inquiry tx) = λ p among to clock is. among
-  message_silent from number (messages.Ask tx) = λ p among to clock is. among
-  message_silent from number (messages.Close epoch) =
-      close_cases Silent (passed s (messages.Close epoch)) from number epoch (λ answer p among to clock is. among)
-      (λ near later. faulted from number)
-  message_silent from number (messages.Install start) =
-      install_cases Silent (passed s (messages.Install start)) from number start.epoch start.clock start.lines
-      (λ answer p among to at is. among) (λ later fits. faulted from number)
+  message_silent from number =
+      site_cases decl s from number (λ message move. Silent move)
+      (λ q. request_cases Silent decl (passed s (messages.Request q.tx q.epoch q.life q.want)) from number q.tx q.epoch
+      q.life q.want (λ p among to clock is. among) (λ fault is p among to clock told. among)
+      (λ is. want_silent from number q.epoch q.life q.tx q.want))
+      (λ v. decided v.tx v.verdict)
+      (λ epoch. close_cases Silent s from number epoch (λ answer p among to clock is. among)
+      (λ near later. faulted from number))
+      (λ start. install_cases Silent (record s { clock = latest s.clock start.lines }) from number start.epoch
+      start.clock start.lines (λ answer p among to at is. among) (λ later fits. faulted from number))
+      (λ message p among to clock is. among)
+    where
+      decided : (tx : TxId) (verdict : Outcome) → Silent (site_on decl s from number (messages.Decision tx verdict))
+      decided tx (outcomes.Committed stamp) =
+          join_cases Silent (passed s (messages.Decision tx (outcomes.Committed stamp))) tx stamp
+          (λ none p among to clock is. among) (λ q some p among to clock is. among)
+      decided tx outcomes.Aborted = λ p among to clock is. among
+      decided tx outcomes.Active = λ p among to clock is. among
 
   pub take_silent : (given : Input) → Silent (site_takes decl s given)
   take_silent (Got e) = message_silent e.from e.number e.message

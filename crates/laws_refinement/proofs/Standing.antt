@@ -17,30 +17,36 @@ use Rattle.qc_msg.specs.declared.step.Input.{Input}
 use Rattle.qc_msg.specs.declared.step.Input.TheVariants.{Called, Got, Lost}
 use Rattle.qc_msg.specs.declared.turn.Posting.{Posting}
 use Rattle.qc_msg.specs.declared.turn.Turn.{Turn}
+use Rattle.qc_msg.specs.Vocabulary.{Decided, Requested, decision_in, request_in}
 use Rattle.qc_commit.specs.declared.desk.Desk.{Desk}
 use Rattle.qc_commit.specs.declared.desk.Voting.{Voting}
 use Rattle.qc_commit.specs.Vocabulary.{DeskMove}
 use Rattle.qc_commit.specs.Conduct as desks
-use Rattle.qc_commit.proofs.Moves.{IsMove, IsPrepare, prepare-moves, vote-moves}
+use Rattle.qc_commit.proofs.Moves.{IsMove, IsPrepare, IsPromiseWanted, prepare-moves, vote-moves}
 use Rattle.qc_front.specs.declared.doing.Doing.{Doing}
 use Rattle.qc_front.specs.declared.doing.Doing.TheVariants.{Idle, Reading, Appending}
 use Rattle.qc_front.specs.declared.front.Front.{Front}
 use Rattle.qc_front.specs.declared.transaction.Transaction.{Transaction}
 use Rattle.qc_front.specs.Conduct as fronts
 use Rattle.qc_front.specs.Vocabulary.{AreSent, AsksAtOnce, FrontHolds, FrontMove, IsFor, IsNumbered, IsSent, ended}
-use Rattle.qc_front.specs.Vocabulary.{numbered_all, numbered_one}
+use Rattle.qc_front.specs.Requests.{IsRequestOf, IsVerdictOf}
+use Rattle.qc_front.specs.Vocabulary.{numbered_all, numbered_one, requested}
 use Rattle.qc_front.proofs.AtOnce.{called_at_once, takes_at_once}
 use Rattle.qc_front.proofs.CommandsKeep.{called_holds}
 use Rattle.qc_front.proofs.Keeping.{ended_holds, new_holds, takes_holds}
 use Rattle.qc_front.proofs.Numbering.{sent_holds}
 use Rattle.qc_front.proofs.Sending.{called_sent, takes_sent}
 use Rattle.qc_client.specs.Vocabulary.{answered_by, by_desk, by_front, called, client_takes, commits, heard, sent_one}
+use Rattle.qc_client.specs.Vocabulary.{requested as client_requested}
 use Rattle.qc_client.specs.declared.client.Client.{Client}
-use Rattle.std.specs.Prelude.{option_to_list}
+use Rattle.std.specs.Prelude.{MatchOption, option_to_list}
+use Rattle.std.specs.Option.{option_map_or}
 use Rattle.qc_recover.specs.Vocabulary.{client_rises}
-use Rattle.laws_refinement.specs.Vocabulary.{FrontStands, Net, Reaches, after_client, after_site, sent_all}
+use Rattle.laws_refinement.specs.Vocabulary.{FrontStands, Net, Reaches, sent_all}
 use Rattle.laws_refinement.specs.Net as nets
+use Rattle.laws_refinement.proofs.ClientCases.{called_cases, heard_cases}
 use Rattle.laws_refinement.proofs.Machine.{put_one}
+use Rattle.laws_refinement.proofs.MessageCases.{message_cases}
 
 -- a front end that stands
 record Stands (decl : Declaration) (front : Front) : Type 0 where
@@ -55,30 +61,22 @@ IsRoundWant (Append object view own) = Unit {0}
 IsRoundWant Prepare = ⊥
 
 abbrev IsFrontMessage : Message → Type 0
-IsFrontMessage (messages.Request tx epoch life want) = IsRoundWant want
-IsFrontMessage (messages.Answer number answer) = Unit {0}
-IsFrontMessage (messages.Decision tx verdict) = Unit {0}
-IsFrontMessage (messages.Inquiry tx) = Unit {0}
-IsFrontMessage (messages.Ask tx) = Unit {0}
-IsFrontMessage (messages.Close epoch) = Unit {0}
-IsFrontMessage (messages.Install start) = Unit {0}
-
-want_numbered : (c : Client) (n to : ℕ) (tx : TxId) (epoch life : ℕ) (want : Want) → IsRoundWant want
-    → (sent_one c n to (messages.Request tx epoch life want)).front ≡ numbered_one c.front n to
-    (messages.Request tx epoch life want)
-want_numbered c n to tx epoch life (Read read) is = refl
-want_numbered c n to tx epoch life (Append object view own) is = refl
-want_numbered c n to tx epoch life Prepare is = absurd is
+IsFrontMessage message = MatchOption (request_in message) (Unit {0}) (λ (q : Requested). IsRoundWant q.want)
 
 one_numbered : (c : Client) (n to : ℕ) (message : Message) → IsFrontMessage message
     → (sent_one c n to message).front ≡ numbered_one c.front n to message
-one_numbered c n to (messages.Request tx epoch life want) is = want_numbered c n to tx epoch life want is
-one_numbered c n to (messages.Answer number answer) is = refl
-one_numbered c n to (messages.Decision tx verdict) is = refl
-one_numbered c n to (messages.Inquiry tx) is = refl
-one_numbered c n to (messages.Ask tx) is = refl
-one_numbered c n to (messages.Close epoch) is = refl
-one_numbered c n to (messages.Install start) is = refl
+one_numbered c n to message = by (request_in message)
+  where
+    asked : (want : Want) → IsRoundWant want → (client_requested c n to want).front ≡ requested c.front n to
+    asked (Read read) is = refl
+    asked (Append object view own) is = refl
+    asked Prepare is = absurd is
+
+    by : (o : Option Requested) → MatchOption o (Unit {0}) (λ (q : Requested). IsRoundWant q.want)
+        → (option_map_or (λ (q : Requested). client_requested c n to q.want) o c).front
+        ≡ option_map_or (λ (q : Requested). requested c.front n to) o c.front
+    by None is = refl
+    by (Some q) is = asked q.want is
 
 all_numbered : (c : Client) (n : ℕ) (ps : List Posting) → ((p : Posting) → In p ps → IsFrontMessage p.message)
     → (sent_all c n ps).front ≡ numbered_all c.front n ps
@@ -90,27 +88,21 @@ all_numbered c n (p ∷ ps) are =
 -- messages that leave the front end as it is
 
 abbrev IsDeskMessage : Message → Type 0
-IsDeskMessage (messages.Request tx epoch life Prepare) = Unit {0}
-IsDeskMessage (messages.Request tx epoch life (Read read)) = ⊥
-IsDeskMessage (messages.Request tx epoch life (Append object view own)) = ⊥
-IsDeskMessage (messages.Answer number answer) = Unit {0}
-IsDeskMessage (messages.Decision tx verdict) = Unit {0}
-IsDeskMessage (messages.Inquiry tx) = Unit {0}
-IsDeskMessage (messages.Ask tx) = Unit {0}
-IsDeskMessage (messages.Close epoch) = Unit {0}
-IsDeskMessage (messages.Install start) = Unit {0}
+IsDeskMessage message = MatchOption (request_in message) (Unit {0}) (λ (q : Requested). IsPromiseWanted q.want)
 
 one_left : (c : Client) (n to : ℕ) (message : Message) → IsDeskMessage message
     → (sent_one c n to message).front ≡ c.front
-one_left c n to (messages.Request tx epoch life (Read read)) is = absurd is
-one_left c n to (messages.Request tx epoch life (Append object view own)) is = absurd is
-one_left c n to (messages.Request tx epoch life Prepare) is = refl
-one_left c n to (messages.Answer number answer) is = refl
-one_left c n to (messages.Decision tx verdict) is = refl
-one_left c n to (messages.Inquiry tx) is = refl
-one_left c n to (messages.Ask tx) is = refl
-one_left c n to (messages.Close epoch) is = refl
-one_left c n to (messages.Install start) is = refl
+one_left c n to message = by (request_in message)
+  where
+    asked : (want : Want) → IsPromiseWanted want → (client_requested c n to want).front ≡ c.front
+    asked (Read read) is = absurd is
+    asked (Append object view own) is = absurd is
+    asked Prepare is = refl
+
+    by : (o : Option Requested) → MatchOption o (Unit {0}) (λ (q : Requested). IsPromiseWanted q.want)
+        → (option_map_or (λ (q : Requested). client_requested c n to q.want) o c).front ≡ c.front
+    by None is = refl
+    by (Some q) is = asked q.want is
 
 all_left : (c : Client) (n : ℕ) (ps : List Posting) → ((p : Posting) → In p ps → IsDeskMessage p.message)
     → (sent_all c n ps).front ≡ c.front
@@ -119,15 +111,10 @@ all_left c n (p ∷ ps) are = all_left (sent_one c n p.to p.message) (n + 1) ps 
     ∙ one_left c n p.to p.message (are p (inl refl))
 
 prepare_left : (message : Message) → IsPrepare message → IsDeskMessage message
-prepare_left (messages.Request tx epoch life (Read read)) is = absurd is
-prepare_left (messages.Request tx epoch life (Append object view own)) is = absurd is
-prepare_left (messages.Request tx epoch life Prepare) is = tt
-prepare_left (messages.Answer number answer) is = tt
-prepare_left (messages.Decision tx verdict) is = tt
-prepare_left (messages.Inquiry tx) is = tt
-prepare_left (messages.Ask tx) is = tt
-prepare_left (messages.Close epoch) is = tt
-prepare_left (messages.Install start) is = tt
+prepare_left =
+    message_cases (λ message q a v i. IsPrepare message
+    → MatchOption q (Unit {0}) (λ (x : Requested). IsPromiseWanted x.want))
+    (λ q is. is) (λ a is. tt) (λ v is. tt) (λ start is. tt) (λ message is. tt)
 
 decision_left : (tx : TxId) (outcome : Outcome) (sites : List ℕ) (p : Posting)
     → In p (map (λ (site : ℕ). record { to = site; message = messages.Decision tx outcome }) sites)
@@ -146,13 +133,15 @@ module _ (decl : Declaration) where
 
   sent_by_front : (before after : Front) (to : ℕ) (message : Message) → IsSent decl before after to message
       → IsFrontMessage message
-  sent_by_front before after to (messages.Request tx epoch life want) s = round_want s.t after.doing to want s.wants
-  sent_by_front before after to (messages.Answer number answer) s = tt
-  sent_by_front before after to (messages.Decision tx verdict) s = tt
-  sent_by_front before after to (messages.Inquiry tx) s = tt
-  sent_by_front before after to (messages.Ask tx) s = tt
-  sent_by_front before after to (messages.Close epoch) s = tt
-  sent_by_front before after to (messages.Install start) s = tt
+  sent_by_front before after to message = by (request_in message)
+    where
+      by : (o : Option Requested)
+          → MatchOption o
+          (MatchOption (decision_in message) ⊥ (λ (v : Decided). IsVerdictOf before to v.tx v.verdict))
+          (λ (q : Requested). IsRequestOf decl after to q.tx q.epoch q.life q.want)
+          → MatchOption o (Unit {0}) (λ (q : Requested). IsRoundWant q.want)
+      by None s = tt
+      by (Some q) s = round_want s.t after.doing to q.want s.wants
 
   front_turn : (c : Client) (move : FrontMove) (n : ℕ) → FrontHolds decl move.front → AreSent decl c.front move
       → AsksAtOnce decl move → Stands decl (sent_all (by_front c move).client n (by_front c move).turn.sends).front
@@ -213,11 +202,9 @@ module _ (decl : Declaration) where
 
   called_stands : (c : Client) (command : Command) (n : ℕ) → Stands decl c.front
       → Stands decl (sent_all (called decl c command).client n (called decl c command).turn.sends).front
-  called_stands c commands.Begin n s = command_stands c commands.Begin n s
-  called_stands c (commands.Do object inv) n s = command_stands c (commands.Do object inv) n s
-  called_stands c commands.Commit n s = commit_stands c c.front.transaction n s
-  called_stands c commands.Abort n s = command_stands c commands.Abort n s
-  called_stands c (commands.Epoch number) n s = command_stands c (commands.Epoch number) n s
+  called_stands c command n s =
+      called_cases decl c (λ move. Stands decl (sent_all move.client n move.turn.sends).front)
+      (λ given. command_stands c given n s) (commit_stands c c.front.transaction n s) command
 
   answered_stands : (c : Client) (number : ℕ) (answer : Option Answer) (n : ℕ) (o : Option Voting) → Stands decl c.front
       → Stands decl (sent_all (answered_by decl c o number answer).client n
@@ -232,13 +219,9 @@ module _ (decl : Declaration) where
   heard_stands : (c : Client) (from number : ℕ) (message : Message) (n : ℕ) → Stands decl c.front
       → Stands decl (sent_all (heard decl c from number message).client n
       (heard decl c from number message).turn.sends).front
-  heard_stands c from number (messages.Request tx epoch life want) n s = s
-  heard_stands c from number (messages.Answer to answer) n s = answered_stands c to (Some answer) n c.desk.voting s
-  heard_stands c from number (messages.Decision tx verdict) n s = s
-  heard_stands c from number (messages.Inquiry tx) n s = s
-  heard_stands c from number (messages.Ask tx) n s = s
-  heard_stands c from number (messages.Close epoch) n s = s
-  heard_stands c from number (messages.Install start) n s = s
+  heard_stands c from number message n s =
+      heard_cases decl c from number (λ x move. Stands decl (sent_all move.client n move.turn.sends).front) (λ x. s)
+      (λ to answer. answered_stands c to (Some answer) n c.desk.voting s) (λ tx. s) (λ tx. s) message
 
   takes_stands : (c : Client) (given : Input) (n : ℕ) → Stands decl c.front
       → Stands decl (sent_all (client_takes decl c given).client n (client_takes decl c given).turn.sends).front
