@@ -5,7 +5,7 @@ use Rattle.qc_list.specs.Vocabulary.{In}
 use Rattle.qc_list.proofs.Members.{every-In, every-weaker}
 use Rattle.qc_admin.specs.Vocabulary.{AdminFits, GivenFits, GoesToActors}
 use Rattle.qc_admin.proofs.Fitting.{takes_fit}
-use Rattle.qc_admin.proofs.Receivers.{takes_go}
+use Rattle.qc_admin.proofs.Receivers.{turns_go_to_actors}
 use Rattle.qc_client.specs.declared.client.Client.{Client}
 use Rattle.qc_epoch.specs.Vocabulary.{Admin, admin_takes, most_asks}
 use Rattle.qc_site.specs.Vocabulary.{site_takes}
@@ -30,7 +30,7 @@ use Rattle.qc_front.specs.declared.doing.Doing.{Doing}
 use Rattle.qc_front.specs.declared.doing.Doing.TheVariants.{Idle, Reading, Appending}
 use Rattle.qc_front.specs.Conduct as fronts
 use Rattle.qc_front.specs.Fits as rounds
-use Rattle.qc_front.proofs.Fitting.{fits as front_fits}
+use Rattle.qc_front.proofs.Fitting.{front_ends_fit as front_fits}
 use Rattle.qc_link.specs.Vocabulary.{most_actors}
 use Rattle.qc_msg.specs.declared.message.Envelope.{Envelope}
 use Rattle.qc_msg.specs.declared.message.Message.{Message}
@@ -118,7 +118,7 @@ module _ (decl : Declaration) (accepted : IsAccepted decl) where
 
   admin_short : (m : Admin) (g : Input) → AdminFits m → GivenFits g → IsTurnShort (admin_takes decl m g).turn
   admin_short m g fits here =
-      let goes : GoesToActors (admin_takes decl m g).turn = takes_go decl m g accepted fits here in
+      let goes : GoesToActors (admin_takes decl m g).turn = turns_go_to_actors decl m g accepted fits here in
       record {
         receivers =
             every-weaker (λ (p : Posting). p.to < most_sites + most_clients) (λ (p : Posting). p.to < most_actors)

@@ -20,7 +20,7 @@ use Rattle.qc_table.specs.Vocabulary.{IsLowest, IsSound, Rules, events_of, first
 use Rattle.qc_table.specs.declared.kind.Kind.{Kind}
 use Rattle.qc_table.specs.declared.row.Event.{Event}
 use Rattle.qc_table.proofs.Named.{allowed_within}
-use Rattle.qc_table.proofs.Numbered.{first_lowest, first_within}
+use Rattle.qc_table.proofs.Numbered.{first_lowest, first_is_an_event}
 use Rattle.qc_view.specs.Vocabulary.{answer_in, state_in}
 use Rattle.qc_view.specs.declared.view.View.{View}
 use Rattle.laws_bounds.proofs.Names.{CommandNamed}
@@ -140,7 +140,7 @@ module _ (decl : Declaration) (accepted : IsAccepted decl) where
       ∙ ap (λ (o : Option Event). unwrap_or (option_map (λ (e : Event). e.resp) o) 0) low.numbered in
       let below : low.resp < rules.resps = within.1 in
       record {
-        event_is = record { table = rules; declared = is; below = first_within rules.rows state inv number first };
+        event_is = record { table = rules; declared = is; below = first_is_an_event rules.rows state inv number first };
         resp_is = record { table = rules; declared = is; below = omega arith };
       }
 

@@ -10,7 +10,7 @@ use Rattle.laws_bounds.proofs.Others.{at_least, others_in_time}
 use Rattle.laws_bounds.proofs.RunFaults.{falls_below}
 use Rattle.laws_bounds.proofs.Sums.{zeros}
 use Rattle.laws_bounds.proofs.Counted.{more_visited}
-use Rattle.qc_spent.proofs.Whole.{spent}
+use Rattle.qc_spent.proofs.Whole.{accounts_make_spent}
 use Rattle.qc_store.specs.Vocabulary.{IsCounted}
 
 pub none_spent : (n : ℕ) (h : List Entry) (before : ℕ) → IsSpentSoFar n h nobody before before
@@ -53,7 +53,7 @@ pub all_spent : (n : ℕ) (h : List Entry) (visited : ℕ → Bool) (before now 
 all_spent n h visited before now all few below times so_far =
     let sum : falls_of n h visited ≡ total_below n (λ a. (disk_account a h).unarmed) =
     whole n (λ a. (disk_account a h).unarmed) visited all in
-    spent h n (now - before) (λ a. (disk_account a h).unarmed) below times (λ a. omega arith)
+    accounts_make_spent h n (now - before) (λ a. (disk_account a h).unarmed) below times (λ a. omega arith)
     (omega (arith, so_far.counted, sum, few))
 
 -- others have no faults

@@ -6,7 +6,7 @@ use Rattle.qc_decl.specs.Vocabulary.{IsAccepted, most_clients}
 use Rattle.qc_decl.specs.declared.declaration.Declaration.{Declaration}
 use Rattle.qc_entry.specs.declared.line.Line.{Line}
 use Rattle.qc_fit.specs.Vocabulary.{IsFit, IsLineDeclared, fits, greatest_clock, most_records}
-use Rattle.qc_fit.proofs.Words.{as_said}
+use Rattle.qc_fit.proofs.Words.{fits_is_as_said}
 use Rattle.qc_msg.specs.declared.record.Record.{Record}
 use Rattle.qc_msg.specs.declared.record.Record.TheVariants as records
 use Rattle.qc_msg.specs.Vocabulary.{Entry}
@@ -18,7 +18,7 @@ use Rattle.laws_bounds.proofs.Cases.{prepare_cases}
 
 module _ (decl : Declaration) (a : ℕ) where
   fit_of : (before : ℕ) (r : Record) → fits decl a before r ≡ true → IsFit decl a before r
-  fit_of before r is = (as_said decl a before r).0 is
+  fit_of before r is = (fits_is_as_said decl a before r).0 is
 
   lines_within : (lines : List Line) → Every (IsLineDeclared decl) lines → LinesWithin greatest_clock lines
   lines_within lines all =

@@ -9,7 +9,7 @@ use Rattle.qc_decl.specs.declared.declaration.Declaration.{Declaration}
 use Rattle.laws_due.specs.Vocabulary.{AsksKnown, IsKnown}
 use Rattle.qc_entry.specs.declared.line.Line.{Line}
 use Rattle.qc_fit.specs.Vocabulary.{IsFit, IsLineDeclared, fits}
-use Rattle.qc_fit.proofs.Words.{as_said}
+use Rattle.qc_fit.proofs.Words.{fits_is_as_said}
 use Rattle.qc_msg.specs.Vocabulary.{Entry, mail}
 use Rattle.qc_msg.specs.declared.message.Envelope.{Envelope}
 use Rattle.qc_msg.specs.declared.message.Message.{Message}
@@ -41,7 +41,7 @@ module _ (decl : Declaration) where
   records_fit : (a before : ℕ) (rs : List Record) → AllFit decl a before rs → AreNamed decl a rs
   records_fit a before [] fit = tt
   records_fit a before (r ∷ rs) fit = (
-    record_fits a before r ((as_said decl a before r).0 fit.0),
+    record_fits a before r ((fits_is_as_said decl a before r).0 fit.0),
     records_fit a (before + 1) rs fit.1,
   )
 

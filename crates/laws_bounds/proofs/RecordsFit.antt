@@ -10,7 +10,7 @@ use Rattle.qc_decl.specs.Vocabulary.{IsAccepted, actors, most_steps}
 use Rattle.qc_decl.specs.declared.declaration.Declaration.{Declaration}
 use Rattle.qc_entry.specs.declared.line.Line.{Line}
 use Rattle.qc_fit.specs.Vocabulary.{IsFit, IsLineDeclared, greatest_clock, most_records}
-use Rattle.qc_fit.proofs.Words.{as_said}
+use Rattle.qc_fit.proofs.Words.{fits_is_as_said}
 use Rattle.qc_msg.specs.declared.record.Record.{Record}
 use Rattle.qc_msg.specs.declared.record.Record.TheVariants as records
 use Rattle.qc_msg.specs.declared.step.Step.{Step}
@@ -130,7 +130,7 @@ module _ (decl : Declaration) (accepted : IsAccepted decl) (a bound : ℕ) (low 
       → AreWithin bound rs → AllFit decl a before rs
   records_fit before [] few named within = tt
   records_fit before (r ∷ rs) few named within = (
-    (as_said decl a before r).1
+    (fits_is_as_said decl a before r).1
         (said_fit before r (let here : before < most_records = omega arith in here) named.0 within.0),
     records_fit (before + 1) rs (omega arith) named.1 within.1,
   )

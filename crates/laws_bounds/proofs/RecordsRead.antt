@@ -15,8 +15,8 @@ use Rattle.qc_msg.specs.declared.record.Record.{Record}
 use Rattle.qc_msg.specs.declared.record.Record.TheVariants as records
 use Rattle.qc_record.specs.Vocabulary.{AreLines, IsInForm, IsLine, IsStart, is_legal, items_spelled, line_form}
 use Rattle.qc_record.specs.Vocabulary.{lines_form, op_form, ops_form, spelled}
-use Rattle.qc_record.proofs.InForm.{legal_is}
-use Rattle.qc_record.proofs.Lengths.{prepare_long}
+use Rattle.qc_record.proofs.InForm.{legal_records_are_in_form}
+use Rattle.qc_record.proofs.Lengths.{prepares_are_as_long_as_told}
 use Rattle.laws_turns.specs.Vocabulary.{LinesWithin}
 use Rattle.laws_bounds.specs.Vocabulary.{RecordWithin}
 use Rattle.laws_bounds.proofs.Forms.{IsBrief, LineInForm, LinesInForm, RecordInForm, StartInForm}
@@ -65,7 +65,8 @@ record_read (records.Decide start) is =
 
 pub legal_read : (rs : List Record) → Every (λ (r : Record). is_legal r ≡ true) rs → Every RecordInForm rs
 legal_read rs all =
-    every-weaker (λ (r : Record). is_legal r ≡ true) RecordInForm (λ r is. record_read r ((legal_is r).0 is)) rs all
+    every-weaker (λ (r : Record). is_legal r ≡ true) RecordInForm
+        (λ r is. record_read r ((legal_records_are_in_form r).0 is)) rs all
 
 -- what is written
 
@@ -165,7 +166,7 @@ start_length lines long is brief =
 pub brief_length : (r : Record) → RecordInForm r → IsBrief r → length (spelled r) ≤ most_record_bytes
 brief_length records.Life here brief = omega arith
 brief_length (records.Prepare p) here brief =
-    (let long : length (spelled (records.Prepare p)) ≡ prepare_length p = prepare_long p in
+    (let long : length (spelled (records.Prepare p)) ≡ prepare_length p = prepares_are_as_long_as_told p in
     let short : prepare_length p ≤ most_record_bytes = brief in
     omega (arith, long, short))
 brief_length (records.Done tx clock) here brief =

@@ -11,7 +11,7 @@ use Rattle.qc_decl.specs.Vocabulary.{IsAccepted, controller, most_clients, most_
 use Rattle.qc_decl.specs.declared.declaration.Declaration.{Declaration}
 use Rattle.qc_entry.specs.declared.record.Prepared.{Prepared}
 use Rattle.qc_fit.specs.Vocabulary.{IsFit, most_records}
-use Rattle.qc_fit.proofs.Words.{as_said}
+use Rattle.qc_fit.proofs.Words.{fits_is_as_said}
 use Rattle.qc_msg.specs.declared.record.Record.{Record}
 use Rattle.qc_msg.specs.declared.record.Record.TheVariants as records
 use Rattle.qc_msg.specs.declared.step.Control.{Control}
@@ -108,7 +108,7 @@ module _ (decl : Declaration) (a : ℕ) where
   all_declared : (before : ℕ) (rs : List Record) → AllFit decl a before rs → Every (PromisesDeclared decl) rs
   all_declared before [] fit = tt
   all_declared before (r ∷ rs) fit =
-      (record_declared before r ((as_said decl a before r).0 fit.0), all_declared (before + 1) rs fit.1)
+      (record_declared before r ((fits_is_as_said decl a before r).0 fit.0), all_declared (before + 1) rs fit.1)
 
   pub risen_turn_short : (ds : List Deed) (rs : List Record) (turn : Turn) → AllFit decl a 0 rs
       → IsLawfulWithFalls decl a (ds ++ Rises rs ∷ []) turn → IsRisingShort decl rs turn

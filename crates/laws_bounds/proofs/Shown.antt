@@ -8,11 +8,11 @@ use Rattle.laws_bounds.specs.Vocabulary.{AllFit, AllRiseFit, IsFailedShort, IsRi
 use Rattle.qc_core.specs.Vocabulary.{IsLawfulWithFalls}
 use Rattle.qc_decl.specs.Vocabulary.{IsAccepted, actors, administrator, controller}
 use Rattle.qc_decl.specs.declared.declaration.Declaration.{Declaration}
-use Rattle.qc_mailbox.proofs.Acting.{kept_take}
-use Rattle.qc_mailbox.proofs.Controlling.{kept_control, kept_damage, kept_phase}
+use Rattle.qc_mailbox.proofs.Acting.{inputs_keep_trays}
+use Rattle.qc_mailbox.proofs.Controlling.{controls_keep_trays, damaged_journals_keep_trays, phases_keep_trays}
 use Rattle.qc_mailbox.proofs.FallLaws.{may_post, restarts_down}
-use Rattle.qc_mailbox.proofs.FallTrays.{kept_fall_by_line, kept_post, kept_rise, up_kept}
-use Rattle.qc_mailbox.proofs.Keeping.{kept_begins}
+use Rattle.qc_mailbox.proofs.FallTrays.{falls_by_lines_keep_trays, posts_keep_trays, rises_keep_trays, up_kept}
+use Rattle.qc_mailbox.proofs.Keeping.{new_trays_are_kept}
 use Rattle.qc_mailbox.specs.Vocabulary.{Inboxes, IsKept, after_control, after_fall_by_line, after_phase, after_post_as}
 use Rattle.qc_mailbox.specs.Vocabulary.{after_rising_as, after_take, empty_inboxes, with_control_gone}
 use Rattle.laws_turns.proofs.Places.{slice_get-within}
@@ -110,7 +110,7 @@ module _ (fits : ℕ → List Record → Type 0) (decl : Declaration) (script : 
         let short : IsTurnShort turn = turn_short decl script fits h inputs run accepted fit a turn slot law in
         let failed : IsFailedShort turn = turn_failed decl script fits h inputs run accepted fit a turn slot law in (
           after_post_as turn.append old.0 a turn,
-          kept_post script h old.0 a turn old.1 within
+          posts_keep_trays script h old.0 a turn old.1 within
               (post_receivers turn.append turn short.receivers failed.receivers)
               (may_post (IsLawfulWithFalls decl) fits decl script h inputs old.0 few
               (who_is_down_only_tells decl) run old.1 a turn within law),
@@ -133,7 +133,7 @@ module _ (fits : ℕ → List Record → Type 0) (decl : Declaration) (script : 
         let none : Every (λ (p : Posting). p.to < most_actors) turn.failed_sends =
         subst (Every (λ (p : Posting). p.to < most_actors)) (sym short.failed_sends) tt in (
           after_rising_as turn.append old.0 a turn,
-          kept_rise script h old.0 a rs turn old.1 (actor_within a (line_for h (controls.Restart a) lines left))
+          rises_keep_trays script h old.0 a rs turn old.1 (actor_within a (line_for h (controls.Restart a) lines left))
               (up_shown h old.0 old.1 a false (restarts_down
               (IsLawfulWithFalls decl) fits decl script h inputs few run a lines left)) has
               (post_receivers turn.append turn receivers none),
@@ -141,10 +141,11 @@ module _ (fits : ℕ → List Record → Type 0) (decl : Declaration) (script : 
 
   pub runs_with_falls_have_trays : (h : List Entry) (inputs : List Bool) → IsRun h inputs → AllRiseFit decl h
       → AreShown h
-  runs_with_falls_have_trays h inputs begins fit = (empty_inboxes script, kept_begins script)
+  runs_with_falls_have_trays h inputs begins fit = (empty_inboxes script, new_trays_are_kept script)
   runs_with_falls_have_trays h inputs (takes a g slots older run free rdy) fit =
       let old : AreShown older = runs_with_falls_have_trays older slots run (every_left _ older _ fit) in
-      (after_take old.0 a, kept_take decl script older old.0 a g old.1 (slot_within older slots run a false free) rdy)
+      (after_take old.0 a,
+          inputs_keep_trays decl script older old.0 a g old.1 (slot_within older slots run a false free) rdy)
   runs_with_falls_have_trays h inputs (posts a turn slots older run slot law) fit =
       taken older slots run (every_left _ older _ fit)
       (runs_with_falls_have_trays older slots run (every_left _ older _ fit)) a turn slot law
@@ -152,14 +153,15 @@ module _ (fits : ℕ → List Record → Type 0) (decl : Declaration) (script : 
       let old : AreShown older = runs_with_falls_have_trays older slots run (every_left _ older _ fit) in
       let next : (lines : PhaseLines) × (slice_get script.phases (phase_of older) ≡ Some lines) =
       slice_get-within script.phases (phase_of older) more in
-      (after_phase old.0 next.0, kept_phase script older old.0 (phase_of older) next.0 (controller decl) old.1 next.1)
+      (after_phase old.0 next.0,
+          phases_keep_trays script older old.0 (phase_of older) next.0 (controller decl) old.1 next.1)
   runs_with_falls_have_trays h inputs (control line lines step slots older run left acts) fit =
       let old : AreShown older = runs_with_falls_have_trays older slots run (every_left _ older _ fit) in
-      (after_control old.0 line, kept_control script older old.0 line step (controller decl) old.1 acts)
+      (after_control old.0 line, controls_keep_trays script older old.0 line step (controller decl) old.1 acts)
   runs_with_falls_have_trays h inputs (falls a lines slots older run left) fit =
       let old : AreShown older = runs_with_falls_have_trays older slots run (every_left _ older _ fit) in (
         after_fall_by_line old.0 a,
-        kept_fall_by_line script older old.0 a causes.Script None old.1
+        falls_by_lines_keep_trays script older old.0 a causes.Script None old.1
             (actor_within a (line_for older (controls.Crash a) lines left)) refl,
       )
   runs_with_falls_have_trays h inputs (rises a rs turn lines slots older run left fit_actor has law) fit =
@@ -168,13 +170,13 @@ module _ (fits : ℕ → List Record → Type 0) (decl : Declaration) (script : 
       (every_right _ older (by a (steps.Rose rs ∷ posted_as turn.append (length (mail older)) turn)) fit).0 law
   runs_with_falls_have_trays h inputs (damaged a offset lines slots older run left) fit =
       let old : AreShown older = runs_with_falls_have_trays older slots run (every_left _ older _ fit) in
-      (with_control_gone old.0, kept_damage script older old.0 a offset old.1)
+      (with_control_gone old.0, damaged_journals_keep_trays script older old.0 a offset old.1)
   runs_with_falls_have_trays h inputs (unopened a cause lines slots older run left disk) fit =
       let old : AreShown older = runs_with_falls_have_trays older slots run (every_left _ older _ fit) in
       let down : is_up old.0.up a ≡ false = up_shown older old.0 old.1 a false
       (restarts_down (IsLawfulWithFalls decl) fits decl script older slots few run a lines left) in (
         after_fall_by_line old.0 a,
-        kept_fall_by_line script older old.0 a cause None old.1
+        falls_by_lines_keep_trays script older old.0 a cause None old.1
             (actor_within a (line_for older (controls.Restart a) lines left))
             (by_disk_down (is_up old.0.up a) cause down disk),
       )

@@ -11,7 +11,7 @@ use Rattle.qc_msg.specs.declared.record.Record.{Record}
 use Rattle.qc_msg.specs.declared.turn.Turn.{Turn}
 use Rattle.qc_msg.specs.Vocabulary.{Entry, deeds}
 use Rattle.qc_record.specs.Vocabulary.{is_legal, spelled}
-use Rattle.qc_record.proofs.InForm.{legal_is}
+use Rattle.qc_record.proofs.InForm.{legal_records_are_in_form}
 use Rattle.qc_script.specs.Vocabulary.{IsScriptFor, RunsWithFalls}
 use Rattle.qc_script.specs.declared.script.Script.{Script}
 use Rattle.laws_bounds.specs.Vocabulary.{AllFit, AreWithin, IsBoundedWithFalls, TurnWithin}
@@ -62,4 +62,4 @@ module _ (decl : Declaration) (script : Script) (accepted : IsAccepted decl) (so
     turn_spelled r is =
         let its = subst (λ (o : Option Record). Every WriteInForm (option_to_list o)) is written in
         let low = subst (λ (o : Option Record). AreWithin (2 ^ 62) (option_to_list o)) is within in
-        ((legal_is r).1 (brief_form r its.0.0 low.0 its.0.1), brief_length r its.0.0 its.0.1)
+        ((legal_records_are_in_form r).1 (brief_form r its.0.0 low.0 its.0.1), brief_length r its.0.0 its.0.1)

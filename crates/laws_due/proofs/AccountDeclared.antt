@@ -13,7 +13,7 @@ use Rattle.qc_decl.specs.declared.declaration.Declaration.{Declaration}
 use Rattle.laws_turns.specs.Vocabulary.{AreAskable, AsksDeclared, IsAskable}
 use Rattle.laws_turns.proofs.Places.{slice_get-within}
 use Rattle.qc_msg.specs.declared.step.Command.{Command}
-use Rattle.qc_script.proofs.SoundScripts.{script_names}
+use Rattle.qc_script.proofs.SoundScripts.{scripts_name_what_is_declared}
 use Rattle.qc_script.specs.Vocabulary.{IsAskedFor, IsCommandFor, IsPhaseFor, IsScriptFor, script_of}
 use Rattle.qc_script.specs.declared.script.CommandLine.{CommandLine}
 use Rattle.qc_script.specs.declared.script.PhaseLines.{PhaseLines}
@@ -78,7 +78,7 @@ scripts_ask_what_is_declared decl script accepted sound = phases_ask decl accept
 pub read_scripts_ask_what_is_declared : (decl : Declaration) (bytes : List ℕ) (script : Script) → IsAccepted decl
     → script_of decl bytes ≡ Ok script → AsksDeclared decl script
 read_scripts_ask_what_is_declared decl bytes script accepted read =
-    scripts_ask_what_is_declared decl script accepted (script_names decl bytes script read)
+    scripts_ask_what_is_declared decl script accepted (scripts_name_what_is_declared decl bytes script read)
 
 -- the administrator is asked for epochs alone
 

@@ -8,7 +8,7 @@ use Rattle.qc_decl.specs.declared.declaration.Declaration.{Declaration}
 use Rattle.qc_decl.specs.Vocabulary.{most_transaction_operations, read_need_of}
 use Rattle.qc_entry.specs.declared.line.Line.{Line}
 use Rattle.qc_entry.specs.declared.line.OwnLine.{OwnLine}
-use Rattle.qc_entry.proofs.Orders.{line_order}
+use Rattle.qc_entry.proofs.Orders.{lines_are_ordered}
 use Rattle.qc_plan.specs.Vocabulary.{RoundState, next_site, verdict, wanted}
 use Rattle.qc_view.specs.declared.view.View.{View}
 use Rattle.qc_commit.specs.declared.desk.Desk.{Desk}
@@ -76,7 +76,7 @@ due_do decl d desk t views object inv qs k =
 -- what is carried
 
 pub line_itself : (l : Line) → same_line l l ≡ true
-line_itself l = ap is_eq (tied_itself line_order.total l)
+line_itself l = ap is_eq (tied_itself lines_are_ordered.total l)
 
 own_itself : (l : OwnLine) → same_own l l ≡ true
 own_itself l = rw (eq-eqb l.op l.op refl, eq-eqb l.object l.object refl, eq-eqb l.event l.event refl) refl

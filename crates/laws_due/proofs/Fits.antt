@@ -17,9 +17,9 @@ use Rattle.qc_front.specs.declared.transaction.Transaction.{Transaction}
 use Rattle.qc_front.specs.Vocabulary.{AsksAll, AsksAtOnce, AsksIn, AsksNobody, FrontHolds, FrontMove, IsNumbered}
 use Rattle.qc_front.specs.Vocabulary.{append_want, ended, is_request, numbered_all, numbered_one, read_want, request_of}
 use Rattle.qc_front.specs.Conduct as fronts
-use Rattle.qc_front.proofs.AtOnce.{called_at_once, takes_at_once}
-use Rattle.qc_front.proofs.CommandsKeep.{called_holds}
-use Rattle.qc_front.proofs.Keeping.{ended_holds, takes_holds}
+use Rattle.qc_front.proofs.AtOnce.{commands_ask_at_once, answers_ask_at_once}
+use Rattle.qc_front.proofs.CommandsKeep.{commands_keep_hold}
+use Rattle.qc_front.proofs.Keeping.{ended_holds, answers_keep_hold}
 use Rattle.qc_front.proofs.Numbering.{sent_holds}
 use Rattle.qc_client.specs.declared.client.Client.{Client}
 use Rattle.qc_client.specs.Vocabulary.{ClientMove, answered, answered_by, by_desk, by_front, called, client_does}
@@ -232,14 +232,15 @@ answered_holds decl n c number answer h = by c.desk.voting
   where
     by : (o : Option Voting) → HoldsAfter decl n (answered_by decl c o number answer)
     by None = front_holds decl n c (fronts.takes decl c.front number answer)
-        (takes_holds decl c.front number answer h.front) (takes_at_once decl c.front number answer h.front h.numbered)
+        (answers_keep_hold decl c.front number answer h.front)
+            (answers_ask_at_once decl c.front number answer h.front h.numbered)
     by (Some v) = desk_holds decl n c (desks.vote c.desk number answer) (tx_of c.desk.voting)
         (vote-moves c.desk number answer) h
 
 command_holds : (decl : Declaration) (n : ℕ) (c : Client) (command : Command) → Holds decl c
     → HoldsAfter decl n (by_front c (fronts.called decl c.front command))
 command_holds decl n c command h = front_holds decl n c (fronts.called decl c.front command)
-    (called_holds decl c.front command h.front) (called_at_once decl c.front command h.front h.numbered)
+    (commands_keep_hold decl c.front command h.front) (commands_ask_at_once decl c.front command h.front h.numbered)
 
 commits_holds : (decl : Declaration) (n : ℕ) (c : Client) (o : Option Transaction) → Holds decl c
     → HoldsAfter decl n (commits decl c o)

@@ -3,7 +3,7 @@ use Rattle.std.proofs.Common.{◌≡◌, ◌≤◌, ℕ, zero, suc, Bool, true, 
 use Rattle.std.proofs.Common.{Option, Some, None, refl, sym, ap, ◌∙◌, arith}
 use Rattle.qc_plan.specs.Vocabulary.{RoundState, asking_first, asking_in_turn, asking_next, asking_on, first, may_ask}
 use Rattle.qc_plan.specs.Vocabulary.{next_site, wanted}
-use Rattle.qc_plan.proofs.Rounds.{one_by_one}
+use Rattle.qc_plan.proofs.Rounds.{sites_are_asked_one_by_one}
 
 -- a round's one site more
 abbrev pub asking_one : RoundState → ℕ → RoundState
@@ -40,9 +40,10 @@ pub first_wanted : (r : RoundState) (site : ℕ) (sites : List ℕ) → wanted r
 first_wanted r site sites is = by (length r.rest) (let same : length r.rest ≡ length r.rest = refl in omega arith)
   where
     by : (n : ℕ) → length r.rest ≤ n → (next_site r ≡ Some site) × (wanted (asking_one r site) ≡ sites)
-    by zero low = absurd (let none : [] ≡ site ∷ sites = ap (λ (p : List ℕ × RoundState). p.0) (one_by_one zero r low)
+    by zero low = absurd (let none : [] ≡ site ∷ sites = ap (λ (p : List ℕ × RoundState). p.0) (sites_are_asked_one_by_one zero r low)
         ∙ is in let never : ⊥ = cc in never)
-    by (suc n) low = at (next_site r) refl (ap (λ (p : List ℕ × RoundState). p.0) (one_by_one (suc n) r low) ∙ is)
+    by (suc n) low =
+        at (next_site r) refl (ap (λ (p : List ℕ × RoundState). p.0) (sites_are_asked_one_by_one (suc n) r low) ∙ is)
       where
         at : (o : Option ℕ) → next_site r ≡ o → (asking_on r o (asking_next r) (asking_in_turn n)).0 ≡ site ∷ sites
             → (next_site r ≡ Some site) × (wanted (asking_one r site) ≡ sites)
@@ -54,6 +55,6 @@ first_wanted r site sites is = by (length r.rest) (let same : length r.rest ≡ 
             let asked : asking_next r ≡ asking_one r site = asking_is r site next_is in
             let low_now : length (asking_one r site).rest ≤ n = fewer n r.rest low in (
               next_is,
-              sym (ap (λ (p : List ℕ × RoundState). p.0) (one_by_one n (asking_one r site) low_now))
+              sym (ap (λ (p : List ℕ × RoundState). p.0) (sites_are_asked_one_by_one n (asking_one r site) low_now))
                   ∙ ap (λ (q : RoundState). (asking_in_turn n q).0) (sym asked) ∙ rest_is,
             )

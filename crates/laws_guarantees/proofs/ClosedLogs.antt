@@ -55,7 +55,8 @@ module _ (decl : Declaration) (script : Script) (accepted : IsAccepted decl) (so
           let r : IsRequest (mail h) number request.to tx (Read (read_of object inv)) =
           record { epoch = epoch; life = named; is = (request, found, refl, asked) } in
           let one : (answer.from ≡ request.to) × (b.tx ≡ tx)
-          × (b.want ≡ Read (read_of object inv)) = one_request decl script accepted sound h open_inputs run number answer.from
+          × (b.want ≡ Read (read_of object inv)) =
+              one_request decl script accepted sound h open_inputs run number answer.from
           request.to b.tx tx b.want (Read (read_of object inv))
           (subst (λ (ms : List Envelope). IsRequest ms number answer.from b.tx b.want)
           (stood decl script accepted sound h open_inputs run).mail_is

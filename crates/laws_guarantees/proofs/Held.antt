@@ -14,7 +14,7 @@ use Rattle.qc_lock.specs.declared.clash.Clash.{Clash}
 use Rattle.qc_lock.specs.declared.held.Held.{Held}
 use Rattle.qc_lock.specs.Vocabulary.{IsAppendConflict, IsReadConflict, IsSmallest, append_clash, read_clash}
 use Rattle.qc_lock.specs.Vocabulary.{without_held}
-use Rattle.qc_lock.proofs.Conflicts.{append_smallest, read_smallest}
+use Rattle.qc_lock.proofs.Conflicts.{appends_are_refused_on_conflict, reads_are_refused_on_conflict}
 use Rattle.qc_lock.proofs.Entries.{apart_sym, same_self}
 use Rattle.qc_msg.specs.declared.message.Envelope.{Envelope}
 use Rattle.qc_msg.specs.declared.message.Message.{Message}
@@ -186,7 +186,7 @@ pub read_way : (relation : List ℕ) (ms : List Envelope) (held : List Held) (tx
 read_way relation ms held tx object inv c all is =
     let found : IsSmallest (IsReadConflict relation held tx object inv) (Some c) =
     subst (IsSmallest (IsReadConflict relation held tx object inv)) is
-    (read_smallest relation held tx object inv) in
+    (reads_are_refused_on_conflict relation held tx object inv) in
     let conflict : IsReadConflict relation held tx object inv c = found.0 in
     record {
       is_open = ap (λ (d : Clash). is_open d.holder ms) conflict.told
@@ -198,7 +198,8 @@ pub append_way : (relation : List ℕ) (ms : List Envelope) (held : List Held) (
     (c : Clash) → AreOpen ms held → append_clash relation held tx own ≡ Some c → IsInTheWay ms tx c
 append_way relation ms held tx own c all is =
     let found : IsSmallest (IsAppendConflict relation held tx own) (Some c) =
-    subst (IsSmallest (IsAppendConflict relation held tx own)) is (append_smallest relation held tx own) in
+    subst (IsSmallest (IsAppendConflict relation held tx own)) is (appends_are_refused_on_conflict relation held tx own)
+        in
     let conflict : IsAppendConflict relation held tx own c = found.0 in
     record {
       is_open = ap (λ (d : Clash). is_open d.holder ms) conflict.told

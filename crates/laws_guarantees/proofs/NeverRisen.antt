@@ -5,7 +5,7 @@ use Rattle.std.specs.Prelude.{sum_by}
 use Rattle.qc_decl.specs.declared.declaration.Declaration.{Declaration}
 use Rattle.qc_entry.specs.declared.record.Commit.{Commit}
 use Rattle.qc_list.proofs.Members.{every-append}
-use Rattle.qc_msg.proofs.Growth.{operations-written}
+use Rattle.qc_msg.proofs.Growth.{operations_are_those_of_records}
 use Rattle.qc_msg.specs.Vocabulary.{Deed, Entry, IsNoRise, answered, by, mail, marked, operations_of, posted, sents}
 use Rattle.qc_msg.specs.Vocabulary.{step_of, told, written, wrote}
 use Rattle.qc_msg.specs.declared.record.Record.{Record}
@@ -73,4 +73,4 @@ module _ (lawful : ℕ → List Deed → Turn → Type 0) (decl : Declaration) (
 
   pub operations_written : (h : List Entry) (open_inputs : List Bool) → Runs lawful decl script h open_inputs
       → operations_of h ≡ sum_by (λ (c : Commit). answered c.ops) (written h)
-  operations_written h open_inputs run = operations-written h (never_risen h open_inputs run)
+  operations_written h open_inputs run = operations_are_those_of_records h (never_risen h open_inputs run)

@@ -1,7 +1,7 @@
 -- In each history the commands that wait for an actor are the script's: so a command that is ready names what is
 -- declared.
-use Rattle.std.proofs.Common.{◌≡◌, ℕ, ◌+◌, ◌-◌, ◌==◌, ◌&&◌, not, Bool, true, false, cond, if◌then◌else◌, inl, inr, List}
-use Rattle.std.proofs.Common.{[], ◌∷◌, drop, filter, fold, map, Option, Some, None, slice_get, refl, subst}
+use Rattle.std.proofs.Common.{◌≡◌, ℕ, ◌+◌, ◌-◌, ◌==◌, ◌&&◌, not, Bool, true, false, cond, inl, inr, List, [], ◌∷◌, drop}
+use Rattle.std.proofs.Common.{filter, fold, map, Option, Some, None, slice_get, refl, subst, if◌then◌else◌}
 use Rattle.std.specs.List.{AllByRecursion as Every}
 use Rattle.std.specs.Option.{option_map_or}
 use Rattle.std.specs.Prelude.{set}
@@ -12,13 +12,13 @@ use Rattle.qc_link.specs.declared.rule.Fate.{Fate}
 use Rattle.qc_link.specs.Vocabulary.{fate, with_cut, without_cut}
 use Rattle.qc_msg.specs.declared.message.Envelope.{Envelope}
 use Rattle.qc_msg.specs.declared.message.Message.{Message}
-use Rattle.qc_msg.specs.declared.message.Message.TheVariants as messages
 use Rattle.qc_msg.specs.declared.step.Command.{Command}
 use Rattle.qc_msg.specs.declared.step.Control.{Control}
 use Rattle.qc_msg.specs.declared.step.Input.TheVariants as inputs
 use Rattle.qc_msg.specs.declared.step.Step.{Step}
 use Rattle.qc_msg.specs.declared.step.Step.TheVariants as steps
-use Rattle.qc_msg.specs.Vocabulary.{Entry}
+use Rattle.qc_msg.specs.Vocabulary.{Answered, Entry, answer_in}
+use Rattle.laws_turns.proofs.ReadingCases.{mapped}
 use Rattle.qc_script.specs.Vocabulary.{Inbox, after_controls, command_in, empty_inbox, first_command, first_copy}
 use Rattle.qc_script.specs.Vocabulary.{first_lost, inbox, inbox_at, ready, requests_to, requests_to_others}
 use Rattle.qc_script.specs.Vocabulary.{takes_commands, with_lost}
@@ -46,13 +46,9 @@ module _ (decl : Declaration) (script : Script) (named : AreNamed decl script) (
       (record i { controls = boxes.acting i.up (drop 1 i.controls) }) are
 
   answered : (i : Inbox) (m : Message) (f : Fate) → AskedNamed i → AskedNamed (boxes.answers_by i m f)
-  answered i (messages.Request tx epoch life want) f are = are
-  answered i (messages.Answer to answer) f are = of_either _ _ i are are
-  answered i (messages.Decision tx verdict) f are = are
-  answered i (messages.Inquiry tx) f are = are
-  answered i (messages.Ask tx) f are = are
-  answered i (messages.Close epoch) f are = are
-  answered i (messages.Install start) f are = are
+  answered i m f are =
+      mapped AskedNamed (λ (a : Answered). boxes.request_answered i a.to f) i (answer_in m)
+      (λ a. of_either _ _ i are are) are
 
   sent : (i : Inbox) (e : Envelope) → AskedNamed i
       → AskedNamed (boxes.goes script.links a (boxes.comes script.links a i e) e)

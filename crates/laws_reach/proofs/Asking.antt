@@ -2,6 +2,7 @@
 -- these, it asks about no others, and promises for no others.
 use Rattle.std.proofs.Common.{ℕ, Bool, true, false, List, [], ◌∷◌, fold, inl, inr, Option, Some, None, option_to_list}
 use Rattle.std.proofs.Common.{sym, subst}
+use Rattle.std.specs.Prelude.{MatchOption, ◌≡◌}
 use Rattle.std.specs.List.{AllByRecursion as Every}
 use Rattle.qc_client.specs.Vocabulary.{client_takes}
 use Rattle.qc_client.specs.declared.client.Client.{Client}
@@ -14,12 +15,11 @@ use Rattle.qc_core.proofs.AdminWrites.{admin_written}
 use Rattle.qc_core.proofs.ByNumber.{new_by, rises_by}
 use Rattle.qc_core.proofs.PostsByTurns.{called_turn}
 use Rattle.qc_core.proofs.Written.{client_written}
-use Rattle.qc_decl.specs.Vocabulary.{is_client, is_site}
+use Rattle.qc_decl.specs.Vocabulary.{client_actor, is_client, is_site}
 use Rattle.qc_decl.specs.declared.declaration.Declaration.{Declaration}
 use Rattle.qc_epoch.specs.Vocabulary.{Admin, admin_takes}
 use Rattle.qc_list.proofs.Members.{every-weaker}
 use Rattle.qc_msg.specs.declared.message.Message.{Message}
-use Rattle.qc_msg.specs.declared.message.Message.TheVariants as messages
 use Rattle.qc_msg.specs.declared.record.Record.{Record}
 use Rattle.qc_msg.specs.declared.record.Record.TheVariants as records
 use Rattle.qc_msg.specs.declared.step.Input.{Input}
@@ -28,10 +28,12 @@ use Rattle.qc_msg.specs.declared.turn.Appended.{Appended}
 use Rattle.qc_msg.specs.declared.turn.Appended.TheVariants.{Done, Failed, Stopped}
 use Rattle.qc_msg.specs.declared.turn.Posting.{Posting}
 use Rattle.qc_msg.specs.declared.turn.Turn.{Turn}
-use Rattle.qc_msg.specs.Vocabulary.{Deed, Falls, Rises, Sends, Takes, Tells, Writes, quiet, sends_as}
+use Rattle.qc_msg.specs.Vocabulary.{Deed, Falls, Rises, Sends, Takes, Tells, Writes, quiet, sends_as, inquiry_in}
 use Rattle.qc_recover.specs.Vocabulary.{site_rises}
 use Rattle.laws_turns.proofs.TurnsGoOn.{IsNoInquiry, NoInquiries}
 use Rattle.laws_turns.proofs.SitesAsk.{GivenTells, HeldFor, PreparedFor}
+use Rattle.laws_turns.proofs.MessageCases.{message_cases}
+use Rattle.laws_turns.proofs.ReadingCases.{matched_by}
 use Rattle.qc_stamp.specs.declared.stamp.TxId.{TxId}
 use Rattle.laws_due.proofs.Writing.{IsClientTurn, takes_turn}
 use Rattle.laws_reach.proofs.Changes.{input_changes}
@@ -54,13 +56,9 @@ module _ (decl : Declaration) (B : TxId → Type 0) where
   -- a client asks nobody
 
   no_inquiry : (to : ℕ) (message : Message) → IsNoInquiry message → IsAbout decl B to message
-  no_inquiry to (messages.Request tx epoch life want) none = tt
-  no_inquiry to (messages.Answer asked answer) none = tt
-  no_inquiry to (messages.Decision tx verdict) none = tt
-  no_inquiry to (messages.Inquiry tx) none = absurd none
-  no_inquiry to (messages.Ask tx) none = tt
-  no_inquiry to (messages.Close epoch) none = tt
-  no_inquiry to (messages.Install start) none = tt
+  no_inquiry to m none =
+      matched_by (Unit {0}) (Unit {0}) (λ (tx : TxId). ⊥) (λ (tx : TxId). (to ≡ client_actor decl tx.client) × B tx)
+      (inquiry_in m) (λ tx never. absurd never) (λ n. n) none
 
   none_about : (ps : List Posting) → NoInquiries ps → AreAbout decl B ps
   none_about ps none = every-weaker (λ (p : Posting). IsNoInquiry p.message)
@@ -82,13 +80,11 @@ module _ (decl : Declaration) (B : TxId → Type 0) where
   -- nor does the administrator, of whom nobody is promised anything
 
   admin_no_inquiry : (to : ℕ) (message : Message) → IsOfAdmin message → IsAbout decl B to message
-  admin_no_inquiry to (messages.Request tx epoch life want) is = absurd is
-  admin_no_inquiry to (messages.Answer asked answer) is = absurd is
-  admin_no_inquiry to (messages.Decision tx verdict) is = absurd is
-  admin_no_inquiry to (messages.Inquiry tx) is = absurd is
-  admin_no_inquiry to (messages.Ask tx) is = tt
-  admin_no_inquiry to (messages.Close epoch) is = tt
-  admin_no_inquiry to (messages.Install start) is = tt
+  admin_no_inquiry to m is =
+      message_cases
+      (λ m request answer decision question. IsOfAdmin m
+      → MatchOption question (Unit {0}) (λ (tx : TxId). (to ≡ client_actor decl tx.client) × B tx))
+      (λ q never. tt) (λ a never. tt) (λ v never. tt) (λ tx never. absurd never) (λ m its. tt) m is
 
   no_promise : (w : Option Record) → WritesDecision w → Every (PromisesFor decl B) (option_to_list w)
   no_promise None is = tt

@@ -1,6 +1,7 @@
 -- A commit record that becomes known by an input, a record or a message has the operations that the client was told.
-use Rattle.std.proofs.Common.{[], ◌≡◌, ◌≤◌, ◌⊎◌, inl, inr, ℕ, ◌+◌, Bool, true, false, cond, fold, List, ◌∷◌, Option}
+use Rattle.std.proofs.Common.{◌≡◌, ◌≤◌, ◌⊎◌, inl, inr, ℕ, ◌+◌, Bool, true, false, cond, fold, List, [], ◌∷◌, Option}
 use Rattle.std.proofs.Common.{Some, None, option_map, option_and_then, refl, sym, ap, ◌∙◌, subst, arith}
+use Rattle.std.specs.Option.{option_map_or}
 use Rattle.std.proofs.lemmas.List.Sums.{fold-append}
 use Rattle.qc_list.specs.Vocabulary.{In}
 use Rattle.qc_list.proofs.Members.{In-more}
@@ -11,14 +12,14 @@ use Rattle.qc_entry.specs.declared.record.Commit.{Commit as CommitRecord}
 use Rattle.qc_core.specs.Vocabulary.{journal_at}
 use Rattle.qc_msg.specs.declared.message.Message.{Message}
 use Rattle.qc_msg.specs.declared.record.Record.{Record}
-use Rattle.qc_msg.specs.declared.record.Record.TheVariants.{Life, Prepare, Done, Close, Install, Commit, Decide}
+use Rattle.qc_msg.specs.declared.record.Record.TheVariants.{Life, Commit}
 use Rattle.qc_msg.specs.declared.reply.Reply.{Reply}
 use Rattle.qc_msg.specs.declared.reply.Reply.TheVariants as replies
 use Rattle.qc_msg.specs.declared.step.Command.{Command}
 use Rattle.qc_msg.specs.declared.step.Command.TheVariants as commands
 use Rattle.qc_msg.specs.declared.step.Input.{Input}
 use Rattle.qc_msg.specs.declared.step.Input.TheVariants as inputs
-use Rattle.qc_msg.specs.Vocabulary.{Deed, Sends, Takes, Writes, is_life}
+use Rattle.qc_msg.specs.Vocabulary.{Deed, Sends, Takes, Writes, commit_of as commit_in, is_life}
 use Rattle.qc_promise.specs.Vocabulary.{Account, Current, Dealing, IsInputDue, IsRecordDue, Journal, Place, account_at}
 use Rattle.qc_promise.specs.Vocabulary.{commit_of, deal, due, life_with, pending_next, reply_to}
 use Rattle.laws_reach.specs.Vocabulary.{Says, SaysIn}
@@ -27,6 +28,7 @@ use Rattle.laws_reach.proofs.Rows.{reply_says}
 use Rattle.laws_reach.proofs.Bases.{Base, Both, IsPast, Settled, both_as, called, none_some, some_is, true_false}
 use Rattle.laws_reach.proofs.Steps.{lives_on}
 use Rattle.laws_reach.proofs.DealingsTurning.{is_failing, is_off}
+use Rattle.laws_reach.proofs.RecordCases.{due_cases}
 
 -- a life is no less with more records
 pub life_up : (n : ℕ) (rs : List Record) → n ≤ fold life_with n rs
@@ -109,23 +111,8 @@ module _ (decl : Declaration) (c : CommitRecord) where
   written_known p q j r before after not (inr (inl at)) = inl (inr (inl at))
   written_known p q j r before after not (inr (inr at)) = absurd (true_false (is_failing q) at.0 not)
 
-  abbrev IsCommitRecord : Record → Type 0
-  IsCommitRecord Life = ⊥
-  IsCommitRecord (Prepare prepared) = ⊥
-  IsCommitRecord (Done tx clock) = ⊥
-  IsCommitRecord (Close epoch) = ⊥
-  IsCommitRecord (Install start) = ⊥
-  IsCommitRecord (Commit commit) = Unit {0}
-  IsCommitRecord (Decide start) = ⊥
-
   abbrev pub commit_or : Record → CommitRecord
-  commit_or Life = c
-  commit_or (Prepare prepared) = c
-  commit_or (Done tx clock) = c
-  commit_or (Close epoch) = c
-  commit_or (Install start) = c
-  commit_or (Commit commit) = commit
-  commit_or (Decide start) = c
+  commit_or r = option_map_or (λ (e : CommitRecord). e) (commit_in r) c
 
   -- the record of the account has its transaction's operations
   pub recorded : (off : Bool) (d : Account) (x : Dealing) (stamp : Stamp) (o : Option Current) → d.current ≡ o
@@ -158,7 +145,7 @@ module _ (decl : Declaration) (c : CommitRecord) where
     where
       old : Known p j (Writes Life ∷ after) ⊎ (Commit c ≡ Life) → Known p j (Writes Life ∷ after)
       old (inl k) = k
-      old (inr is) = absurd (subst IsCommitRecord is tt)
+      old (inr is) = absurd (let never : ⊥ = cc in never)
 
   writes_commit : (p q : Place) (d : Account) (x : Dealing) (j : Journal) (commit : CommitRecord) (after : List Deed)
       → (is_off q ≡ false) × ((is_failing q ≡ false) × (is_off p ≡ false))
@@ -202,13 +189,13 @@ module _ (decl : Declaration) (c : CommitRecord) where
       → (is_off q ≡ false) × ((is_failing q ≡ false) × (is_off p ≡ is_life r))
       → IsRecordDue d (due decl d false) r → Ongoing p d x j (Writes r ∷ after)
       → Ongoing q (account_at decl d (Writes r)) x (journal_at j (Writes r)) after
-  wrote p q d x j Life after place its s = writes_life p q d x j after place s
-  wrote p q d x j (Prepare prepared) after place its s = absurd its
-  wrote p q d x j (Done tx clock) after place its s = absurd its
-  wrote p q d x j (Close epoch) after place its s = absurd its
-  wrote p q d x j (Install start) after place its s = absurd its
-  wrote p q d x j (Commit commit) after place its s = writes_commit p q d x j commit after place its s
-  wrote p q d x j (Decide start) after place its s = absurd its
+  wrote p q d x j r after place its s =
+      due_cases d (due decl d false)
+      (λ (r : Record). (is_off q ≡ false) × ((is_failing q ≡ false) × (is_off p ≡ is_life r))
+      → Ongoing p d x j (Writes r ∷ after)
+      → Ongoing q (account_at decl d (Writes r)) x (journal_at j (Writes r)) after)
+      (λ place s. writes_life p q d x j after place s)
+      (λ commit its place s. writes_commit p q d x j commit after place its s) r its place s
 
   -- a message is sent
   pub sent : (p q : Place) (d : Account) (x : Dealing) (j : Journal) (number to : ℕ) (m : Message) (after : List Deed)

@@ -1,44 +1,38 @@
 -- What an input changes of a client, as far as its transactions' statuses go.
-use Rattle.std.proofs.Common.{◌≡◌, ℕ, ◌⊎◌, inl, inr, Bool, true, false, cond, List, [], ◌∷◌, ◌++◌, Option, Some, None}
-use Rattle.std.proofs.Common.{is_some, refl, sym, ap, ◌∙◌, subst}
+use Rattle.std.proofs.Common.{◌≡◌, ℕ, ◌⊎◌, inl, inr, cond, List, [], ◌∷◌, ◌++◌, Option, Some, None, is_some, refl, sym}
+use Rattle.std.proofs.Common.{ap, ◌∙◌, subst}
 use Rattle.qc_stamp.specs.declared.stamp.TxId.{TxId}
 use Rattle.qc_decl.specs.declared.declaration.Declaration.{Declaration}
 use Rattle.qc_entry.specs.declared.record.Commit.{Commit}
 use Rattle.qc_msg.specs.declared.begun.Begun.{Begun as BegunTransaction}
-use Rattle.qc_msg.specs.declared.message.Answer.{Answer}
 use Rattle.qc_msg.specs.declared.message.Message.{Message}
 use Rattle.qc_msg.specs.declared.message.Message.TheVariants as messages
-use Rattle.qc_msg.specs.declared.message.Want.TheVariants.{Append, Prepare, Read}
 use Rattle.qc_msg.specs.declared.record.Record.TheVariants as records
 use Rattle.qc_msg.specs.declared.reply.Reply.{Reply}
 use Rattle.qc_msg.specs.declared.reply.Reply.TheVariants as replies
-use Rattle.qc_msg.specs.declared.step.Command.{Command}
-use Rattle.qc_msg.specs.declared.step.Command.TheVariants as commands
 use Rattle.qc_msg.specs.declared.step.Input.{Input}
-use Rattle.qc_msg.specs.declared.step.Input.TheVariants as inputs
 use Rattle.qc_msg.specs.declared.turn.Turn.{Turn}
-use Rattle.qc_msg.specs.Vocabulary.{Deed, Falls, Rises, Sends, Takes, Tells, Writes, decisions}
+use Rattle.qc_msg.specs.Vocabulary.{Deed, Falls, Requested, Rises, Sends, Takes, Tells, Writes, decisions, sending}
 use Rattle.std.specs.List.{AllByRecursion as Every}
 use Rattle.laws_turns.proofs.ClientsWithin.{IsPost}
 use Rattle.qc_commit.specs.declared.desk.Voting.{Voting}
 use Rattle.qc_commit.specs.Conduct as desks
 use Rattle.qc_commit.specs.Vocabulary.{DeskMove, commit_of}
-use Rattle.qc_front.specs.declared.transaction.Transaction.{Transaction}
-use Rattle.qc_front.specs.Conduct as fronts
 use Rattle.qc_front.specs.Vocabulary.{FrontMove, ended, next_tx}
 use Rattle.qc_client.specs.declared.client.Client.{Client}
-use Rattle.qc_client.specs.Vocabulary.{ClientMove, answered, answered_by, by_desk, by_front, called, client_does}
-use Rattle.qc_client.specs.Vocabulary.{client_takes, commits, heard, moved, sent_one}
+use Rattle.qc_client.specs.Vocabulary.{ClientMove, by_desk, by_front, client_does, client_takes, moved, sent_one}
 use Rattle.laws_turns.proofs.DealingParts.{IsAbort}
-use Rattle.laws_turns.proofs.HandMoves.{IsHandMove, prepare-it, vote-it}
+use Rattle.laws_turns.proofs.HandMoves.{IsHandMove}
+use Rattle.laws_turns.proofs.ClientCases.{sent_cases}
+use Rattle.laws_turns.proofs.MessageCases.{message_cases}
+use Rattle.laws_reach.proofs.TakesCases.{takes_cases}
 use Rattle.laws_turns.proofs.FrontGoesOn.{FrontKind, IsRequestFor, ToldNeutral}
-use Rattle.laws_turns.proofs.FrontKinds.{called-kind, takes-kind}
 use Rattle.laws_turns.proofs.TurnsGoOn.{IsNoInquiry, NoInquiries}
 use Rattle.qc_list.proofs.Members.{every-weaker}
 use Rattle.qc_msg.specs.declared.message.Outcome.{Outcome}
 use Rattle.qc_msg.specs.declared.message.Outcome.TheVariants as outcomes
 use Rattle.qc_msg.specs.declared.turn.Posting.{Posting}
-use Rattle.std.specs.Prelude.{fold, map}
+use Rattle.std.specs.Prelude.{MatchOption, fold, map}
 use Rattle.laws_turns.proofs.StatusInputs.{page_of}
 use Rattle.laws_turns.proofs.Statuses.{Page}
 
@@ -61,13 +55,12 @@ pub record Changes (p q : Page) (turn : Turn) : Type 0 where
 -- a client's requests and verdicts ask nobody how a transaction stands
 
 request_asks : (name : Option TxId) (m : Message) → IsRequestFor name m → IsNoInquiry m
-request_asks name (messages.Request other epoch life want) is = tt
-request_asks name (messages.Answer to answer) never = absurd never
-request_asks name (messages.Decision other verdict) never = absurd never
-request_asks name (messages.Inquiry other) never = absurd never
-request_asks name (messages.Ask other) never = absurd never
-request_asks name (messages.Close epoch) never = absurd never
-request_asks name (messages.Install start) never = absurd never
+request_asks name m is =
+    message_cases
+    (λ m request answer decision question. MatchOption request ⊥ (λ (q : Requested). name ≡ Some q.tx)
+    → MatchOption question (Unit {0}) (λ (other : TxId). ⊥))
+    (λ q its. tt) (λ a never. absurd never) (λ v never. absurd never) (λ tx never. absurd never)
+    (λ m never. absurd never) m is
 
 requests_ask : (name : Option TxId) (ps : List Posting) → Every (λ (p : Posting). IsRequestFor name p.message) ps
     → NoInquiries ps
@@ -171,65 +164,19 @@ module _ (decl : Declaration) (c : Client) where
             sym (ap (λ (t : Turn). t.told) a.turn) ∙ is in let never : ⊥ = cc in never);
       })
 
-  fronted : (command : Command) → To (by_front c (fronts.called decl c.front command))
-  fronted command = front_to (fronts.called decl c.front command) (called-kind decl c.front command)
-
-  committing : (o : Option Transaction) → To (commits decl c o)
-  committing None = fronted commands.Commit
-  committing (Some t) = by t.begun.doomed where
-    by : (dead : Bool) → To (cond dead (by_front c (fronts.called decl c.front commands.Commit))
-        (by_desk c (desks.prepare decl c.desk t.begun c.front.clock.value)))
-    by true = fronted commands.Commit
-    by false = desk_to t.begun (desks.prepare decl c.desk t.begun c.front.clock.value)
-        (prepare-it decl c.desk t.begun c.front.clock.value)
-
-  calls : (command : Command) → To (called decl c command)
-  calls commands.Begin = fronted commands.Begin
-  calls (commands.Do object inv) = fronted (commands.Do object inv)
-  calls commands.Commit = committing c.front.transaction
-  calls commands.Abort = fronted commands.Abort
-  calls (commands.Epoch number) = fronted (commands.Epoch number)
-
-  comes : (number : ℕ) (answer : Option Answer) → To (answered decl c number answer)
-  comes number answer = by c.desk.voting refl where
-    by : (o : Option Voting) → c.desk.voting ≡ o → To (answered_by decl c o number answer)
-    by None is = front_to (fronts.takes decl c.front number answer) (takes-kind decl c.front number answer)
-    by (Some v) is = desk_to v.begun (desks.vote c.desk number answer) (vote-it c.desk v number answer is)
-
-  hears : (from number : ℕ) (message : Message) → To (heard decl c from number message)
-  hears from number (messages.Request other epoch life want) =
-      still (heard decl c from number (messages.Request other epoch life want)).turn refl refl tt
-  hears from number (messages.Answer to answer) = comes to (Some answer)
-  hears from number (messages.Decision other verdict) =
-      still (heard decl c from number (messages.Decision other verdict)).turn refl refl tt
-  hears from number (messages.Inquiry other) =
-      still (heard decl c from number (messages.Inquiry other)).turn refl refl (tt, tt)
-  hears from number (messages.Ask other) = still (heard decl c from number (messages.Ask other)).turn refl refl (tt, tt)
-  hears from number (messages.Close epoch) = still (heard decl c from number (messages.Close epoch)).turn refl refl tt
-  hears from number (messages.Install start) =
-      still (heard decl c from number (messages.Install start)).turn refl refl tt
-
   pub input_changes : (g : Input) → Changes (page_of c) (page_of (client_takes decl c g).client)
       (client_takes decl c g).turn
-  input_changes (inputs.Called command) = calls command
-  input_changes (inputs.Got e) = hears e.from e.number e.message
-  input_changes (inputs.Lost number) = comes number None
+  input_changes g = takes_cases decl c To front_to desk_to (λ ps none. still (sending ps) refl refl none) g
 
 -- the numbers of its messages change nothing of it
 
 page_one : (c : Client) (number to : ℕ) (message : Message) → page_of (sent_one c number to message) ≡ page_of c
-page_one c number to (messages.Request other epoch life (Read read)) = refl
-page_one c number to (messages.Request other epoch life (Append object view own)) = refl
-page_one c number to (messages.Request other epoch life Prepare) = by c.desk.voting where
-  by : (o : Option Voting) → page_of (record c { desk = desks.prepared_in c.desk o number to }) ≡ page_of c
-  by None = refl
-  by (Some v) = refl
-page_one c number to (messages.Answer other answer) = refl
-page_one c number to (messages.Decision other verdict) = refl
-page_one c number to (messages.Inquiry other) = refl
-page_one c number to (messages.Ask other) = refl
-page_one c number to (messages.Close epoch) = refl
-page_one c number to (messages.Install start) = refl
+page_one c number to message =
+    sent_cases c number to (λ (d : Client). page_of d ≡ page_of c) refl (by c.desk.voting) refl message
+  where
+    by : (o : Option Voting) → page_of (record c { desk = desks.prepared_in c.desk o number to }) ≡ page_of c
+    by None = refl
+    by (Some v) = refl
 
 pub page_posts : (decl : Declaration) (m : ClientMove) (ds : List Deed) → Every IsPost ds
     → page_of (fold (client_does decl) m ds).client ≡ page_of m.client

@@ -1,34 +1,26 @@
 -- A client's turn writes a commit record above its desk's clock, which passes it, or none, and the clock doesn't fall.
-use Rattle.std.proofs.Common.{◌≡◌, ◌≤◌, ◌<◌, ◌⊎◌, ℕ, inl, inr, Bool, true, false, cond, List, [], ◌∷◌, fold, Option}
-use Rattle.std.proofs.Common.{Some, None, refl, ap, ◌∙◌, arith}
+use Rattle.std.proofs.Common.{◌≡◌, ◌≤◌, ◌<◌, ◌⊎◌, ℕ, inl, inr, List, [], ◌∷◌, fold, Option, Some, None, refl, ap, ◌∙◌}
+use Rattle.std.proofs.Common.{arith}
 use Rattle.std.specs.List.{AllByRecursion as Every}
 use Rattle.qc_client.specs.declared.client.Client.{Client}
-use Rattle.qc_client.specs.Vocabulary.{ClientMove, answered, answered_by, by_desk, by_front, called, client_does}
-use Rattle.qc_client.specs.Vocabulary.{client_takes, commits, heard, moved, sent_one}
+use Rattle.qc_client.specs.Vocabulary.{ClientMove, by_desk, by_front, client_does, client_takes, moved, sent_one}
 use Rattle.qc_commit.specs.declared.desk.Voting.{Voting}
 use Rattle.qc_commit.specs.Conduct as desks
 use Rattle.qc_commit.specs.Vocabulary.{DeskMove, commit_of}
 use Rattle.qc_decl.specs.declared.declaration.Declaration.{Declaration}
 use Rattle.qc_entry.specs.declared.record.Commit.{Commit}
-use Rattle.qc_front.specs.declared.transaction.Transaction.{Transaction}
-use Rattle.qc_front.specs.Conduct as fronts
 use Rattle.qc_front.specs.Vocabulary.{FrontMove}
 use Rattle.qc_msg.specs.declared.begun.Begun.{Begun}
-use Rattle.qc_msg.specs.declared.message.Answer.{Answer}
 use Rattle.qc_msg.specs.declared.message.Message.{Message}
-use Rattle.qc_msg.specs.declared.message.Message.TheVariants as messages
-use Rattle.qc_msg.specs.declared.message.Want.TheVariants.{Append, Prepare, Read}
 use Rattle.qc_msg.specs.declared.record.Record.TheVariants as records
-use Rattle.qc_msg.specs.declared.step.Command.{Command}
-use Rattle.qc_msg.specs.declared.step.Command.TheVariants as commands
 use Rattle.qc_msg.specs.declared.step.Input.{Input}
-use Rattle.qc_msg.specs.declared.step.Input.TheVariants as inputs
 use Rattle.qc_msg.specs.declared.turn.Turn.{Turn}
-use Rattle.qc_msg.specs.Vocabulary.{Deed, Falls, Rises, Sends, Takes, Tells, Writes}
+use Rattle.qc_msg.specs.Vocabulary.{Deed, Falls, Rises, Sends, Takes, Tells, Writes, sending}
 use Rattle.laws_turns.proofs.ClientsWithin.{IsPost}
 use Rattle.laws_turns.proofs.FrontGoesOn.{FrontKind}
-use Rattle.laws_turns.proofs.FrontKinds.{called-kind, takes-kind}
-use Rattle.laws_turns.proofs.HandMoves.{IsHandMove, prepare-it, vote-it}
+use Rattle.laws_turns.proofs.HandMoves.{IsHandMove}
+use Rattle.laws_turns.proofs.ClientCases.{sent_cases}
+use Rattle.laws_reach.proofs.TakesCases.{takes_cases}
 
 pub record StampsNone (before after : ℕ) (turn : Turn) : Type 0 where
   pub write : turn.write ≡ None
@@ -69,64 +61,20 @@ module _ (decl : Declaration) (c : Client) where
   still : (turn : Turn) → turn.write ≡ None → To (moved c turn)
   still turn unwritten = inl (record { write = unwritten; on = omega arith })
 
-  fronted : (command : Command) → To (by_front c (fronts.called decl c.front command))
-  fronted command = front_to (fronts.called decl c.front command) (called-kind decl c.front command)
-
-  committing : (o : Option Transaction) → To (commits decl c o)
-  committing None = fronted commands.Commit
-  committing (Some t) = by t.begun.doomed where
-    by : (dead : Bool) → To (cond dead (by_front c (fronts.called decl c.front commands.Commit))
-        (by_desk c (desks.prepare decl c.desk t.begun c.front.clock.value)))
-    by true = fronted commands.Commit
-    by false = desk_to t.begun (desks.prepare decl c.desk t.begun c.front.clock.value)
-        (prepare-it decl c.desk t.begun c.front.clock.value)
-
-  calls : (command : Command) → To (called decl c command)
-  calls commands.Begin = fronted commands.Begin
-  calls (commands.Do object inv) = fronted (commands.Do object inv)
-  calls commands.Commit = committing c.front.transaction
-  calls commands.Abort = fronted commands.Abort
-  calls (commands.Epoch number) = fronted (commands.Epoch number)
-
-  comes : (number : ℕ) (answer : Option Answer) → To (answered decl c number answer)
-  comes number answer = by c.desk.voting refl where
-    by : (o : Option Voting) → c.desk.voting ≡ o → To (answered_by decl c o number answer)
-    by None is = front_to (fronts.takes decl c.front number answer) (takes-kind decl c.front number answer)
-    by (Some v) is = desk_to v.begun (desks.vote c.desk number answer) (vote-it c.desk v number answer is)
-
-  hears : (from number : ℕ) (message : Message) → To (heard decl c from number message)
-  hears from number (messages.Request other epoch life want) =
-      still (heard decl c from number (messages.Request other epoch life want)).turn refl
-  hears from number (messages.Answer to answer) = comes to (Some answer)
-  hears from number (messages.Decision other verdict) =
-      still (heard decl c from number (messages.Decision other verdict)).turn refl
-  hears from number (messages.Inquiry other) = still (heard decl c from number (messages.Inquiry other)).turn refl
-  hears from number (messages.Ask other) = still (heard decl c from number (messages.Ask other)).turn refl
-  hears from number (messages.Close epoch) = still (heard decl c from number (messages.Close epoch)).turn refl
-  hears from number (messages.Install start) =
-      still (heard decl c from number (messages.Install start)).turn refl
-
   pub takes_stamps : (g : Input) → Stamps c (client_takes decl c g)
-  takes_stamps (inputs.Called command) = calls command
-  takes_stamps (inputs.Got e) = hears e.from e.number e.message
-  takes_stamps (inputs.Lost number) = comes number None
+  takes_stamps g = takes_cases decl c To front_to desk_to (λ ps none. still (sending ps) refl) g
 
 -- the numbers of its messages are nothing to the clock
 
 clock_one : (c : Client) (number to : ℕ) (message : Message)
     → (sent_one c number to message).desk.clock.value ≡ c.desk.clock.value
-clock_one c number to (messages.Request other epoch life (Read read)) = refl
-clock_one c number to (messages.Request other epoch life (Append object view own)) = refl
-clock_one c number to (messages.Request other epoch life Prepare) = by c.desk.voting where
-  by : (o : Option Voting) → (desks.prepared_in c.desk o number to).clock.value ≡ c.desk.clock.value
-  by None = refl
-  by (Some v) = refl
-clock_one c number to (messages.Answer other answer) = refl
-clock_one c number to (messages.Decision other verdict) = refl
-clock_one c number to (messages.Inquiry other) = refl
-clock_one c number to (messages.Ask other) = refl
-clock_one c number to (messages.Close epoch) = refl
-clock_one c number to (messages.Install start) = refl
+clock_one c number to message =
+    sent_cases c number to (λ (d : Client). d.desk.clock.value ≡ c.desk.clock.value) refl (by c.desk.voting) refl
+    message
+  where
+    by : (o : Option Voting) → (desks.prepared_in c.desk o number to).clock.value ≡ c.desk.clock.value
+    by None = refl
+    by (Some v) = refl
 
 pub clock_posts : (decl : Declaration) (m : ClientMove) (ds : List Deed) → Every IsPost ds
     → (fold (client_does decl) m ds).client.desk.clock.value ≡ m.client.desk.clock.value

@@ -1,8 +1,10 @@
 -- Where records are kept, the commit records that clients wrote, or rose with, are just those in their journals now:
 -- what is in a journal was written or rose, and stays there.
 use Rattle.std.proofs.Common.{◌≡◌, ◌⊎◌, ℕ, ◌==◌, Bool, true, false, cond, List, [], ◌∷◌, ◌++◌, option_to_list, filter}
-use Rattle.std.proofs.Common.{flat_map, fold, map, if◌then◌else◌, inl, inr, refl, sym, ap, ◌∙◌, subst, append_assoc}
-use Rattle.std.proofs.Common.{eq-eqb, eqb-true}
+use Rattle.std.proofs.Common.{flat_map, fold, map, inl, inr, refl, sym, ap, ◌∙◌, subst, append_assoc, Option, eq-eqb}
+use Rattle.std.proofs.Common.{eqb-true, if◌then◌else◌}
+use Rattle.std.specs.Option.{option_map_or}
+use Rattle.std.specs.List.{filter_map}
 use Rattle.std.proofs.lemmas.List.{append-nil}
 use Rattle.std.proofs.lemmas.List.Sums.{fold-append}
 use Rattle.qc_decl.specs.Vocabulary.{is_client}
@@ -14,34 +16,33 @@ use Rattle.qc_msg.specs.Vocabulary.{Entry, commit_of, own}
 use Rattle.qc_msg.specs.declared.record.Record.{Record}
 use Rattle.qc_msg.specs.declared.record.Record.TheVariants as records
 use Rattle.qc_msg.specs.declared.step.Step.{Step}
-use Rattle.qc_msg.specs.declared.step.Step.TheVariants as steps
 use Rattle.qc_msg.proofs.DeedsGrow.{own-append}
 use Rattle.theory_onecopy.proofs.Lists.{in_split}
 use Rattle.qc_promise.specs.Vocabulary.{IsGivenBack, IsKeptAt, Journal, Kept, commits_by, commits_in, journal_of}
 use Rattle.qc_promise.specs.Vocabulary.{journal_with, no_journal, records as records_in}
 use Rattle.laws_reach.specs.Vocabulary.{AreStanding, IsOfClient, records_of}
 use Rattle.laws_reach.proofs.Written.{alone, among_is, is_among}
+use Rattle.laws_reach.proofs.JournalCases.{journal_by, journal_cases}
 
 -- what is in a journal after a step was there before it, or is of the step
 
+-- the commit records of a step of which this is read
+abbrev commits_by_reading : Option Record → Option (List Record) → List CommitRecord
+commits_by_reading wrote rose =
+    option_map_or (λ (written : Record). option_to_list (commit_of written)) wrote
+    (option_map_or (filter_map commit_of) rose [])
+
 came_by : (c : CommitRecord) (j : Journal) (x : Step) → In (records.Commit c) (journal_with j x).records
     → In (records.Commit c) j.records ⊎ In c (commits_in x)
-came_by c j (steps.Phase number) among = inl among
-came_by c j (steps.Cut a b) among = inl among
-came_by c j (steps.Heal a b) among = inl among
-came_by c j (steps.Armed actor kind at) among = inl among
-came_by c j (steps.Called command) among = inl among
-came_by c j (steps.Got number) among = inl among
-came_by c j (steps.Lost number) among = inl among
-came_by c j (steps.Wrote written) among = elim (in_split (records.Commit c) j.records (written ∷ []) among) [
-  | inl before ↦ inl before
-  | inr now ↦ inr (subst (In c) (sym (alone (commit_of written))) (among_is c (written ∷ []) now))
-]
-came_by c j (steps.Sent number to message) among = inl among
-came_by c j (steps.Told reply) among = inl among
-came_by c j (steps.Fell cause pending) among = inl among
-came_by c j (steps.Rose kept) among = inr (among_is c kept among)
-came_by c j (steps.Damaged offset) among = inl among
+came_by c j x among =
+    journal_cases
+    (λ x wrote fell rose. In (records.Commit c) (journal_by j wrote fell rose).records
+    → In (records.Commit c) j.records ⊎ In c (commits_by_reading wrote rose))
+    (λ written among. elim (in_split (records.Commit c) j.records (written ∷ []) among) [
+      | inl before ↦ inl before
+      | inr now ↦ inr (subst (In c) (sym (alone (commit_of written))) (among_is c (written ∷ []) now))
+    ])
+    (λ f among. inl among) (λ kept among. inr (among_is c kept among)) (λ x among. inl among) x among
 
 came : (c : CommitRecord) (j : Journal) (xs : List Step) → In (records.Commit c) (fold journal_with j xs).records
     → In (records.Commit c) j.records ⊎ In c (flat_map commits_in xs)
@@ -56,21 +57,13 @@ came c j (x ∷ xs) among = elim (came c (journal_with j x) xs among) [
 
 goes_in : (c : CommitRecord) (j : Journal) (x : Step) → In c (commits_in x)
     → In (records.Commit c) (journal_with j x).records
-goes_in c j (steps.Phase number) among = absurd among
-goes_in c j (steps.Cut a b) among = absurd among
-goes_in c j (steps.Heal a b) among = absurd among
-goes_in c j (steps.Armed actor kind at) among = absurd among
-goes_in c j (steps.Called command) among = absurd among
-goes_in c j (steps.Got number) among = absurd among
-goes_in c j (steps.Lost number) among = absurd among
-goes_in c j (steps.Wrote written) among =
-    In-second (records.Commit c) j.records (written ∷ [])
-    (is_among c (written ∷ []) (subst (In c) (alone (commit_of written)) among))
-goes_in c j (steps.Sent number to message) among = absurd among
-goes_in c j (steps.Told reply) among = absurd among
-goes_in c j (steps.Fell cause pending) among = absurd among
-goes_in c j (steps.Rose kept) among = is_among c kept among
-goes_in c j (steps.Damaged offset) among = absurd among
+goes_in c j x among =
+    journal_cases
+    (λ x wrote fell rose. In c (commits_by_reading wrote rose)
+    → In (records.Commit c) (journal_by j wrote fell rose).records)
+    (λ written among. In-second (records.Commit c) j.records (written ∷ [])
+    (is_among c (written ∷ []) (subst (In c) (alone (commit_of written)) among)))
+    (λ f never. absurd never) (λ kept among. is_among c kept among) (λ x never. absurd never) x among
 
 -- and a step that keeps the records leaves it there
 
@@ -80,19 +73,11 @@ given_back r j given (inr more) among = subst (In r) (sym more) (In-first r j.re
 
 stays_by : (r : Record) (before : List Step) (x : Step) → IsKeptAt before x → In r (journal_of before).records
     → In r (journal_with (journal_of before) x).records
-stays_by r before (steps.Phase number) kept among = among
-stays_by r before (steps.Cut a b) kept among = among
-stays_by r before (steps.Heal a b) kept among = among
-stays_by r before (steps.Armed actor kind at) kept among = among
-stays_by r before (steps.Called command) kept among = among
-stays_by r before (steps.Got number) kept among = among
-stays_by r before (steps.Lost number) kept among = among
-stays_by r before (steps.Wrote written) kept among = In-first r (journal_of before).records (written ∷ []) among
-stays_by r before (steps.Sent number to message) kept among = among
-stays_by r before (steps.Told reply) kept among = among
-stays_by r before (steps.Fell cause pending) kept among = among
-stays_by r before (steps.Rose given) kept among = given_back r (journal_of before) given kept among
-stays_by r before (steps.Damaged offset) kept among = absurd kept
+stays_by r before x kept among =
+    journal_cases
+    (λ x wrote fell rose. IsKeptAt before x → In r (journal_by (journal_of before) wrote fell rose).records)
+    (λ written kept. In-first r (journal_of before).records (written ∷ []) among) (λ f kept. among)
+    (λ given kept. given_back r (journal_of before) given kept among) (λ x kept. among) x kept
 
 -- the actor of an entry, and any other
 

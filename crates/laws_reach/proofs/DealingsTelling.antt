@@ -1,5 +1,5 @@
 -- A reply that is due keeps what ties a client's account to its dealings.
-use Rattle.std.proofs.Common.{◌≡◌, inl, inr, ℕ, ◌+◌, Bool, true, false, List, [], ◌∷◌, ◌++◌, Option, Some, None}
+use Rattle.std.proofs.Common.{◌≡◌, inl, inr, ℕ, ◌+◌, Bool, true, false, cond, List, [], ◌∷◌, ◌++◌, Option, Some, None}
 use Rattle.std.proofs.Common.{option_map, refl, sym, ap, ◌∙◌, subst}
 use Rattle.qc_decl.specs.declared.declaration.Declaration.{Declaration}
 use Rattle.qc_entry.specs.declared.record.Commit.{Commit as CommitRecord}
@@ -13,24 +13,19 @@ use Rattle.qc_msg.specs.Vocabulary.{Deed, Tells}
 use Rattle.qc_stamp.specs.declared.stamp.TxId.{TxId}
 use Rattle.qc_promise.specs.Vocabulary.{Account, Current, Dealing, IsReplyDue, Journal, Place, account_told, answer_of}
 use Rattle.qc_promise.specs.Vocabulary.{commit_of, deal_told, dealt, due, found_absent, next_commit, next_stamp}
-use Rattle.qc_promise.specs.Vocabulary.{operation, pending_next, refused, resp_of, responded, saying_of, short_of}
-use Rattle.qc_promise.specs.Vocabulary.{with_absent, with_response}
+use Rattle.qc_promise.specs.Vocabulary.{operation, pending_next, resp_of, responded, saying_of, with_absent}
+use Rattle.qc_promise.specs.Vocabulary.{with_response}
 use Rattle.qc_promise.specs.Rows.{pending_with}
 use Rattle.laws_reach.specs.Vocabulary.{Finds, IsNoCommit, Responds, Says}
-use Rattle.laws_reach.proofs.Gists.{Gist, Going, finished, gist, going, refused_same, replied, short_same}
+use Rattle.laws_reach.proofs.Gists.{Gist, Going, finished, gist, going, replied}
 use Rattle.laws_reach.proofs.Bases.{Base, Both, IsPast, Settled, answered, begins, both_as, ends, none_some, some_is}
 use Rattle.laws_reach.proofs.Bases.{adds}
 use Rattle.laws_reach.proofs.DealingsTurning.{IsSaid, is_off}
 use Rattle.laws_reach.proofs.CarriedRecords.{commit_or, Known, Ongoing, recorded, said}
+use Rattle.laws_reach.proofs.Owners.{told_owner}
+use Rattle.laws_reach.proofs.ToldCases.{account_by, deal_by, stays_same, told_cases}
 
 -- a command that isn't Commit
-
-abbrev IsCommitCommand : Command → Type 0
-IsCommitCommand commands.Begin = ⊥
-IsCommitCommand (commands.Do object inv) = ⊥
-IsCommitCommand commands.Commit = Unit {0}
-IsCommitCommand commands.Abort = ⊥
-IsCommitCommand (commands.Epoch number) = ⊥
 
 pub some_current : (o : Option Current) (e : Going) → option_map going o ≡ Some e → (t : Current) × (o ≡ Some t)
 some_current None e is = absurd (none_some e None refl is)
@@ -44,8 +39,8 @@ no_commit d command is not o begun commits =
 
 do_not : (d : Account) (object inv : ℕ) → d.command ≡ Some (commands.Do object inv)
     → (gist d).command ≡ Some commands.Commit → ⊥
-do_not d object inv is commits = subst IsCommitCommand
-    (sym (some_is (commands.Do object inv) commands.Commit (sym is ∙ commits))) tt
+do_not d object inv is commits =
+    let same : Some (commands.Do object inv) ≡ Some commands.Commit = sym is ∙ commits in let never : ⊥ = cc in never
 
 -- an operation in the account
 
@@ -81,43 +76,6 @@ response_gist decl d t object inv event command is answer =
     ∙ ap (λ (o : Option ℕ). record (gist d) { begun = Some (going (with_response decl t object inv o)) }) answer
 
 -- no reply changes the client's life
-
-absent_life : (d : Account) (o : Option Command) → (found_absent d o).life ≡ d.life
-absent_life d None = refl
-absent_life d (Some commands.Begin) = refl
-absent_life d (Some (commands.Do object inv)) = refl
-absent_life d (Some commands.Commit) = refl
-absent_life d (Some commands.Abort) = refl
-absent_life d (Some (commands.Epoch number)) = refl
-
-response_life : (decl : Declaration) (d : Account) (o : Option Command) → (responded decl d o).life ≡ d.life
-response_life decl d None = refl
-response_life decl d (Some commands.Begin) = refl
-response_life decl d (Some (commands.Do object inv)) = refl
-response_life decl d (Some commands.Commit) = refl
-response_life decl d (Some commands.Abort) = refl
-response_life decl d (Some (commands.Epoch number)) = refl
-
-life_told : (decl : Declaration) (d : Account) (reply : Reply) → (account_told decl d reply).life ≡ d.life
-life_told decl d replies.Down = refl
-life_told decl d (replies.Already tx) = refl
-life_told decl d (replies.Began tx) = refl
-life_told decl d replies.NoTransaction = refl
-life_told decl d replies.Doomed = refl
-life_told decl d replies.TooLong = refl
-life_told decl d (replies.Closed epoch site) = refl
-life_told decl d (replies.Conflict holder site) = refl
-life_told decl d (replies.Quorum half got need) = ap (λ (g : Gist). g.life) (short_same d half)
-life_told decl d replies.Absent = absent_life d d.command
-life_told decl d (replies.Response resp) = response_life decl d d.command
-life_told decl d (replies.Aborted why) = refl
-life_told decl d replies.Unknown = refl
-life_told decl d (replies.Committed stamp) = refl
-life_told decl d replies.Dropped = refl
-life_told decl d (replies.Order current) = refl
-life_told decl d (replies.InDoubt holder site) = refl
-life_told decl d replies.Fault = refl
-life_told decl d (replies.Moved closed installed) = refl
 
 module _ (decl : Declaration) (c : CommitRecord) (p q : Place) (d : Account) (x : Dealing) (j : Journal)
     (after : List Deed) (same_off : is_off q ≡ is_off p) where
@@ -226,34 +184,26 @@ module _ (decl : Declaration) (c : CommitRecord) (p q : Place) (d : Account) (x 
       → Both c.tx c.ops (is_off p) (gist d) x (Known decl c p j (Tells reply ∷ after))
       → Both c.tx c.ops (is_off q) (gist (account_told decl d reply)) (deal_told c.tx x reply)
       (Known decl c q j after)
-  tells_so replies.Down place none run s =
-      silent replies.Down s (gist d) refl none
-      (λ o is commits. none_some o (gist d).begun (s.base.down (down_off (is_off p) place)) is)
-  tells_so (replies.Already tx) place none run s =
-      silent (replies.Already tx) s (gist d) refl none (no_commit d run.0 run.1.0 run.1.1)
-  tells_so (replies.Began tx) place none run s = began tx (neither_up (is_off p) place) none run.1.1 s
-  tells_so replies.NoTransaction place none run s =
-      silent replies.NoTransaction s (gist d) refl none (no_commit d run.0 run.1.0 run.1.1)
-  tells_so replies.Doomed place none run s =
-      silent replies.Doomed s (gist d) refl none (no_commit d run.0 run.1.0 run.1.1)
-  tells_so replies.TooLong place none run s =
-      silent replies.TooLong s (gist d) refl none (no_commit d run.0 run.1.0 run.1.1)
-  tells_so (replies.Closed epoch site) place none run s =
-      silent (replies.Closed epoch site) s (gist (refused d)) (refused_same d) none (no_commit d run.0 run.1.0 run.1.1)
-  tells_so (replies.Conflict holder site) place none run s =
-      silent (replies.Conflict holder site) s (gist (refused d)) (refused_same d) none
-      (no_commit d run.0 run.1.0 run.1.1)
-  tells_so (replies.Quorum half got need) place none run s =
-      silent (replies.Quorum half got need) s (gist (short_of d half)) (short_same d half) none
-      (no_commit d run.0 run.1.0 run.1.1)
-  tells_so replies.Absent place none run s =
-      let f : Finds d run.0 = run.1.1 in
+  tells_so reply place pending run s =
+      told_cases decl d
+      (λ r began stamp short resp ends refuses doubt. IsSaid (is_off p) (saying_of r)
+      → pending_next after ≡ cond doubt (next_commit d) None
+      → (command : Command) × ((d.command ≡ Some command) × Says decl d command r)
+      → Both c.tx c.ops (is_off p) (gist d) x (Known decl c p j (Tells r ∷ after))
+      → Both c.tx c.ops (is_off q) (replied (gist (account_by decl d began stamp short resp ends refuses)))
+      (deal_by c.tx x r began resp ends) (Known decl c q j after))
+      (λ place none run s. silent replies.Down s (gist d) refl none
+      (λ o is commits. none_some o (gist d).begun (s.base.down (down_off (is_off p) place)) is))
+      (λ r short refuses says unbegun uncommitted goes place none run s.
+      silent r s (gist (account_by decl d None None short None false refuses)) (stays_same decl d short refuses) none
+      (no_commit d run.0 run.1.0 (says run.0 run.1.1)))
+      (λ tx place none run s. began tx (neither_up (is_off p) place) none run.1.1 s)
+      (λ place none run s. (let f : Finds d run.0 = run.1.1 in
       let command : d.command ≡ Some (commands.Do f.object f.inv) = run.1.0
       ∙ ap (λ (e : Command). Some e) f.command_is in
       added replies.Absent s (gist (found_absent d d.command)) f.t f.object f.inv None command f.current_is
-      (absent_gist d f.t f.object f.inv command f.current_is) none
-  tells_so (replies.Response resp) place none run s =
-      let f : Responds decl d run.0 resp = run.1.1 in
+      (absent_gist d f.t f.object f.inv command f.current_is) none))
+      (λ resp place none run s. (let f : Responds decl d run.0 resp = run.1.1 in
       let command : d.command ≡ Some (commands.Do f.object f.inv) = run.1.0
       ∙ ap (λ (e : Command). Some e) f.command_is in
       added (replies.Response resp) s (gist (responded decl d d.command)) f.t f.object f.inv
@@ -262,26 +212,16 @@ module _ (decl : Declaration) (c : CommitRecord) (p q : Place) (d : Account) (x 
       ∙ ap (λ (r : ℕ). record (gist d) {
         begun =
             Some (record { tx = f.t.tx; ops = f.t.ops ++ record { object = f.object; inv = f.inv; resp = Some r } ∷ [] });
-      }) (sym f.resp_is)) none
-  tells_so (replies.Aborted why) place none run s =
-      ended (replies.Aborted why) s (deal_told c.tx x (replies.Aborted why)).ends none
-  tells_so replies.Unknown place pending run s = unknown pending s
-  tells_so (replies.Committed stamp) place none run s =
-      ended (replies.Committed stamp) s (deal_told c.tx x (replies.Committed stamp)).ends none
-  tells_so replies.Dropped place none run s = ended replies.Dropped s (deal_told c.tx x replies.Dropped).ends none
-  tells_so (replies.Order current) place none run s =
-      silent (replies.Order current) s (gist d) refl none (no_commit d run.0 run.1.0 run.1.1)
-  tells_so (replies.InDoubt holder site) place none run s =
-      silent (replies.InDoubt holder site) s (gist d) refl none (no_commit d run.0 run.1.0 run.1.1)
-  tells_so replies.Fault place none run s =
-      silent replies.Fault s (gist d) refl none (no_commit d run.0 run.1.0 run.1.1)
-  tells_so (replies.Moved closed installed) place none run s =
-      silent (replies.Moved closed installed) s (gist d) refl none (no_commit d run.0 run.1.0 run.1.1)
+      }) (sym f.resp_is)) none))
+      (λ r unbegun uncommitted over place none run s. ended r s (deal_by c.tx x r None None true).ends none)
+      (λ place pending run s. unknown pending s)
+      (λ stamp place none run s. ended (replies.Committed stamp) s
+      (deal_told c.tx x (replies.Committed stamp)).ends none) reply place pending run s
 
   pub tells_on : (reply : Reply) (u : Bool) → IsSaid (is_off p) (saying_of reply)
       → IsReplyDue d (due decl d u) after reply → Ongoing decl c p d x j (Tells reply ∷ after)
       → Ongoing decl c q (account_told decl d reply) (deal_told c.tx x reply) j after
   tells_on reply u place its s = record {
     both = tells_so reply place its.2 (said decl d u reply its.0) s.both;
-    life = life_told decl d reply ∙ s.life;
+    life = (told_owner decl d reply).1 ∙ s.life;
   }

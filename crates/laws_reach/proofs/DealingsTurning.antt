@@ -1,15 +1,16 @@
 -- The places of a client, deed by deed: where it is down or has just risen, and where a record of its may be pending.
-use Rattle.std.proofs.Common.{◌≡◌, Bool, true, false, cond, List, ◌∷◌, Option, Some, None, is_some, refl, sym, subst}
+use Rattle.std.proofs.Common.{◌≡◌, Bool, true, false, cond, List, ◌∷◌, Option, Some, None, is_some, refl, ◌∙◌}
 use Rattle.qc_entry.specs.declared.record.Commit.{Commit as CommitRecord}
 use Rattle.qc_msg.specs.declared.record.Record.{Record}
-use Rattle.qc_msg.specs.declared.record.Record.TheVariants.{Life, Prepare, Done, Close, Install, Commit, Decide}
+use Rattle.qc_msg.specs.declared.record.Record.TheVariants.{Life, Commit}
 use Rattle.qc_msg.specs.declared.step.Fall.{Fall}
 use Rattle.qc_msg.specs.declared.step.Fall.TheVariants as causes
 use Rattle.qc_msg.specs.declared.step.Input.{Input}
 use Rattle.qc_msg.specs.Vocabulary.{Deed, Falls, command_in, is_life}
 use Rattle.qc_promise.specs.Vocabulary.{Called, Failing, Fallen, Faulted, Idle, Open, Place, Rising, Saying, SaysDown}
 use Rattle.qc_promise.specs.Vocabulary.{SaysFault, SaysNeither, SaysUnwritten, Sending, Written, comes_at, falls_at}
-use Rattle.qc_promise.specs.Vocabulary.{pending_next, rises_at, sends_at, tells_at, writes_at}
+use Rattle.qc_promise.specs.Vocabulary.{pending_next, rises_at, sends_at, tells_at, writes_at, fallen_with, other}
+use Rattle.laws_reach.proofs.RecordCases.{record_cases}
 
 abbrev pub is_off : Place → Bool
 is_off Idle = false
@@ -137,25 +138,15 @@ FellTo p cause pending (Some q) = (is_off q ≡ true) × ((is_failing q ≡ fals
     × ((c : CommitRecord) (after : List Deed) → pending ≡ Some (Commit c)
     → (is_failing p ≡ true) × (pending_next (Falls cause pending ∷ after) ≡ Some (Commit c))))
 
-abbrev IsCommitOption : Option Record → Type 0
-IsCommitOption None = ⊥
-IsCommitOption (Some Life) = ⊥
-IsCommitOption (Some (Prepare prepared)) = Unit {0}
-IsCommitOption (Some (Done tx clock)) = Unit {0}
-IsCommitOption (Some (Close epoch)) = Unit {0}
-IsCommitOption (Some (Install start)) = Unit {0}
-IsCommitOption (Some (Commit commit)) = Unit {0}
-IsCommitOption (Some (Decide start)) = Unit {0}
-
 abbrev NoneTo : Place → Fall → Option Record → Type 0
 NoneTo p cause pending = (c : CommitRecord) (after : List Deed) → pending ≡ Some (Commit c)
     → (is_failing p ≡ true) × (pending_next (Falls cause pending ∷ after) ≡ Some (Commit c))
 
 none_to : (p : Place) (cause : Fall) → NoneTo p cause None
-none_to p cause c after is = absurd (subst IsCommitOption (sym is) tt)
+none_to p cause c after is = absurd (let never : ⊥ = cc in never)
 
 life_to : (p : Place) (cause : Fall) → NoneTo p cause (Some Life)
-life_to p cause c after is = absurd (subst IsCommitOption (sym is) tt)
+life_to p cause c after is = absurd (let never : ⊥ = cc in never)
 
 crashes : (p : Place) (pending : Option Record)
     → FellTo p causes.Script pending (falls_at false p causes.Script pending)
@@ -192,59 +183,21 @@ unopened_fails Faulted = tt
 unopened_fails Fallen = (refl, (refl, none_to Fallen causes.Disk))
 unopened_fails Called = tt
 
-risen_stops : (r : Record) → FellTo Rising causes.Stop (Some r) (falls_at false Rising causes.Stop (Some r))
-risen_stops Life = (refl, (refl, life_to Rising causes.Stop))
-risen_stops (Prepare prepared) = tt
-risen_stops (Done tx clock) = tt
-risen_stops (Close epoch) = tt
-risen_stops (Install start) = tt
-risen_stops (Commit commit) = tt
-risen_stops (Decide start) = tt
+-- the record of the rise may be pending as it rises, and another one where it fails
 
-risen_fails : (r : Record) → FellTo Rising causes.Disk (Some r) (falls_at false Rising causes.Disk (Some r))
-risen_fails Life = (refl, (refl, life_to Rising causes.Disk))
-risen_fails (Prepare prepared) = tt
-risen_fails (Done tx clock) = tt
-risen_fails (Close epoch) = tt
-risen_fails (Install start) = tt
-risen_fails (Commit commit) = tt
-risen_fails (Decide start) = tt
+risen_to : (cause : Fall) (r : Record) → FellTo Rising cause (Some r) (fallen_with (is_life r))
+risen_to cause r =
+    record_cases (λ r life o. FellTo Rising cause (Some r) (fallen_with life)) (refl, (refl, life_to Rising cause))
+    (λ c. tt) (λ r none. tt) r
 
-failing_stops : (r : Record) → FellTo Failing causes.Stop (Some r) (falls_at false Failing causes.Stop (Some r))
-failing_stops Life = tt
-failing_stops (Prepare prepared) = (refl, (refl, λ c after is. (refl, is)))
-failing_stops (Done tx clock) = (refl, (refl, λ c after is. (refl, is)))
-failing_stops (Close epoch) = (refl, (refl, λ c after is. (refl, is)))
-failing_stops (Install start) = (refl, (refl, λ c after is. (refl, is)))
-failing_stops (Commit commit) = (refl, (refl, λ c after is. (refl, is)))
-failing_stops (Decide start) = (refl, (refl, λ c after is. (refl, is)))
-
-failing_fails : (r : Record) → FellTo Failing causes.Disk (Some r) (falls_at false Failing causes.Disk (Some r))
-failing_fails Life = tt
-failing_fails (Prepare prepared) = (refl, (refl, λ c after is. (refl, is)))
-failing_fails (Done tx clock) = (refl, (refl, λ c after is. (refl, is)))
-failing_fails (Close epoch) = (refl, (refl, λ c after is. (refl, is)))
-failing_fails (Install start) = (refl, (refl, λ c after is. (refl, is)))
-failing_fails (Commit commit) = (refl, (refl, λ c after is. (refl, is)))
-failing_fails (Decide start) = (refl, (refl, λ c after is. (refl, is)))
-
-faulted_stops : (r : Record) → FellTo Faulted causes.Stop (Some r) (falls_at false Faulted causes.Stop (Some r))
-faulted_stops Life = tt
-faulted_stops (Prepare prepared) = (refl, (refl, λ c after is. (refl, is)))
-faulted_stops (Done tx clock) = (refl, (refl, λ c after is. (refl, is)))
-faulted_stops (Close epoch) = (refl, (refl, λ c after is. (refl, is)))
-faulted_stops (Install start) = (refl, (refl, λ c after is. (refl, is)))
-faulted_stops (Commit commit) = (refl, (refl, λ c after is. (refl, is)))
-faulted_stops (Decide start) = (refl, (refl, λ c after is. (refl, is)))
-
-faulted_fails : (r : Record) → FellTo Faulted causes.Disk (Some r) (falls_at false Faulted causes.Disk (Some r))
-faulted_fails Life = tt
-faulted_fails (Prepare prepared) = (refl, (refl, λ c after is. (refl, is)))
-faulted_fails (Done tx clock) = (refl, (refl, λ c after is. (refl, is)))
-faulted_fails (Close epoch) = (refl, (refl, λ c after is. (refl, is)))
-faulted_fails (Install start) = (refl, (refl, λ c after is. (refl, is)))
-faulted_fails (Commit commit) = (refl, (refl, λ c after is. (refl, is)))
-faulted_fails (Decide start) = (refl, (refl, λ c after is. (refl, is)))
+failing_to : (p : Place) (cause : Fall) (r : Record) → is_failing p ≡ true
+    → ((after : List Deed) → pending_next (Falls cause (Some r) ∷ after) ≡ Some r)
+    → FellTo p cause (Some r) (fallen_with (other r))
+failing_to p cause r fails next = by (other r)
+  where
+    by : (b : Bool) → FellTo p cause (Some r) (fallen_with b)
+    by true = (refl, (refl, λ c after is. (fails, next after ∙ is)))
+    by false = tt
 
 pub falls : (p : Place) (cause : Fall) (pending : Option Record)
     → FellTo p cause pending (falls_at false p cause pending)
@@ -252,21 +205,21 @@ falls p causes.Script pending = crashes p pending
 falls p causes.Stop None = unopened_stops p
 falls Idle causes.Stop (Some r) = tt
 falls Open causes.Stop (Some r) = tt
-falls Rising causes.Stop (Some r) = risen_stops r
+falls Rising causes.Stop (Some r) = risen_to causes.Stop r
 falls Sending causes.Stop (Some r) = tt
 falls Written causes.Stop (Some r) = tt
-falls Failing causes.Stop (Some r) = failing_stops r
-falls Faulted causes.Stop (Some r) = faulted_stops r
+falls Failing causes.Stop (Some r) = failing_to Failing causes.Stop r refl (λ after. refl)
+falls Faulted causes.Stop (Some r) = failing_to Faulted causes.Stop r refl (λ after. refl)
 falls Fallen causes.Stop (Some r) = tt
 falls Called causes.Stop (Some r) = tt
 falls p causes.Disk None = unopened_fails p
 falls Idle causes.Disk (Some r) = tt
 falls Open causes.Disk (Some r) = tt
-falls Rising causes.Disk (Some r) = risen_fails r
+falls Rising causes.Disk (Some r) = risen_to causes.Disk r
 falls Sending causes.Disk (Some r) = tt
 falls Written causes.Disk (Some r) = tt
-falls Failing causes.Disk (Some r) = failing_fails r
-falls Faulted causes.Disk (Some r) = faulted_fails r
+falls Failing causes.Disk (Some r) = failing_to Failing causes.Disk r refl (λ after. refl)
+falls Faulted causes.Disk (Some r) = failing_to Faulted causes.Disk r refl (λ after. refl)
 falls Fallen causes.Disk (Some r) = tt
 falls Called causes.Disk (Some r) = tt
 

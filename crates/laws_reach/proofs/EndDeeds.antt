@@ -7,7 +7,7 @@ use Rattle.qc_decl.specs.declared.declaration.Declaration.{Declaration}
 use Rattle.qc_entry.specs.declared.record.Commit.{Commit as CommitRecord}
 use Rattle.qc_core.specs.Vocabulary.{AreGivenBack, IsGivenBackAt, journal_after, journal_at}
 use Rattle.qc_msg.specs.declared.record.Record.{Record}
-use Rattle.qc_msg.specs.declared.record.Record.TheVariants.{Life, Prepare, Done, Close, Install, Commit, Decide}
+use Rattle.qc_msg.specs.declared.record.Record.TheVariants.{Life, Commit}
 use Rattle.qc_msg.specs.declared.reply.Reply.{Reply}
 use Rattle.qc_msg.specs.declared.reply.Reply.TheVariants as replies
 use Rattle.qc_msg.specs.declared.step.Fall.{Fall}
@@ -32,6 +32,7 @@ use Rattle.laws_reach.proofs.CarriedRecords.{Known, Ongoing, commit_or, known_st
 use Rattle.laws_reach.proofs.Carrying.{fallen_known, lives_up, risen_known}
 use Rattle.laws_reach.proofs.Deeds.{new, one, stuck}
 use Rattle.laws_reach.proofs.Owners.{same_client}
+use Rattle.laws_reach.proofs.RecordCases.{due_cases}
 
 module _ (decl : Declaration) (c : CommitRecord) where
   -- an input
@@ -61,15 +62,6 @@ module _ (decl : Declaration) (c : CommitRecord) where
 
   -- a record
 
-  abbrev IsCommitRecord : Record → Type 0
-  IsCommitRecord Life = ⊥
-  IsCommitRecord (Prepare prepared) = ⊥
-  IsCommitRecord (Done tx clock) = ⊥
-  IsCommitRecord (Close epoch) = ⊥
-  IsCommitRecord (Install start) = ⊥
-  IsCommitRecord (Commit commit) = Unit {0}
-  IsCommitRecord (Decide start) = ⊥
-
   life_ends : (p q : Place) (d : Account) (x : Dealing) (j : Journal) (after : List Deed)
       → (is_off q ≡ false) × ((is_failing q ≡ false) × (is_off p ≡ true))
       → Ending decl c p d x j (Writes Life ∷ after)
@@ -86,7 +78,7 @@ module _ (decl : Declaration) (c : CommitRecord) where
     where
       old : Known decl c p j (Writes Life ∷ after) ⊎ (Commit c ≡ Life) → Known decl c p j (Writes Life ∷ after)
       old (inl k) = k
-      old (inr is) = absurd (subst IsCommitRecord is tt)
+      old (inr is) = absurd (let never : ⊥ = cc in never)
 
   abbrev record_in : Option CommitRecord → Record
   record_in None = Life
@@ -129,14 +121,15 @@ module _ (decl : Declaration) (c : CommitRecord) where
       → IsRecordDue d (due decl d false) r → IsDeedTold (Writes r) after → Ongoing decl c p d x j (Writes r ∷ after)
       → Ending decl c p d x j (Writes r ∷ after)
       → Ending decl c q (account_at decl d (Writes r)) x (journal_at j (Writes r)) after
-  writes_end p q d x j Life after place its next ongoing s = life_ends p q d x j after place s
-  writes_end p q d x j (Prepare prepared) after place its next ongoing s = absurd its
-  writes_end p q d x j (Done tx clock) after place its next ongoing s = absurd its
-  writes_end p q d x j (Close epoch) after place its next ongoing s = absurd its
-  writes_end p q d x j (Install start) after place its next ongoing s = absurd its
-  writes_end p q d x j (Commit commit) after place its next ongoing s =
-      commit_ends p q d x j commit after place its next ongoing s
-  writes_end p q d x j (Decide start) after place its next ongoing s = absurd its
+  writes_end p q d x j r after place its next ongoing s =
+      due_cases d (due decl d false)
+      (λ (r : Record). (is_off q ≡ false) × ((is_failing q ≡ false) × (is_off p ≡ is_life r))
+      → IsDeedTold (Writes r) after → Ongoing decl c p d x j (Writes r ∷ after)
+      → Ending decl c p d x j (Writes r ∷ after)
+      → Ending decl c q (account_at decl d (Writes r)) x (journal_at j (Writes r)) after)
+      (λ place next ongoing s. life_ends p q d x j after place s)
+      (λ commit its place next ongoing s. commit_ends p q d x j commit after place its next ongoing s)
+      r its place next ongoing s
 
   -- a fall, and a rise
 

@@ -1,6 +1,6 @@
 -- A reply that is due keeps what holds of a transaction's end, and ends it as its record says.
-use Rattle.std.proofs.Common.{◌≡◌, ◌⊎◌, inl, inr, ℕ, ◌+◌, Bool, true, false, List, [], ◌∷◌, ◌++◌, Option, Some, None}
-use Rattle.std.proofs.Common.{option_map, refl, sym, ap, ◌∙◌, subst}
+use Rattle.std.proofs.Common.{◌≡◌, ◌⊎◌, inl, inr, ℕ, ◌+◌, Bool, true, false, cond, List, [], ◌∷◌, ◌++◌, Option, Some}
+use Rattle.std.proofs.Common.{None, option_map, option_and_then, refl, sym, ap, ◌∙◌, subst}
 use Rattle.qc_decl.specs.declared.declaration.Declaration.{Declaration}
 use Rattle.qc_entry.specs.declared.line.Op.{Op}
 use Rattle.qc_entry.specs.declared.record.Commit.{Commit as CommitRecord}
@@ -10,22 +10,23 @@ use Rattle.qc_msg.specs.declared.reply.Reply.{Reply}
 use Rattle.qc_msg.specs.declared.reply.Reply.TheVariants as replies
 use Rattle.qc_msg.specs.declared.step.Command.{Command}
 use Rattle.qc_msg.specs.declared.step.Command.TheVariants as commands
-use Rattle.qc_msg.specs.Vocabulary.{Deed, Tells}
+use Rattle.qc_msg.specs.Vocabulary.{Deed, Tells, committed_in}
 use Rattle.qc_stamp.proofs.Orders.{same_tx_itself}
 use Rattle.qc_stamp.specs.declared.stamp.Stamp.{Stamp}
 use Rattle.qc_stamp.specs.declared.stamp.TxId.{TxId}
 use Rattle.qc_promise.specs.Vocabulary.{Account, Current, Dealing, IsReplyDue, Journal, Place, account_told, commit_of}
 use Rattle.qc_promise.specs.Vocabulary.{deal_told, dealt, due, ended, found_absent, is_begun, next_commit, next_stamp}
-use Rattle.qc_promise.specs.Vocabulary.{pending_next, record_with, refused, responded, saying_of, short_of}
+use Rattle.qc_promise.specs.Vocabulary.{pending_next, record_with, responded, saying_of}
 use Rattle.qc_promise.specs.Rows.{pending_with}
 use Rattle.laws_reach.specs.Vocabulary.{Finds, HasRecord, IsToldOf, Responds, Says, TellsNext}
 use Rattle.laws_reach.proofs.EndTies.{AwaitsReply, IsOver, EndTie, IsGoing, closed_begin, finishes, goes_on, going_one}
 use Rattle.laws_reach.proofs.EndTies.{told_of}
-use Rattle.laws_reach.proofs.Gists.{Gist, Going, finished, gist, going, refused_same, replied, short_same}
+use Rattle.laws_reach.proofs.Gists.{Gist, Going, finished, gist, going, replied}
 use Rattle.laws_reach.proofs.Bases.{Base, none_some, some_is}
 use Rattle.laws_reach.proofs.DealingsTurning.{IsSaid, is_off}
 use Rattle.laws_reach.proofs.CarriedRecords.{Known, Ongoing, commit_or, said}
 use Rattle.laws_reach.proofs.DealingsTelling.{absent_gist, neither_up, response_gist, some_current, still}
+use Rattle.laws_reach.proofs.ToldCases.{account_by, deal_by, stays_same, told_cases}
 
 -- the record of the account: its stamp, and its transaction
 
@@ -187,51 +188,44 @@ module _ (decl : Declaration) (c : CommitRecord) where
           inr (inl refl),
         )
 
+    gone : (r : Reply) → committed_in r ≡ None → (stamp : Stamp) → replies.Committed stamp ≡ r → ⊥
+    gone r none stamp is = let same : Some stamp ≡ None = ap committed_in is ∙ none in let never : ⊥ = cc in never
+
     ends_so : (reply : Reply) → IsSaid (is_off p) (saying_of reply) → d.written ≡ record_with d reply
         → pending_next after ≡ pending_with d reply
         → (command : Command) × ((d.command ≡ Some command) × Says decl d command reply)
         → Base c.tx c.ops (is_off p) (gist d) x → Before reply
         → EndTie c (is_off q) (gist (account_told decl d reply)) (deal_told c.tx x reply) j.records There
         (TellsNext after)
-    ends_so replies.Down place wrote none run base s = silent replies.Down s none wrote (gist d) refl
-    ends_so (replies.Already tx) place wrote none run base s = silent (replies.Already tx) s none wrote (gist d) refl
-    ends_so (replies.Began tx) place wrote none run base s =
-        began tx (neither_up decl c p q d x j after same_off (is_off p) place) none wrote run.1.1 s
-    ends_so replies.NoTransaction place wrote none run base s = silent replies.NoTransaction s none wrote (gist d) refl
-    ends_so replies.Doomed place wrote none run base s = silent replies.Doomed s none wrote (gist d) refl
-    ends_so replies.TooLong place wrote none run base s = silent replies.TooLong s none wrote (gist d) refl
-    ends_so (replies.Closed epoch site) place wrote none run base s =
-        silent (replies.Closed epoch site) s none wrote (gist (refused d)) (refused_same d)
-    ends_so (replies.Conflict holder site) place wrote none run base s =
-        silent (replies.Conflict holder site) s none wrote (gist (refused d)) (refused_same d)
-    ends_so (replies.Quorum half got need) place wrote none run base s =
-        silent (replies.Quorum half got need) s none wrote (gist (short_of d half)) (short_same d half)
-    ends_so replies.Absent place wrote none run base s =
-        let f : Finds d run.0 = run.1.1 in
+    ends_so reply place wrote pending run base s =
+        told_cases decl d
+        (λ r begins stamp short resp ends refuses doubt. IsSaid (is_off p) (saying_of r)
+        → d.written ≡ option_and_then (λ (at : Stamp). commit_of d at) stamp
+        → pending_next after ≡ cond doubt (next_commit d) None
+        → (command : Command) × ((d.command ≡ Some command) × Says decl d command r)
+        → Base c.tx c.ops (is_off p) (gist d) x → Before r
+        → EndTie c (is_off q) (replied (gist (account_by decl d begins stamp short resp ends refuses)))
+        (deal_by c.tx x r begins resp ends) j.records There (TellsNext after))
+        (λ place wrote none run base s. silent replies.Down s none wrote (gist d) refl)
+        (λ r short refuses says unbegun uncommitted goes place wrote none run base s.
+        silent r s none wrote (gist (account_by decl d None None short None false refuses))
+        (stays_same decl d short refuses))
+        (λ tx place wrote none run base s.
+        began tx (neither_up decl c p q d x j after same_off (is_off p) place) none wrote run.1.1 s)
+        (λ place wrote none run base s. (let f : Finds d run.0 = run.1.1 in
         let command : d.command ≡ Some (commands.Do f.object f.inv) = run.1.0
         ∙ ap (λ (e : Command). Some e) f.command_is in
         added replies.Absent s none wrote (gist (found_absent d d.command)) f.t
         (f.t.ops ++ record { object = f.object; inv = f.inv; resp = None } ∷ []) None f.current_is
-        (absent_gist d f.t f.object f.inv command f.current_is)
-    ends_so (replies.Response resp) place wrote none run base s =
-        let f : Responds decl d run.0 resp = run.1.1 in
+        (absent_gist d f.t f.object f.inv command f.current_is)))
+        (λ resp place wrote none run base s. (let f : Responds decl d run.0 resp = run.1.1 in
         let command : d.command ≡ Some (commands.Do f.object f.inv) = run.1.0
         ∙ ap (λ (e : Command). Some e) f.command_is in
         added (replies.Response resp) s none wrote (gist (responded decl d d.command)) f.t _ (Some resp) f.current_is
-        (response_gist decl d f.t f.object f.inv f.event command f.current_is f.answer_is)
-    ends_so (replies.Aborted why) place wrote none run base s =
-        gives_up (replies.Aborted why) s none wrote base (λ stamp is. let never : ⊥ = cc in never)
-    ends_so replies.Unknown place wrote pending run base s = unknown pending wrote base s
-    ends_so (replies.Committed stamp) place wrote none run base s = commits stamp none wrote base s
-    ends_so replies.Dropped place wrote none run base s =
-        gives_up replies.Dropped s none wrote base (λ stamp is. let never : ⊥ = cc in never)
-    ends_so (replies.Order current) place wrote none run base s =
-        silent (replies.Order current) s none wrote (gist d) refl
-    ends_so (replies.InDoubt holder site) place wrote none run base s =
-        silent (replies.InDoubt holder site) s none wrote (gist d) refl
-    ends_so replies.Fault place wrote none run base s = silent replies.Fault s none wrote (gist d) refl
-    ends_so (replies.Moved closed installed) place wrote none run base s =
-        silent (replies.Moved closed installed) s none wrote (gist d) refl
+        (response_gist decl d f.t f.object f.inv f.event command f.current_is f.answer_is)))
+        (λ r unbegun uncommitted over place wrote none run base s. gives_up r s none wrote base (gone r uncommitted))
+        (λ place wrote pending run base s. unknown pending wrote base s)
+        (λ stamp place wrote none run base s. commits stamp none wrote base s) reply place wrote pending run base s
 
     pub ends_on : (reply : Reply) (u : Bool) → IsSaid (is_off p) (saying_of reply)
         → IsReplyDue d (due decl d u) after reply → Ongoing decl c p d x j (Tells reply ∷ after)

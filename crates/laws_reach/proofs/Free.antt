@@ -14,7 +14,6 @@ use Rattle.qc_decl.specs.Vocabulary.{is_client, is_site}
 use Rattle.qc_msg.specs.declared.record.Record.{Record}
 use Rattle.qc_msg.specs.declared.reply.Reply.{Reply}
 use Rattle.qc_msg.specs.declared.step.Command.{Command}
-use Rattle.qc_msg.specs.declared.step.Command.TheVariants as commands
 use Rattle.qc_msg.specs.declared.step.Fall.{Fall}
 use Rattle.qc_msg.specs.declared.step.Fall.TheVariants as causes
 use Rattle.qc_msg.specs.declared.step.Input.{Input}
@@ -33,8 +32,9 @@ use Rattle.qc_front.specs.declared.doing.Doing.TheVariants.{Idle, Reading, Appen
 use Rattle.laws_turns.proofs.Downs.{due}
 use Rattle.laws_turns.specs.Vocabulary.{is_waiting}
 use Rattle.laws_turns.proofs.TurnReplies.{running_more, running_turn}
-use Rattle.laws_turns.proofs.Waiting.{IsNoCall, called_ends, epoch_rests, round_none, sent_waits, takes_ends}
-use Rattle.laws_turns.proofs.Waiting.{takes_rests, votes_none}
+use Rattle.laws_turns.proofs.ClientCases.{command_cases}
+use Rattle.laws_turns.proofs.Waiting.{IsNoCall, are_clients, called_ends, epoch_rests, round_none, sent_waits}
+use Rattle.laws_turns.proofs.Waiting.{takes_ends, takes_rests, votes_none}
 
 -- whether an actor waits for votes, or for what its running `do` asked
 
@@ -55,12 +55,10 @@ ended_waits false waits ends is = absurd (let never : ⊥ = cc in never)
 
 called_ended : (decl : Declaration) (c : Client) (command : Command) → is_waiting c ≡ false
     → Ended true (by_client (client_takes decl c (inputs.Called command)))
-called_ended decl c commands.Begin still is = ended_waits _ _ (called_ends decl c commands.Begin tt still) is
-called_ended decl c (commands.Do object inv) still is =
-    ended_waits _ _ (called_ends decl c (commands.Do object inv) tt still) is
-called_ended decl c commands.Commit still is = ended_waits _ _ (called_ends decl c commands.Commit tt still) is
-called_ended decl c commands.Abort still is = ended_waits _ _ (called_ends decl c commands.Abort tt still) is
-called_ended decl c (commands.Epoch number) still is = (epoch_rests decl c number still).still
+called_ended decl c command still is =
+    command_cases (λ (x : Command). Ended true (by_client (client_takes decl c (inputs.Called x))))
+    (λ x none its. ended_waits _ _ (called_ends decl c x (are_clients x none) still) its)
+    (λ number its. (epoch_rests decl c number still).still) command is
 
 other_ended : (decl : Declaration) (c : Client) (g : Input) (r : Bool) → IsNoCall g → (r ≡ false → is_waiting c ≡ false)
     → Ended r (by_client (client_takes decl c g))

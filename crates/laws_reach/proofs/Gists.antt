@@ -1,6 +1,7 @@
 -- What of a client's account its dealings tell: how it stays, deed by deed.
-use Rattle.std.proofs.Common.{◌≡◌, ℕ, ◌==◌, not, Bool, true, false, cond, List, [], ◌∷◌, ◌++◌, length, Option, Some}
-use Rattle.std.proofs.Common.{None, option_map, refl, ap}
+use Rattle.std.proofs.Common.{◌≡◌, ℕ, ◌==◌, not, Bool, true, false, cond, List, [], ◌∷◌, ◌++◌, length, max, Option}
+use Rattle.std.proofs.Common.{Some, None, option_map, option_and_then, refl, ap}
+use Rattle.std.specs.Option.{option_map_or}
 use Rattle.std.specs.List.{find}
 use Rattle.qc_stamp.specs.declared.stamp.TxId.{TxId}
 use Rattle.qc_entry.specs.declared.line.Op.{Op}
@@ -8,14 +9,15 @@ use Rattle.qc_entry.specs.declared.line.Line.{Line}
 use Rattle.qc_entry.specs.declared.record.Commit.{Commit}
 use Rattle.qc_decl.specs.declared.declaration.Declaration.{Declaration}
 use Rattle.qc_msg.specs.declared.message.Answer.{Answer}
-use Rattle.qc_msg.specs.declared.message.Answer.TheVariants as answers
 use Rattle.qc_msg.specs.declared.message.Message.{Message}
-use Rattle.qc_msg.specs.declared.message.Message.TheVariants as messages
 use Rattle.qc_msg.specs.declared.message.Want.{Want}
 use Rattle.qc_msg.specs.declared.message.Want.TheVariants.{Read, Append, Prepare}
 use Rattle.qc_msg.specs.declared.reply.Half.{Half}
 use Rattle.qc_msg.specs.declared.reply.Half.TheVariants as halves
 use Rattle.qc_msg.specs.declared.step.Command.{Command}
+use Rattle.qc_msg.specs.declared.payload.Grant.{Grant}
+use Rattle.qc_msg.specs.Vocabulary.{Answered, Requested, answer_in, closed_in, granted_in, promised_in, request_in}
+use Rattle.laws_turns.proofs.ReadingCases.{mapped}
 use Rattle.qc_promise.specs.Vocabulary.{Account, ClientRequest, Current, account_heard, account_sent, counted}
 use Rattle.qc_promise.specs.Vocabulary.{counted_for, doomed_if, granted, is_append, is_asked_for, is_open, lived}
 use Rattle.qc_promise.specs.Vocabulary.{promised, refused, requested, requests_for, short_of, taken_for, told_by}
@@ -81,18 +83,16 @@ promised_same d clock (Append object view own) = refl
 promised_same d clock Prepare = refl
 
 told_same : (d : Account) (q : ClientRequest) (o : Option Answer) → gist (told_by d q o) ≡ gist d
-told_same d q None = refl
-told_same d q (Some (answers.Granted grant)) = granted_same d q.site grant.life grant.clock grant.log q.want
-told_same d q (Some (answers.Clash holder inv event)) = refl
-told_same d q (Some (answers.Closed epoch)) = refl
-told_same d q (Some (answers.Behind epoch)) = refl
-told_same d q (Some (answers.Restarted life)) = refl
-told_same d q (Some answers.Stale) = refl
-told_same d q (Some answers.Fault) = refl
-told_same d q (Some (answers.Yes clock)) = promised_same d clock q.want
-told_same d q (Some (answers.Shut snapshot)) = refl
-told_same d q (Some answers.Installed) = refl
-told_same d q (Some (answers.Answered verdict)) = refl
+told_same d q o = by (option_and_then granted_in o) (option_and_then closed_in o) (option_and_then promised_in o)
+  where
+    by : (grant : Option Grant) (epoch clock : Option ℕ) → gist
+        (option_map_or (λ (g : Grant). granted d q.site g.life g.clock g.log q.want) grant
+        (option_map_or (λ (k : ℕ). record d { known = max d.known k }) epoch
+        (option_map_or (λ (k : ℕ). promised d k q.want) clock d))) ≡ gist d
+    by (Some g) epoch clock = granted_same d q.site g.life g.clock g.log q.want
+    by None (Some k) clock = refl
+    by None None (Some k) = promised_same d k q.want
+    by None None None = refl
 
 pub counted_same : (d : Account) (number : ℕ) (answer : Option Answer) → gist (counted d number answer) ≡ gist d
 counted_same d number answer = by (find (is_open number) d.requests)
@@ -102,13 +102,9 @@ counted_same d number answer = by (find (is_open number) d.requests)
     by (Some q) = told_same (record d { requests = taken_for number answer d.requests }) q answer
 
 pub heard_same : (d : Account) (m : Message) → gist (account_heard d m) ≡ gist d
-heard_same d (messages.Request tx epoch life want) = refl
-heard_same d (messages.Answer to answer) = counted_same d to (Some answer)
-heard_same d (messages.Decision tx verdict) = refl
-heard_same d (messages.Inquiry tx) = refl
-heard_same d (messages.Ask tx) = refl
-heard_same d (messages.Close epoch) = refl
-heard_same d (messages.Install start) = refl
+heard_same d m =
+    mapped (λ (e : Account). gist e ≡ gist d) (λ (a : Answered). counted d a.to (Some a.answer)) d (answer_in m)
+    (λ a. counted_same d a.to (Some a.answer)) refl
 
 requested_same : (decl : Declaration) (d : Account) (number site : ℕ) (tx : TxId) (epoch life : ℕ) (want : Want)
     → gist (requested decl d number site tx epoch life want) ≡ gist d
@@ -123,13 +119,10 @@ requested_same decl d number site tx epoch life want = by (is_asked_for decl d s
 
 pub sent_same : (decl : Declaration) (d : Account) (number to : ℕ) (m : Message)
     → gist (account_sent decl d number to m) ≡ gist d
-sent_same decl d number to (messages.Request tx epoch life want) = requested_same decl d number to tx epoch life want
-sent_same decl d number to (messages.Answer other answer) = refl
-sent_same decl d number to (messages.Decision tx verdict) = refl
-sent_same decl d number to (messages.Inquiry tx) = refl
-sent_same decl d number to (messages.Ask tx) = refl
-sent_same decl d number to (messages.Close epoch) = refl
-sent_same decl d number to (messages.Install start) = refl
+sent_same decl d number to m =
+    mapped (λ (e : Account). gist e ≡ gist d)
+    (λ (q : Requested). requested decl d number to q.tx q.epoch q.life q.want) d (request_in m)
+    (λ q. requested_same decl d number to q.tx q.epoch q.life q.want) refl
 
 pub refused_same : (d : Account) → gist (refused d) ≡ gist d
 refused_same d = with_same d (doomed_if (not (length (requests_for is_append d) == 0))) (λ t. refl)

@@ -67,3 +67,7 @@ pub mod StampsUp
 pub mod Stamped
 pub mod Agreeing
 pub mod WrongVerdicts
+pub mod RecordCases
+pub mod JournalCases
+pub mod TakesCases
+pub mod ToldCases

@@ -1,16 +1,17 @@
 -- Which transactions a client has begun, by its life and its count: no name is begun twice.
-use Rattle.std.proofs.Common.{◌≡◌, ◌≤◌, ◌<◌, ◌⊎◌, ℕ, ◌+◌, Bool, true, false, inl, inr, Option, Some, None, refl, sym}
-use Rattle.std.proofs.Common.{ap, subst, arith}
+use Rattle.std.proofs.Common.{◌≡◌, ◌≤◌, ◌<◌, ◌⊎◌, ℕ, ◌+◌, Bool, true, false, inl, inr, Option, None, option_and_then}
+use Rattle.std.proofs.Common.{refl, sym, ap, subst, arith}
 use Rattle.qc_stamp.specs.declared.stamp.TxId.{TxId}
 use Rattle.qc_decl.specs.declared.declaration.Declaration.{Declaration}
 use Rattle.qc_msg.specs.declared.message.Message.{Message}
 use Rattle.qc_msg.specs.declared.reply.Half.{Half}
 use Rattle.qc_msg.specs.declared.step.Command.{Command}
-use Rattle.qc_msg.specs.declared.step.Command.TheVariants as commands
 use Rattle.qc_msg.specs.declared.step.Input.{Input}
 use Rattle.qc_msg.specs.declared.step.Input.TheVariants as inputs
-use Rattle.qc_promise.specs.Vocabulary.{Account, account_sent, account_taken, found_absent, refused, responded}
-use Rattle.qc_promise.specs.Vocabulary.{short_of}
+use Rattle.qc_msg.specs.Vocabulary.{Invocation, do_in}
+use Rattle.qc_promise.specs.Vocabulary.{Account, Current, account_sent, account_taken, answer_of, found_absent, refused}
+use Rattle.qc_promise.specs.Vocabulary.{responded, short_of, with_absent, with_current, with_response}
+use Rattle.laws_turns.proofs.ReadingCases.{mapped}
 use Rattle.laws_reach.proofs.Gists.{Gist, counted_same, gist, heard_same, refused_same, sent_same, short_same}
 
 -- a transaction of this client that it has begun: in an earlier life, or in the present one, among those that began
@@ -91,20 +92,15 @@ sent_counts decl d number to message = by_gist d (account_sent decl d number to 
     (sent_same decl d number to message)
 
 absent_as : (d : Account) (o : Option Command) → SameCounts d (found_absent d o)
-absent_as d None = (refl, refl)
-absent_as d (Some commands.Begin) = (refl, refl)
-absent_as d (Some (commands.Do object inv)) = (refl, refl)
-absent_as d (Some commands.Commit) = (refl, refl)
-absent_as d (Some commands.Abort) = (refl, refl)
-absent_as d (Some (commands.Epoch number)) = (refl, refl)
+absent_as d o =
+    mapped (SameCounts d) (λ (i : Invocation). with_current d (λ (t : Current). with_absent t i.object i.inv)) d
+    (option_and_then do_in o) (λ i. (refl, refl)) (refl, refl)
 
 response_as : (decl : Declaration) (d : Account) (o : Option Command) → SameCounts d (responded decl d o)
-response_as decl d None = (refl, refl)
-response_as decl d (Some commands.Begin) = (refl, refl)
-response_as decl d (Some (commands.Do object inv)) = (refl, refl)
-response_as decl d (Some commands.Commit) = (refl, refl)
-response_as decl d (Some commands.Abort) = (refl, refl)
-response_as decl d (Some (commands.Epoch number)) = (refl, refl)
+response_as decl d o =
+    mapped (SameCounts d) (λ (i : Invocation). with_current d
+    (λ (t : Current). with_response decl t i.object i.inv (answer_of decl t i.object i.inv))) d
+    (option_and_then do_in o) (λ i. (refl, refl)) (refl, refl)
 
 pub refused_counts : (d : Account) → SameCounts d (refused d)
 refused_counts d = by_gist d (refused d) (refused_same d)

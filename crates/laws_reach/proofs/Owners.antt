@@ -1,62 +1,65 @@
 -- The account of a client stays that client's.
-use Rattle.std.proofs.Common.{◌≡◌, Option, Some, None, refl, ap}
+use Rattle.std.proofs.Common.{◌≡◌, ℕ, ◌+◌, Bool, true, false, cond, Option, Some, None, option_and_then, refl, ap}
+use Rattle.std.specs.Option.{option_map_or}
+use Rattle.qc_stamp.specs.declared.stamp.Stamp.{Stamp}
+use Rattle.qc_stamp.specs.declared.stamp.TxId.{TxId}
+use Rattle.qc_entry.specs.declared.record.Commit.{Commit}
 use Rattle.qc_decl.specs.declared.declaration.Declaration.{Declaration}
 use Rattle.qc_msg.specs.declared.record.Record.{Record}
-use Rattle.qc_msg.specs.declared.record.Record.TheVariants.{Life, Prepare, Done, Close, Install, Commit, Decide}
+use Rattle.qc_msg.specs.declared.reply.Half.{Half}
 use Rattle.qc_msg.specs.declared.reply.Reply.{Reply}
-use Rattle.qc_msg.specs.declared.reply.Reply.TheVariants as replies
 use Rattle.qc_msg.specs.declared.step.Command.{Command}
-use Rattle.qc_msg.specs.declared.step.Command.TheVariants as commands
 use Rattle.qc_msg.specs.declared.step.Input.TheVariants as inputs
-use Rattle.qc_msg.specs.Vocabulary.{Deed, Falls, Rises, Sends, Takes, Tells, Writes}
-use Rattle.qc_promise.specs.Vocabulary.{Account, account_at, account_told, account_written, found_absent, responded}
+use Rattle.qc_msg.specs.Vocabulary.{Deed, Falls, Invocation, Rises, Sends, Takes, Tells, Writes, began_in, commit_of}
+use Rattle.qc_msg.specs.Vocabulary.{committed_in, do_in, is_end, is_life, is_refused, response_in, short_in}
+use Rattle.qc_promise.specs.Vocabulary.{Account, Current, account_at, account_told, account_written, answer_of}
+use Rattle.qc_promise.specs.Vocabulary.{found_absent, responded, short_of, with_absent, with_current, with_response}
+use Rattle.laws_turns.proofs.ReadingCases.{mapped}
 use Rattle.laws_reach.proofs.Gists.{Gist, counted_same, heard_same, sent_same, short_same}
+use Rattle.laws_reach.proofs.ToldCases.{account_by}
 
-absent_client : (d : Account) (o : Option Command) → (found_absent d o).client ≡ d.client
-absent_client d None = refl
-absent_client d (Some commands.Begin) = refl
-absent_client d (Some (commands.Do object inv)) = refl
-absent_client d (Some commands.Commit) = refl
-absent_client d (Some commands.Abort) = refl
-absent_client d (Some (commands.Epoch number)) = refl
+-- whose it is, and in which life
+abbrev pub SameOwner : Account → Account → Type 0
+SameOwner d e = (e.client ≡ d.client) × (e.life ≡ d.life)
 
-response_client : (decl : Declaration) (d : Account) (o : Option Command) → (responded decl d o).client ≡ d.client
-response_client decl d None = refl
-response_client decl d (Some commands.Begin) = refl
-response_client decl d (Some (commands.Do object inv)) = refl
-response_client decl d (Some commands.Commit) = refl
-response_client decl d (Some commands.Abort) = refl
-response_client decl d (Some (commands.Epoch number)) = refl
+absent_owner : (d : Account) (o : Option Command) → SameOwner d (found_absent d o)
+absent_owner d o =
+    mapped (SameOwner d) (λ (i : Invocation). with_current d (λ (t : Current). with_absent t i.object i.inv)) d
+    (option_and_then do_in o) (λ i. (refl, refl)) (refl, refl)
 
-client_told : (decl : Declaration) (d : Account) (reply : Reply) → (account_told decl d reply).client ≡ d.client
-client_told decl d replies.Down = refl
-client_told decl d (replies.Already tx) = refl
-client_told decl d (replies.Began tx) = refl
-client_told decl d replies.NoTransaction = refl
-client_told decl d replies.Doomed = refl
-client_told decl d replies.TooLong = refl
-client_told decl d (replies.Closed epoch site) = refl
-client_told decl d (replies.Conflict holder site) = refl
-client_told decl d (replies.Quorum half got need) = ap (λ (g : Gist). g.client) (short_same d half)
-client_told decl d replies.Absent = absent_client d d.command
-client_told decl d (replies.Response resp) = response_client decl d d.command
-client_told decl d (replies.Aborted why) = refl
-client_told decl d replies.Unknown = refl
-client_told decl d (replies.Committed stamp) = refl
-client_told decl d replies.Dropped = refl
-client_told decl d (replies.Order current) = refl
-client_told decl d (replies.InDoubt holder site) = refl
-client_told decl d replies.Fault = refl
-client_told decl d (replies.Moved closed installed) = refl
+response_owner : (decl : Declaration) (d : Account) (o : Option Command) → SameOwner d (responded decl d o)
+response_owner decl d o =
+    mapped (SameOwner d) (λ (i : Invocation). with_current d
+    (λ (t : Current). with_response decl t i.object i.inv (answer_of decl t i.object i.inv))) d
+    (option_and_then do_in o) (λ i. (refl, refl)) (refl, refl)
+
+short_owner : (d : Account) (half : Half) → SameOwner d (short_of d half)
+short_owner d half =
+    (ap (λ (g : Gist). g.client) (short_same d half), ap (λ (g : Gist). g.life) (short_same d half))
+
+pub told_owner : (decl : Declaration) (d : Account) (reply : Reply) → SameOwner d (account_told decl d reply)
+told_owner decl d reply =
+    by (began_in reply) (committed_in reply) (short_in reply) (response_in reply) (is_end reply) (is_refused reply)
+  where
+    by : (began : Option TxId) (stamp : Option Stamp) (short : Option Half) (resp : Option (Option ℕ))
+        (ends refuses : Bool) → SameOwner d (account_by decl d began stamp short resp ends refuses)
+    by (Some tx) stamp short resp ends refuses = (refl, refl)
+    by None (Some at) short resp ends refuses = (refl, refl)
+    by None None (Some half) resp ends refuses = short_owner d half
+    by None None None (Some None) ends refuses = absent_owner d d.command
+    by None None None (Some (Some r)) ends refuses = response_owner decl d d.command
+    by None None None None true refuses = (refl, refl)
+    by None None None None false true = (refl, refl)
+    by None None None None false false = (refl, refl)
 
 client_written : (d : Account) (w : Record) → (account_written d w).client ≡ d.client
-client_written d Life = refl
-client_written d (Prepare prepared) = refl
-client_written d (Done tx clock) = refl
-client_written d (Close epoch) = refl
-client_written d (Install start) = refl
-client_written d (Commit commit) = refl
-client_written d (Decide start) = refl
+client_written d w = by (is_life w) (commit_of w)
+  where
+    by : (life : Bool) (o : Option Commit) → (cond life (record d { life = d.life + 1 })
+        (option_map_or (λ (c : Commit). record d { written = Some c }) o d)).client ≡ d.client
+    by true o = refl
+    by false None = refl
+    by false (Some c) = refl
 
 pub same_client : (decl : Declaration) (d : Account) (x : Deed) → (account_at decl d x).client ≡ d.client
 same_client decl d (Takes (inputs.Called command)) = refl
@@ -64,6 +67,6 @@ same_client decl d (Takes (inputs.Got envelope)) = ap (λ (g : Gist). g.client) 
 same_client decl d (Takes (inputs.Lost number)) = ap (λ (g : Gist). g.client) (counted_same d number None)
 same_client decl d (Writes w) = client_written d w
 same_client decl d (Sends number to message) = ap (λ (g : Gist). g.client) (sent_same decl d number to message)
-same_client decl d (Tells reply) = client_told decl d reply
+same_client decl d (Tells reply) = (told_owner decl d reply).0
 same_client decl d (Falls cause pending) = refl
 same_client decl d (Rises kept) = refl

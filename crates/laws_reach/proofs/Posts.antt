@@ -2,6 +2,7 @@
 use Rattle.std.proofs.Common.{◌≡◌, ℕ, ◌+◌, ◌-◌, Bool, true, false, List, [], ◌∷◌, ◌++◌, Option, Some, None, is_some}
 use Rattle.std.proofs.Common.{refl, sym, ap, ◌∙◌, subst}
 use Rattle.std.specs.List.{AllByRecursion as Every}
+use Rattle.std.specs.Prelude.{MatchOption}
 use Rattle.qc_core.specs.declared.actor.Actor.{Actor}
 use Rattle.qc_core.specs.Vocabulary.{ActorMove, IsLawfulWithFalls, Lives, actor_after, actor_takes, down_takes}
 use Rattle.qc_core.proofs.ByNumber.{client_risen}
@@ -11,7 +12,7 @@ use Rattle.qc_decl.specs.Vocabulary.{is_client}
 use Rattle.qc_decl.specs.declared.declaration.Declaration.{Declaration}
 use Rattle.qc_entry.specs.declared.record.Commit.{Commit as CommitRecord}
 use Rattle.qc_msg.specs.declared.record.Record.{Record}
-use Rattle.qc_msg.specs.declared.record.Record.TheVariants.{Life, Prepare, Done, Close, Install, Commit, Decide}
+use Rattle.qc_msg.specs.declared.record.Record.TheVariants.{Commit}
 use Rattle.qc_msg.specs.declared.reply.Reply.{Reply}
 use Rattle.qc_msg.specs.declared.step.Fall.{Fall}
 use Rattle.qc_msg.specs.declared.step.Input.{Input}
@@ -21,7 +22,7 @@ use Rattle.qc_msg.specs.declared.turn.Appended.TheVariants as ends
 use Rattle.qc_msg.specs.declared.turn.Posting.{Posting}
 use Rattle.qc_msg.specs.declared.turn.Turn.{Turn}
 use Rattle.qc_msg.specs.Vocabulary.{Deed, Falls, Rises, Sends, Takes, Tells, Writes, deeds_as, first_epoch, sends_of}
-use Rattle.qc_msg.specs.Vocabulary.{tells_of, turn_deeds, writes_of}
+use Rattle.qc_msg.specs.Vocabulary.{commit_of, tells_of, turn_deeds, writes_of}
 use Rattle.qc_promise.specs.Vocabulary.{account_taken}
 use Rattle.laws_due.specs.Vocabulary.{Goes, IsDeclaredDeed, IsPlanned}
 use Rattle.laws_due.specs.ByRows as rows
@@ -29,7 +30,9 @@ use Rattle.laws_due.proofs.Commands.{free_for}
 use Rattle.laws_due.proofs.Lifelong.{client_lives}
 use Rattle.laws_due.proofs.Standing.{IsAtInput, IsTied, Stands, account_is, actor_more, turn_is}
 use Rattle.laws_due.proofs.Step.{inputs_are_answered_as_is_due}
+use Rattle.laws_turns.proofs.ReadingCases.{matched_by}
 use Rattle.laws_reach.specs.Vocabulary.{AreCommitsTold, IsRecordTold, TellsNext}
+use Rattle.laws_reach.proofs.RecordCases.{commit_cases}
 
 -- deeds behind deeds
 
@@ -43,13 +46,9 @@ next_more (Falls cause pending ∷ xs) ys next = absurd next
 next_more (Rises kept ∷ xs) ys next = absurd next
 
 record_more : (w : Record) (xs ys : List Deed) → IsRecordTold w xs → IsRecordTold w (xs ++ ys)
-record_more Life xs ys told = tt
-record_more (Prepare prepared) xs ys told = tt
-record_more (Done tx clock) xs ys told = tt
-record_more (Close epoch) xs ys told = tt
-record_more (Install start) xs ys told = tt
-record_more (Commit commit) xs ys told = next_more xs ys told
-record_more (Decide start) xs ys told = tt
+record_more w xs ys told =
+    matched_by (Unit {0}) (Unit {0}) (λ (c : CommitRecord). TellsNext xs) (λ (c : CommitRecord). TellsNext (xs ++ ys))
+    (commit_of w) (λ c next. next_more xs ys next) (λ none. none) told
 
 both_told : (xs ys : List Deed) → AreCommitsTold xs → AreCommitsTold ys → AreCommitsTold (xs ++ ys)
 both_told [] ys first second = second
@@ -87,13 +86,13 @@ turn_told n turn tells = by turn.write refl
     by : (w : Option Record) → turn.write ≡ w
         → AreCommitsTold (writes_of w ++ (sends_of n turn.sends ++ tells_of turn.told))
     by None is = rest
-    by (Some Life) is = (tt, rest)
-    by (Some (Prepare prepared)) is = (tt, rest)
-    by (Some (Done tx clock)) is = (tt, rest)
-    by (Some (Close epoch)) is = (tt, rest)
-    by (Some (Install start)) is = (tt, rest)
-    by (Some (Commit commit)) is = (told_next n turn.sends turn.told (tells commit is), rest)
-    by (Some (Decide start)) is = (tt, rest)
+    by (Some r) is = (
+      commit_cases
+          (λ r o. turn.write ≡ Some r
+          → MatchOption o (Unit {0}) (λ (c : CommitRecord). TellsNext (sends_of n turn.sends ++ tells_of turn.told)))
+          (λ c is. told_next n turn.sends turn.told (tells c is)) (λ r none is. tt) r is,
+      rest,
+    )
 
 falls_told : (o : Option Reply) (cause : Fall) (w : Option Record) → AreCommitsTold (tells_of o ++ Falls cause w ∷ [])
 falls_told o cause w = both_told (tells_of o) (Falls cause w ∷ []) (tells_told o) (tt, tt)

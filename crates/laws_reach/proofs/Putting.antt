@@ -2,6 +2,7 @@
 -- such, so are all that rise.
 use Rattle.std.proofs.Common.{ℕ, ◌+◌, ◌==◌, inl, inr, Bool, true, false, cond, List, [], ◌∷◌, ◌++◌, filter, fold, map}
 use Rattle.std.proofs.Common.{Option, Some, None, option_to_list, sym, subst, append_assoc, ap, ◌∙◌}
+use Rattle.std.specs.Prelude.{MatchOption}
 use Rattle.std.specs.List.{AllByRecursion as Every}
 use Rattle.qc_list.proofs.Members.{every-append, every-weaker}
 use Rattle.qc_msg.specs.declared.record.Record.{Record}
@@ -10,13 +11,14 @@ use Rattle.qc_msg.specs.declared.step.Fall.TheVariants as causes
 use Rattle.qc_msg.specs.declared.step.Input.{Input}
 use Rattle.qc_msg.specs.declared.step.Input.TheVariants as inputs
 use Rattle.qc_msg.specs.declared.step.Step.{Step}
-use Rattle.qc_msg.specs.declared.step.Step.TheVariants as steps
 use Rattle.qc_msg.specs.declared.turn.Appended.{Appended}
 use Rattle.qc_msg.specs.declared.turn.Appended.TheVariants.{Done, Failed, Stopped}
 use Rattle.qc_msg.specs.declared.turn.Posting.{Posting}
 use Rattle.qc_msg.specs.declared.turn.Turn.{Turn}
-use Rattle.qc_msg.specs.Vocabulary.{Entry, by, fell, own, posted_as, sents, step_of, told, wrote}
+use Rattle.qc_msg.specs.Vocabulary.{Entry, Fallen, by, fell, fell_in, own, posted_as, rose_in, sents, step_of, told}
+use Rattle.qc_msg.specs.Vocabulary.{wrote, wrote_in}
 use Rattle.qc_promise.specs.Vocabulary.{IsGivenBack, Journal, Kept, journal_of, journal_with, no_journal, pending_with}
+use Rattle.laws_reach.proofs.JournalCases.{journal_by, journal_cases}
 
 -- of a longer history
 pub part_kept : (h k : List Entry) → Kept (h ++ k) → Kept h
@@ -24,20 +26,14 @@ part_kept h k kept = λ before later e is. kept before (later ++ k) e
     (sym (append_assoc before (e ∷ later) k) ∙ ap (λ (es : List Entry). es ++ k) is)
 
 module _ (P : Record → Type 0) where
+  abbrev pub PutsBy : Option Record → Option Fallen → Option (List Record) → Type 0
+  PutsBy wrote fell rose =
+      MatchOption wrote
+      (MatchOption fell (MatchOption rose (Unit {0}) (λ (kept : List Record). Every P kept))
+      (λ (f : Fallen). Every P (option_to_list f.pending))) P
+
   abbrev pub Puts : Step → Type 0
-  Puts (steps.Phase k) = Unit {0}
-  Puts (steps.Cut x y) = Unit {0}
-  Puts (steps.Heal x y) = Unit {0}
-  Puts (steps.Armed x kind at) = Unit {0}
-  Puts (steps.Called command) = Unit {0}
-  Puts (steps.Got n) = Unit {0}
-  Puts (steps.Lost n) = Unit {0}
-  Puts (steps.Wrote written) = P written
-  Puts (steps.Sent n to message) = Unit {0}
-  Puts (steps.Told reply) = Unit {0}
-  Puts (steps.Fell cause pending) = Every P (option_to_list pending)
-  Puts (steps.Rose kept) = Every P kept
-  Puts (steps.Damaged offset) = Unit {0}
+  Puts step = PutsBy (wrote_in step) (fell_in step) (rose_in step)
 
   abbrev pub AllPut : List Entry → Type 0
   AllPut h = Every (λ (e : Entry). Puts e.step) h
@@ -49,24 +45,18 @@ module _ (P : Record → Type 0) where
     pending : Every P (option_to_list j.pending)
 
   step_puts : (j : Journal) (step : Step) → Puts step → IsSuch j → IsSuch (journal_with j step)
-  step_puts j (steps.Phase k) puts its = its
-  step_puts j (steps.Cut x y) puts its = its
-  step_puts j (steps.Heal x y) puts its = its
-  step_puts j (steps.Armed x kind at) puts its = its
-  step_puts j (steps.Called command) puts its = its
-  step_puts j (steps.Got n) puts its = its
-  step_puts j (steps.Lost n) puts its = its
-  step_puts j (steps.Wrote written) puts its =
-      record { records = every-append P j.records (written ∷ []) its.records (puts, tt); pending = its.pending }
-  step_puts j (steps.Sent n to message) puts its = its
-  step_puts j (steps.Told reply) puts its = its
-  step_puts j (steps.Fell cause pending) puts its = record { records = its.records; pending = at pending puts }
+  step_puts j step puts its =
+      journal_cases (λ step wrote fell rose. PutsBy wrote fell rose → IsSuch (journal_by j wrote fell rose))
+      (λ written puts. record {
+        records = every-append P j.records (written ∷ []) its.records (puts, tt);
+        pending = its.pending;
+      })
+      (λ f puts. record { records = its.records; pending = at f.pending puts })
+      (λ kept puts. record { records = puts; pending = tt }) (λ step puts. its) step puts
     where
       at : (o : Option Record) → Every P (option_to_list o) → Every P (option_to_list (pending_with j.pending o))
       at None all = its.pending
       at (Some written) all = all
-  step_puts j (steps.Rose kept) puts its = record { records = puts; pending = tt }
-  step_puts j (steps.Damaged offset) puts its = its
 
   journal_such : (j : Journal) (ss : List Step) → Every Puts ss → IsSuch j → IsSuch (fold journal_with j ss)
   journal_such j [] puts its = its
@@ -126,19 +116,10 @@ module _ (P : Record → Type 0) where
 
 -- of records that are such, those that are less are so too
 puts_weaker : (P Q : Record → Type 0) → ((r : Record) → P r → Q r) → (step : Step) → Puts P step → Puts Q step
-puts_weaker P Q weaker (steps.Phase k) puts = tt
-puts_weaker P Q weaker (steps.Cut x y) puts = tt
-puts_weaker P Q weaker (steps.Heal x y) puts = tt
-puts_weaker P Q weaker (steps.Armed x kind at) puts = tt
-puts_weaker P Q weaker (steps.Called command) puts = tt
-puts_weaker P Q weaker (steps.Got n) puts = tt
-puts_weaker P Q weaker (steps.Lost n) puts = tt
-puts_weaker P Q weaker (steps.Wrote written) puts = weaker written puts
-puts_weaker P Q weaker (steps.Sent n to message) puts = tt
-puts_weaker P Q weaker (steps.Told reply) puts = tt
-puts_weaker P Q weaker (steps.Fell cause pending) puts = every-weaker P Q weaker (option_to_list pending) puts
-puts_weaker P Q weaker (steps.Rose kept) puts = every-weaker P Q weaker kept puts
-puts_weaker P Q weaker (steps.Damaged offset) puts = tt
+puts_weaker P Q weaker step puts =
+    journal_cases (λ step wrote fell rose. PutsBy P wrote fell rose → PutsBy Q wrote fell rose)
+    (λ written puts. weaker written puts) (λ f puts. every-weaker P Q weaker (option_to_list f.pending) puts)
+    (λ kept puts. every-weaker P Q weaker kept puts) (λ step puts. tt) step puts
 
 pub all_weaker : (P Q : Record → Type 0) → ((r : Record) → P r → Q r) → (h : List Entry) → AllPut P h → AllPut Q h
 all_weaker P Q weaker h puts = every-weaker (λ (e : Entry). Puts P e.step) (λ (e : Entry). Puts Q e.step)

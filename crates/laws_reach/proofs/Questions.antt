@@ -1,9 +1,10 @@
 -- In each run with falls whose records are kept a question about a transaction comes only after a request for it.
 use Rattle.std.proofs.Common.{◌≡◌, ℕ, ◌+◌, ◌==◌, Bool, true, false, cond, List, [], ◌∷◌, ◌++◌, length, Option, Some}
 use Rattle.std.proofs.Common.{None, option_to_list, slice_get, refl, sym, subst, append_assoc}
+use Rattle.std.specs.Prelude.{MatchOption}
 use Rattle.std.specs.List.{AllByRecursion as Every, cons_option}
 use Rattle.qc_core.specs.Vocabulary.{IsLawfulWithFalls, with_record}
-use Rattle.qc_decl.specs.Vocabulary.{controller}
+use Rattle.qc_decl.specs.Vocabulary.{client_actor, controller}
 use Rattle.qc_decl.specs.declared.declaration.Declaration.{Declaration}
 use Rattle.qc_list.specs.Vocabulary.{In}
 use Rattle.qc_list.proofs.Members.{In-first, In-second, every-In, every-append, every-at, every-from_In, every-weaker}
@@ -12,9 +13,8 @@ use Rattle.qc_msg.specs.declared.message.Message.{Message}
 use Rattle.qc_msg.specs.declared.message.Message.TheVariants as messages
 use Rattle.qc_msg.specs.declared.message.Want.{Want}
 use Rattle.qc_msg.specs.declared.record.Record.{Record}
-use Rattle.qc_msg.specs.declared.record.Record.TheVariants as records
+use Rattle.qc_entry.specs.declared.record.Prepared.{Prepared}
 use Rattle.qc_msg.specs.declared.step.Control.{Control}
-use Rattle.qc_msg.specs.declared.step.Control.TheVariants as controls
 use Rattle.qc_msg.specs.declared.step.Fall.TheVariants as causes
 use Rattle.qc_msg.specs.declared.step.Input.{Input}
 use Rattle.qc_msg.specs.declared.step.Input.TheVariants as inputs
@@ -23,11 +23,14 @@ use Rattle.qc_msg.specs.declared.step.Step.TheVariants as steps
 use Rattle.qc_msg.specs.declared.turn.Posting.{Posting}
 use Rattle.qc_msg.specs.declared.turn.Turn.{Turn}
 use Rattle.qc_msg.specs.Vocabulary.{Entry, by, deed_at, deeds, envelope_of, envelopes, heard, mail, marked, posted_as}
-use Rattle.qc_msg.specs.Vocabulary.{sends_as, step_of}
+use Rattle.qc_msg.specs.Vocabulary.{Requested, inquiry_in, prepare_in, request_in, sends_as, step_of}
 use Rattle.qc_msg.proofs.GrownMail.{mail-append}
 use Rattle.qc_msg.proofs.Growth.{mail-posted_as}
 use Rattle.qc_promise.specs.Vocabulary.{Kept}
 use Rattle.laws_turns.proofs.SitesAsk.{Tells}
+use Rattle.laws_turns.proofs.MessageCases.{message_cases}
+use Rattle.laws_turns.proofs.ReadingCases.{matched_by}
+use Rattle.laws_turns.proofs.StepCases.{controller_cases, deed_cases}
 use Rattle.qc_script.specs.Vocabulary.{RunsWithFalls, begins, control, controller_step, damaged, falls, phase, phase_of}
 use Rattle.qc_script.specs.Vocabulary.{posts, rises, takes, unopened}
 use Rattle.qc_script.specs.declared.script.Script.{Script}
@@ -66,39 +69,43 @@ module _ (decl : Declaration) where
 
   tells_later : (ms more : List Envelope) (to : ℕ) (m : Message) → Tells decl (IsRequested ms) to m
       → Tells decl (IsRequested (ms ++ more)) to m
-  tells_later ms more to (messages.Request tx epoch life want) here = requested_later ms more tx here
-  tells_later ms more to (messages.Answer asked answer) here = tt
-  tells_later ms more to (messages.Decision tx verdict) here = tt
-  tells_later ms more to (messages.Inquiry tx) here = (here.0, requested_later ms more tx here.1)
-  tells_later ms more to (messages.Ask tx) here = tt
-  tells_later ms more to (messages.Close epoch) here = tt
-  tells_later ms more to (messages.Install start) here = tt
+  tells_later ms more to m here =
+      matched_by (MatchOption (request_in m) (Unit {0}) (λ (q : Requested). IsRequested ms q.tx))
+      (MatchOption (request_in m) (Unit {0}) (λ (q : Requested). IsRequested (ms ++ more) q.tx))
+      (λ (tx : TxId). (to ≡ client_actor decl tx.client) × IsRequested ms tx)
+      (λ (tx : TxId). (to ≡ client_actor decl tx.client) × IsRequested (ms ++ more) tx) (inquiry_in m)
+      (λ tx here. (here.0, requested_later ms more tx here.1))
+      (λ asked. matched_by (Unit {0}) (Unit {0}) (λ (q : Requested). IsRequested ms q.tx)
+      (λ (q : Requested). IsRequested (ms ++ more) q.tx) (request_in m)
+      (λ q here. requested_later ms more q.tx here) (λ none. none) asked) here
 
   put_later : (ms more : List Envelope) (r : Record) → Put ms r → Put (ms ++ more) r
-  put_later ms more records.Life here = tt
-  put_later ms more (records.Prepare p) here = requested_later ms more p.tx here
-  put_later ms more (records.Done tx clock) here = tt
-  put_later ms more (records.Close epoch) here = tt
-  put_later ms more (records.Install start) here = tt
-  put_later ms more (records.Commit commit) here = tt
-  put_later ms more (records.Decide start) here = tt
+  put_later ms more r here =
+      matched_by (Unit {0}) (Unit {0}) (λ (p : Prepared). IsRequested ms p.tx)
+      (λ (p : Prepared). IsRequested (ms ++ more) p.tx) (prepare_in r)
+      (λ p here. requested_later ms more p.tx here) (λ none. none) here
 
   -- messages more: their questions are of transactions requested before, and their requests stand for themselves
 
   sent_tells : (ms more : List Envelope) (e : Envelope) → In e more → IsAbout decl (IsRequested ms) e.to e.message
       → IsMailOf (ms ++ more) e
-  sent_tells ms more e among about = by e.message refl about
-    where
-      by : (m : Message) → e.message ≡ m → IsAbout decl (IsRequested ms) e.to m
-          → Tells decl (IsRequested (ms ++ more)) e.to m
-      by (messages.Request tx epoch life want) is here =
-          record { request = e; sent = In-second e ms more among; epoch = epoch; life = life; want = want; is = is }
-      by (messages.Answer asked answer) is here = tt
-      by (messages.Decision tx verdict) is here = tt
-      by (messages.Inquiry tx) is here = (here.0, requested_later ms more tx here.1)
-      by (messages.Ask tx) is here = tt
-      by (messages.Close epoch) is here = tt
-      by (messages.Install start) is here = tt
+  sent_tells ms more e among about =
+      message_cases
+      (λ m request answer decision question. e.message ≡ m
+      → MatchOption question (Unit {0}) (λ (tx : TxId). (e.to ≡ client_actor decl tx.client) × IsRequested ms tx)
+      → MatchOption question
+      (MatchOption request (Unit {0}) (λ (q : Requested). IsRequested (ms ++ more) q.tx))
+      (λ (tx : TxId). (e.to ≡ client_actor decl tx.client) × IsRequested (ms ++ more) tx))
+      (λ q is here. record {
+        request = e;
+        sent = In-second e ms more among;
+        epoch = q.epoch;
+        life = q.life;
+        want = q.want;
+        is = is;
+      })
+      (λ a is here. tt) (λ v is here. tt) (λ tx is here. (here.0, requested_later ms more tx here.1))
+      (λ m is here. tt) e.message refl about
 
   about_each : (ms : List Envelope) (from n : ℕ) (ps : List Posting) → AreAbout decl (IsRequested ms) ps
       → Every (λ (e : Envelope). IsAbout decl (IsRequested ms) e.to e.message) (envelopes from n ps)
@@ -138,20 +145,13 @@ module _ (decl : Declaration) where
   step_told : (B : TxId → Type 0) (ms : List Envelope) (step : Step)
       → Every (λ (e : Envelope). Tells decl B e.to e.message) ms → Puts (PromisesFor decl B) step
       → Every (IsTold decl B) (deed_at ms step)
-  step_told B ms (steps.Phase k) all puts = tt
-  step_told B ms (steps.Cut x y) all puts = tt
-  step_told B ms (steps.Heal x y) all puts = tt
-  step_told B ms (steps.Armed x kind at) all puts = tt
-  step_told B ms (steps.Called command) all puts = (tt, tt)
-  step_told B ms (steps.Got n) all puts = heard_told B ms (slice_get ms n)
-      (λ e is. every-at (λ (d : Envelope). Tells decl B d.to d.message) ms n e all is)
-  step_told B ms (steps.Lost n) all puts = (tt, tt)
-  step_told B ms (steps.Wrote written) all puts = (tt, tt)
-  step_told B ms (steps.Sent n to message) all puts = (tt, tt)
-  step_told B ms (steps.Told reply) all puts = (tt, tt)
-  step_told B ms (steps.Fell cause pending) all puts = (tt, tt)
-  step_told B ms (steps.Rose kept) all puts = (puts, tt)
-  step_told B ms (steps.Damaged offset) all puts = tt
+  step_told B ms step all puts =
+      deed_cases ms (λ step ds. Puts (PromisesFor decl B) step → Every (IsTold decl B) ds)
+      (λ step unwritten unsent unrisen puts. tt) (λ command puts. (tt, tt))
+      (λ n puts. heard_told B ms (slice_get ms n)
+      (λ e is. every-at (λ (d : Envelope). Tells decl B d.to d.message) ms n e all is))
+      (λ n puts. (tt, tt)) (λ written puts. (tt, tt)) (λ n to message puts. (tt, tt)) (λ reply puts. (tt, tt))
+      (λ cause pending puts. (tt, tt)) (λ kept puts. (puts, tt)) step puts
 
   cons_split : (Q : Envelope → Type 0) (o : Option Envelope) (es : List Envelope) → Every Q (cons_option o es)
       → Every Q (option_to_list o) × Every Q es
@@ -197,18 +197,11 @@ module _ (decl : Declaration) where
 
   line_asked : (h : List Entry) (a : ℕ) (line : Control) (step : Step) → controller_step line ≡ Some step → Asked h
       → Asked (h ++ marked a step ∷ [])
-  line_asked h a (controls.Phase k) step is asked = absurd (let never : ⊥ = cc in never)
-  line_asked h a (controls.Cut x y) step is asked =
-      subst (λ (s : Step). Asked (h ++ marked a s ∷ [])) (let same : steps.Cut x y ≡ step = cc in same)
-      (grows h (marked a (steps.Cut x y) ∷ []) asked tt (tt, tt))
-  line_asked h a (controls.Heal x y) step is asked =
-      subst (λ (s : Step). Asked (h ++ marked a s ∷ [])) (let same : steps.Heal x y ≡ step = cc in same)
-      (grows h (marked a (steps.Heal x y) ∷ []) asked tt (tt, tt))
-  line_asked h a (controls.Armed r kind at) step is asked =
-      subst (λ (s : Step). Asked (h ++ marked a s ∷ [])) (let same : steps.Armed r kind at ≡ step = cc in same)
-      (grows h (marked a (steps.Armed r kind at) ∷ []) asked tt (tt, tt))
-  line_asked h a (controls.Crash x) step is asked = absurd (let never : ⊥ = cc in never)
-  line_asked h a (controls.Restart x) step is asked = absurd (let never : ⊥ = cc in never)
+  line_asked h a line step is asked =
+      controller_cases (λ (s : Step). Asked (h ++ marked a s ∷ []))
+      (λ x y. grows h (marked a (steps.Cut x y) ∷ []) asked tt (tt, tt))
+      (λ x y. grows h (marked a (steps.Heal x y) ∷ []) asked tt (tt, tt))
+      (λ x. grows h (marked a (steps.Armed x.actor x.kind x.at) ∷ []) asked tt (tt, tt)) line step is
 
   -- each run
 

@@ -1,17 +1,20 @@
 -- What had been written of a transaction shows that it committed, and so it rises rightly.
-use Rattle.std.proofs.Common.{◌≡◌, Bool, true, cond, List, [], ◌∷◌, ◌++◌, fold, Option, Some, None, option_to_list, inl}
-use Rattle.std.proofs.Common.{inr, sym, ap, ◌∙◌, subst}
+use Rattle.std.proofs.Common.{◌≡◌, ◌⊎◌, Bool, true, cond, List, [], ◌∷◌, ◌++◌, fold, Option, Some, None, option_to_list}
+use Rattle.std.proofs.Common.{inl, inr, sym, ap, ◌∙◌, subst}
+use Rattle.std.specs.Prelude.{MatchOption}
+use Rattle.std.specs.Option.{option_map_or}
+use Rattle.qc_entry.specs.declared.record.Commit.{Commit}
 use Rattle.std.specs.List.{AllByRecursion as Every}
 use Rattle.std.proofs.lemmas.List.Sums.{fold-append}
 use Rattle.qc_core.specs.Vocabulary.{AreGivenBack, IsGivenBackAt, journal_at}
 use Rattle.qc_list.proofs.Members.{every-append, every-weaker}
 use Rattle.qc_msg.specs.declared.record.Record.{Record}
-use Rattle.qc_msg.specs.declared.record.Record.TheVariants as records
-use Rattle.qc_msg.specs.Vocabulary.{Deed, Falls, Rises, Sends, Takes, Tells, Writes}
-use Rattle.qc_promise.specs.Vocabulary.{AreRight, AreRightFrom, AreRightKept, Committed, IsRight, IsRightKept}
+use Rattle.qc_msg.specs.Vocabulary.{Deed, Falls, Rises, Sends, Takes, Tells, Writes, commit_of}
+use Rattle.qc_promise.specs.Vocabulary.{AreRight, AreRightFrom, AreRightKept, Begun, Committed, IsRight, IsRightKept}
 use Rattle.qc_promise.specs.Vocabulary.{IsRightRecord, Journal, Status, Unborn, given_up, no_journal, status_at}
 use Rattle.qc_promise.specs.Vocabulary.{status_written}
 use Rattle.laws_turns.proofs.Lasting.{HasEnd, ended_on}
+use Rattle.laws_turns.proofs.ReadingCases.{matched_by}
 use Rattle.qc_stamp.specs.declared.stamp.Stamp.{Stamp}
 use Rattle.qc_stamp.specs.declared.stamp.TxId.{TxId}
 use Rattle.qc_stamp.specs.Vocabulary.{same_tx}
@@ -21,55 +24,40 @@ module _ (tx : TxId) where
   -- a record shows how its transaction stands
 
   abbrev pub IsShown : Status → Record → Type 0
-  IsShown s records.Life = Unit {0}
-  IsShown s (records.Prepare prepared) = Unit {0}
-  IsShown s (records.Done other clock) = Unit {0}
-  IsShown s (records.Close epoch) = Unit {0}
-  IsShown s (records.Install start) = Unit {0}
-  IsShown s (records.Commit c) = same_tx c.tx tx ≡ true → s ≡ Committed c.stamp
-  IsShown s (records.Decide start) = Unit {0}
+  IsShown s w =
+      MatchOption (commit_of w) (Unit {0}) (λ (c : Commit). same_tx c.tx tx ≡ true → s ≡ Committed c.stamp)
 
   stays : (s : Status) (stamp : Stamp) (d : Deed) → IsRight tx s d → s ≡ Committed stamp
       → status_at tx s d ≡ Committed stamp
   stays s stamp d right is = ended_on tx s (d ∷ []) (subst (HasEnd tx) (sym is) tt) (right, tt) ∙ is
 
   shown_on : (s : Status) (d : Deed) → IsRight tx s d → (w : Record) → IsShown s w → IsShown (status_at tx s d) w
-  shown_on s d right records.Life is = tt
-  shown_on s d right (records.Prepare prepared) is = tt
-  shown_on s d right (records.Done other clock) is = tt
-  shown_on s d right (records.Close epoch) is = tt
-  shown_on s d right (records.Install start) is = tt
-  shown_on s d right (records.Commit c) is = λ same. stays s c.stamp d right (is same)
-  shown_on s d right (records.Decide start) is = tt
+  shown_on s d right w is =
+      matched_by (Unit {0}) (Unit {0}) (λ (c : Commit). same_tx c.tx tx ≡ true → s ≡ Committed c.stamp)
+      (λ (c : Commit). same_tx c.tx tx ≡ true → status_at tx s d ≡ Committed c.stamp) (commit_of w)
+      (λ c is same. stays s c.stamp d right (is same)) (λ none. none) is
 
   written_shown : (s : Status) (w : Record) → IsShown (status_written tx s w) w
-  written_shown s records.Life = tt
-  written_shown s (records.Prepare prepared) = tt
-  written_shown s (records.Done other clock) = tt
-  written_shown s (records.Close epoch) = tt
-  written_shown s (records.Install start) = tt
-  written_shown s (records.Commit c) = λ same. ap (λ (t : Bool). cond t (Committed c.stamp) s) same
-  written_shown s (records.Decide start) = tt
+  written_shown s w = by (commit_of w)
+    where
+      by : (o : Option Commit) → MatchOption o (Unit {0}) (λ (c : Commit). same_tx c.tx tx ≡ true
+          → option_map_or (λ (e : Commit). cond (same_tx e.tx tx) (Committed e.stamp) s) o s ≡ Committed c.stamp)
+      by None = tt
+      by (Some c) = λ same. ap (λ (t : Bool). cond t (Committed c.stamp) s) same
 
   -- so it rises rightly, and one that is of a begun transaction does
 
   shown_right : (s : Status) (w : Record) → IsShown s w → IsRightKept tx s w
-  shown_right s records.Life is = tt
-  shown_right s (records.Prepare prepared) is = tt
-  shown_right s (records.Done other clock) is = tt
-  shown_right s (records.Close epoch) is = tt
-  shown_right s (records.Install start) is = tt
-  shown_right s (records.Commit c) is = λ same. inr (is same)
-  shown_right s (records.Decide start) is = tt
+  shown_right s w is =
+      matched_by (Unit {0}) (Unit {0}) (λ (c : Commit). same_tx c.tx tx ≡ true → s ≡ Committed c.stamp)
+      (λ (c : Commit). same_tx c.tx tx ≡ true → (s ≡ Begun) ⊎ (s ≡ Committed c.stamp)) (commit_of w)
+      (λ c is same. inr (is same)) (λ none. none) is
 
   begun_right : (s : Status) (w : Record) → IsRightRecord tx s w → IsRightKept tx s w
-  begun_right s records.Life is = tt
-  begun_right s (records.Prepare prepared) is = tt
-  begun_right s (records.Done other clock) is = tt
-  begun_right s (records.Close epoch) is = tt
-  begun_right s (records.Install start) is = tt
-  begun_right s (records.Commit c) is = λ same. inl (is same)
-  begun_right s (records.Decide start) is = tt
+  begun_right s w is =
+      matched_by (Unit {0}) (Unit {0}) (λ (c : Commit). same_tx c.tx tx ≡ true → s ≡ Begun)
+      (λ (c : Commit). same_tx c.tx tx ≡ true → (s ≡ Begun) ⊎ (s ≡ Committed c.stamp)) (commit_of w)
+      (λ c is same. inl (is same)) (λ none. none) is
 
   -- after a deed that is right the records that were written still show it
 

@@ -1,14 +1,16 @@
 -- Commit records whose stamps rise, up to a clock.
-use Rattle.std.proofs.Common.{◌≡◌, ◌≤◌, ◌<◌, ℕ, zero, suc, List, [], ◌∷◌, ◌++◌, fold, arith}
-use Rattle.std.specs.List.{All, AllByRecursion as Every, AllPairs, filter_map}
+use Rattle.std.proofs.Common.{◌≡◌, ◌≤◌, ◌<◌, ◌+◌, ℕ, zero, suc, Bool, true, false, cond, List, [], ◌∷◌, ◌++◌, fold, max}
+use Rattle.std.proofs.Common.{Option, Some, None, arith}
+use Rattle.std.specs.Option.{option_map_or}
+use Rattle.std.specs.List.{All, AllByRecursion as Every, AllPairs, cons_option, filter_map}
 use Rattle.std.proofs.lemmas.List.Elements.{filter_map-append}
 use Rattle.std.proofs.lemmas.List.Kept.{AllPairs-cons}
 use Rattle.qc_entry.specs.declared.record.Commit.{Commit}
 use Rattle.qc_list.proofs.Members.{every-append}
 use Rattle.qc_msg.specs.declared.record.Record.{Record}
-use Rattle.qc_msg.specs.declared.record.Record.TheVariants as records
-use Rattle.qc_msg.specs.Vocabulary.{commit_of}
-use Rattle.qc_recover.specs.Clients.{Kept, keeps}
+use Rattle.qc_msg.specs.Vocabulary.{commit_of, is_life}
+use Rattle.qc_recover.specs.Clients.{Kept, keeps, with_commit}
+use Rattle.laws_reach.proofs.RecordCases.{record_cases}
 
 abbrev pub commits_of : List Record → List Commit
 commits_of rs = filter_map commit_of rs
@@ -51,32 +53,32 @@ low_later n m on (c ∷ cs) low = (let l : c.stamp.clock ≤ n = low.0 in omega 
 
 -- the clock of a client that rises has passed all its records
 
+clock_one : (k : Kept) (r : Record) → k.clock ≤ (keeps k r).clock
+clock_one k r = by (is_life r) (commit_of r)
+  where
+    by : (life : Bool) (o : Option Commit) → k.clock
+        ≤ (cond life (record k { life = k.life + 1 }) (option_map_or (λ (c : Commit).
+        record k { commits = with_commit k.commits c; clock = max k.clock c.stamp.clock }) o k)).clock
+    by true o = omega arith
+    by false None = omega arith
+    by false (Some c) = omega arith
+
 clock_up : (k : Kept) (rs : List Record) → k.clock ≤ (fold keeps k rs).clock
 clock_up k [] = omega arith
-clock_up k (r ∷ rs) = by r (clock_up (keeps k r) rs) where
-  by : (r : Record) → (keeps k r).clock ≤ (fold keeps (keeps k r) rs).clock
-      → k.clock ≤ (fold keeps (keeps k r) rs).clock
-  by records.Life up = up
-  by (records.Prepare p) up = up
-  by (records.Done other clock) up = up
-  by (records.Close epoch) up = up
-  by (records.Install start) up = up
-  by (records.Commit c) up = omega arith
-  by (records.Decide start) up = up
+clock_up k (r ∷ rs) =
+    let one : k.clock ≤ (keeps k r).clock = clock_one k r in
+    let rest : (keeps k r).clock ≤ (fold keeps (keeps k r) rs).clock = clock_up (keeps k r) rs in omega arith
 
 pub all_passed : (k : Kept) (rs : List Record) → Every (IsUpTo (fold keeps k rs).clock) (commits_of rs)
 all_passed k [] = tt
-all_passed k (r ∷ rs) = by r (clock_up (keeps k r) rs) (all_passed (keeps k r) rs) where
-  by : (r : Record) → (keeps k r).clock ≤ (fold keeps (keeps k r) rs).clock
-      → Every (IsUpTo (fold keeps (keeps k r) rs).clock) (commits_of rs)
-      → Every (IsUpTo (fold keeps (keeps k r) rs).clock) (commits_of (r ∷ rs))
-  by records.Life up rest = rest
-  by (records.Prepare p) up rest = rest
-  by (records.Done other clock) up rest = rest
-  by (records.Close epoch) up rest = rest
-  by (records.Install start) up rest = rest
-  by (records.Commit c) up rest = (omega arith, rest)
-  by (records.Decide start) up rest = rest
+all_passed k (r ∷ rs) =
+    record_cases
+    (λ r life o. (let next : Kept = cond life (record k { life = k.life + 1 }) (option_map_or (λ (c : Commit).
+    record k { commits = with_commit k.commits c; clock = max k.clock c.stamp.clock }) o k) in
+    next.clock ≤ (fold keeps next rs).clock → Every (IsUpTo (fold keeps next rs).clock) (commits_of rs)
+    → Every (IsUpTo (fold keeps next rs).clock) (cons_option o (commits_of rs))))
+    (λ up rest. rest) (λ c up rest. (omega arith, rest)) (λ r none up rest. rest) r (clock_up (keeps k r) rs)
+    (all_passed (keeps k r) rs)
 
 -- so each is below each later one
 

@@ -16,16 +16,6 @@ use Rattle.qc_promise.specs.Vocabulary.{do_row, first_against, is_append, is_dec
 use Rattle.qc_promise.specs.Vocabulary.{read_row, reply_to, requests_for, round_of, row_of, vote_row}
 use Rattle.laws_reach.specs.Vocabulary.{IsNoCommit, SaysIn}
 
-abbrev IsCommitCommand : Command → Type 0
-IsCommitCommand commands.Begin = ⊥
-IsCommitCommand (commands.Do object inv) = ⊥
-IsCommitCommand commands.Commit = Unit {0}
-IsCommitCommand commands.Abort = ⊥
-IsCommitCommand (commands.Epoch number) = ⊥
-
-is_commit : (command : Command) → command ≡ commands.Commit → IsCommitCommand command
-is_commit command is = subst IsCommitCommand (sym is) tt
-
 abbrev IsSomeCurrent : Option Current → Type 0
 IsSomeCurrent None = ⊥
 IsSomeCurrent (Some t) = Unit {0}
@@ -35,7 +25,7 @@ module _ (decl : Declaration) (d : Account) where
   no_current command none t some is = subst IsSomeCurrent (sym some ∙ none) tt
 
   no_do : (object inv : ℕ) → IsNoCommit d (commands.Do object inv)
-  no_do object inv t some is = is_commit (commands.Do object inv) is
+  no_do object inv t some is = let never : ⊥ = cc in never
 
   append_says : (t : Current) (object inv event : ℕ) (v : Verdict) → d.current ≡ Some t
       → answer_of decl t object inv ≡ Some event
@@ -106,7 +96,7 @@ module _ (decl : Declaration) (d : Account) where
   row_says u None commands.Commit is = no_current commands.Commit is
   row_says u None commands.Abort is = no_current commands.Abort is
   row_says u None (commands.Epoch number) is = tt
-  row_says u (Some t) commands.Begin is = λ t some same. is_commit commands.Begin same
+  row_says u (Some t) commands.Begin is = λ t some same. let never : ⊥ = cc in never
   row_says u (Some t) (commands.Do object inv) is = do_says t object inv is
   row_says u (Some t) commands.Commit is = commit_says t u
   row_says u (Some t) commands.Abort is = tt

@@ -1,5 +1,6 @@
 -- So what every net keeps, every run with falls keeps whose records are kept.
 use Rattle.std.proofs.Common.{◌≡◌, ℕ, Bool, true, false, List, [], Some, slice_get, inl, inr, refl, sym, ◌∙◌, subst}
+use Rattle.std.specs.Prelude.{MatchOption}
 use Rattle.qc_core.specs.declared.actor.Actor.TheVariants as actor
 use Rattle.qc_core.specs.Vocabulary.{IsLawfulWithFalls, actor_after, is_up}
 use Rattle.qc_decl.specs.Vocabulary.{IsAccepted, is_site}
@@ -11,26 +12,26 @@ use Rattle.qc_list.specs.Vocabulary.{In}
 use Rattle.qc_msg.specs.declared.message.Answer.TheVariants.{Yes}
 use Rattle.qc_msg.specs.declared.message.Envelope.{Envelope}
 use Rattle.qc_msg.specs.declared.message.Message.{Message}
-use Rattle.qc_msg.specs.declared.message.Message.TheVariants as messages
 use Rattle.qc_msg.specs.declared.message.Message.TheVariants.{Answer, Decision, Request}
 use Rattle.qc_msg.specs.declared.message.Outcome.{Outcome}
 use Rattle.qc_msg.specs.declared.message.Outcome.TheVariants as outcomes
 use Rattle.qc_msg.specs.declared.message.Want.TheVariants.{Append}
 use Rattle.qc_msg.specs.declared.record.Record.{Record}
 use Rattle.qc_msg.specs.declared.record.Record.TheVariants as records
-use Rattle.qc_msg.specs.Vocabulary.{Entry, deeds, mail}
+use Rattle.qc_msg.specs.Vocabulary.{Decided, Entry, deeds, mail}
 use Rattle.laws_refinement.specs.Vocabulary.{IsRecorded, IsTrueVerdict, Refines, lines_in}
 use Rattle.laws_refinement.proofs.Refining.{nets_refine}
 use Rattle.laws_refinement.proofs.NetLaws as nets
 use Rattle.laws_refinement.proofs.VotesKept.{votes_stand_on_records}
 use Rattle.theory_onecopy.specs.Vocabulary.{AreApart, IsClosedLog, IsLogged, OneCopy, sorted}
 use Rattle.theory_onecopy.proofs.Committed.{records_are_sorted}
-use Rattle.qc_promise.specs.Vocabulary.{DecisionAgrees, Kept, committed, records as written_in}
+use Rattle.qc_promise.specs.Vocabulary.{DecisionAgrees, Kept, VerdictAgrees, committed, records as written_in}
 use Rattle.qc_script.specs.Vocabulary.{IsScriptFor, RunsWithFalls}
 use Rattle.qc_script.specs.declared.script.Script.{Script}
 use Rattle.qc_site.specs.Vocabulary.{SiteState, known}
 use Rattle.qc_stamp.specs.declared.stamp.TxId.{TxId}
 use Rattle.laws_atomic.proofs.Closed as closed_logs
+use Rattle.laws_turns.proofs.MessageCases.{message_cases}
 use Rattle.laws_reach.specs.Vocabulary.{AreStanding, IsOfClient, IsPromiseRecorded, IsReachedWithFalls, records_of}
 use Rattle.laws_reach.proofs.Committing.{committed_records_stand}
 use Rattle.laws_reach.proofs.Reaching.{runs_with_falls_reach_nets}
@@ -203,13 +204,9 @@ module _ (fits : ℕ → List Record → Type 0) (decl : Declaration) (script : 
   committed_records_are_one_copy_through_falls = one_copy (written_in decl h) (committed_records_stand decl h kept)
 
   -- a Decision agrees with the committed transactions
-  agrees : (m : Message) → ((tx : TxId) (verdict : Outcome) → m ≡ Decision tx verdict
-      → IsTrueVerdict (written_in decl h) tx verdict) → DecisionAgrees (committed decl h) m
-  agrees (messages.Request tx epoch life want) true_one = tt
-  agrees (messages.Answer to answer) true_one = tt
-  agrees (messages.Decision tx (outcomes.Committed stamp)) true_one =
-      let is : IsTrueVerdict (written_in decl h) tx (outcomes.Committed stamp) =
-      true_one tx (outcomes.Committed stamp) refl in
+  verdict_agrees : (tx : TxId) (verdict : Outcome) → IsTrueVerdict (written_in decl h) tx verdict
+      → VerdictAgrees (committed decl h) tx verdict
+  verdict_agrees tx (outcomes.Committed stamp) is =
       record {
         commit = is.0;
         listed = ((records_are_sorted (written_in decl h)
@@ -217,15 +214,20 @@ module _ (fits : ℕ → List Record → Type 0) (decl : Declaration) (script : 
         named = is.2;
         stamped = is.3;
       }
-  agrees (messages.Decision tx outcomes.Aborted) true_one =
-      λ c among. true_one tx outcomes.Aborted refl c
-      (((records_are_sorted (written_in decl h)
+  verdict_agrees tx outcomes.Aborted is =
+      λ c among. is c (((records_are_sorted (written_in decl h)
       (apart (written_in decl h) (committed_records_stand decl h kept)).stamps).1 c).0 among)
-  agrees (messages.Decision tx outcomes.Active) true_one = tt
-  agrees (messages.Inquiry tx) true_one = tt
-  agrees (messages.Ask tx) true_one = tt
-  agrees (messages.Close epoch) true_one = tt
-  agrees (messages.Install start) true_one = tt
+  verdict_agrees tx outcomes.Active is = tt
+
+  agrees : (m : Message) → ((tx : TxId) (verdict : Outcome) → m ≡ Decision tx verdict
+      → IsTrueVerdict (written_in decl h) tx verdict) → DecisionAgrees (committed decl h) m
+  agrees m true_one =
+      message_cases
+      (λ m request answer decision question. ((tx : TxId) (verdict : Outcome) → m ≡ Decision tx verdict
+      → IsTrueVerdict (written_in decl h) tx verdict)
+      → MatchOption decision (Unit {0}) (λ (v : Decided). VerdictAgrees (committed decl h) v.tx v.verdict))
+      (λ q its. tt) (λ a its. tt) (λ v its. verdict_agrees v.tx v.verdict (its v.tx v.verdict refl)) (λ tx its. tt)
+      (λ m its. tt) m true_one
 
   pub decisions_agree_with_committed_through_falls : (e : Envelope) → In e (mail h)
       → DecisionAgrees (committed decl h) e.message

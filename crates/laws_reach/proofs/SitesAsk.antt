@@ -1,5 +1,6 @@
 -- A site promises only for transactions that it was asked for, and asks clients only about these, as it rises too.
 use Rattle.std.proofs.Common.{◌≡◌, ℕ, List, [], ◌∷◌, ◌++◌, fold, map, take, option_to_list, refl}
+use Rattle.std.specs.Prelude.{MatchOption}
 use Rattle.std.specs.List.{AllByRecursion as Every}
 use Rattle.std.specs.declared.cmp.Ordering.{Ordering}
 use Rattle.std.specs.declared.cmp.Ordering.TheVariants.{Equal, Greater, Less}
@@ -23,13 +24,14 @@ use Rattle.qc_msg.specs.declared.step.Input.{Input}
 use Rattle.qc_msg.specs.declared.step.Input.TheVariants as inputs
 use Rattle.qc_msg.specs.declared.turn.Posting.{Posting}
 use Rattle.qc_msg.specs.declared.turn.Turn.{Turn}
-use Rattle.qc_msg.specs.Vocabulary.{quiet}
+use Rattle.qc_msg.specs.Vocabulary.{Answered, Requested, answer_in, inquiry_in, prepare_in, quiet, request_in}
 use Rattle.qc_recover.proofs.Asked.{first_every}
 use Rattle.qc_recover.specs.Vocabulary.{Kept, inquiry, keeps, kept_by, most_inquiries, nothing_kept, site_rises}
 use Rattle.qc_site.specs.Vocabulary.{SiteMove, SiteState, answers, grants, in_order, moved, passed, site_at, site_takes}
 use Rattle.qc_site.specs.Vocabulary.{without_prepared}
 use Rattle.laws_turns.proofs.SitesAsk.{Asks, GivenTells, HeldFor, PreparedFor, SiteTells, Tells, held-promised}
 use Rattle.laws_turns.proofs.SitesAsk.{prepared-left, site_asks}
+use Rattle.laws_turns.proofs.ReadingCases.{matched_by}
 use Rattle.qc_site.proofs.RequestCases.{append_cases, close_cases, join_cases, prepare_cases, read_cases, request_cases}
 use Rattle.qc_site.proofs.Cases.{install_cases}
 
@@ -48,16 +50,19 @@ every-in_order P xs [] all more = all
 every-in_order P xs (y ∷ ys) all more = every-in_order P (inserted tx_cmp xs y) ys
     (every-inserted P xs y all more.0) more.1
 
+-- a message that tells of such transactions asks about none but these, of their clients
+pub asked_of : (decl : Declaration) (B Q : TxId → Type 0) (to : ℕ) (m : Message)
+    → ((tx : TxId) → to ≡ client_actor decl tx.client → B tx → Q tx) → Tells decl B to m
+    → MatchOption (inquiry_in m) (Unit {0}) Q
+asked_of decl B Q to m each tells =
+    matched_by (MatchOption (request_in m) (Unit {0}) (λ (q : Requested). B q.tx)) (Unit {0})
+    (λ (tx : TxId). (to ≡ client_actor decl tx.client) × B tx) Q (inquiry_in m) (λ tx its. each tx its.0 its.1)
+    (λ none. tt) tells
+
 module _ (decl : Declaration) (B : TxId → Type 0) where
   -- a question is about such a transaction, and goes to its client
   abbrev pub IsAbout : ℕ → Message → Type 0
-  IsAbout to (messages.Request tx epoch life want) = Unit {0}
-  IsAbout to (messages.Answer asked answer) = Unit {0}
-  IsAbout to (messages.Decision tx verdict) = Unit {0}
-  IsAbout to (messages.Inquiry tx) = (to ≡ client_actor decl tx.client) × B tx
-  IsAbout to (messages.Ask tx) = Unit {0}
-  IsAbout to (messages.Close epoch) = Unit {0}
-  IsAbout to (messages.Install start) = Unit {0}
+  IsAbout to m = MatchOption (inquiry_in m) (Unit {0}) (λ (tx : TxId). (to ≡ client_actor decl tx.client) × B tx)
 
   abbrev pub AreAbout : List Posting → Type 0
   AreAbout ps = Every (λ (p : Posting). IsAbout p.to p.message) ps
@@ -65,13 +70,7 @@ module _ (decl : Declaration) (B : TxId → Type 0) where
   -- a promise is for such a one
 
   abbrev pub PromisesFor : Record → Type 0
-  PromisesFor records.Life = Unit {0}
-  PromisesFor (records.Prepare p) = B p.tx
-  PromisesFor (records.Done tx clock) = Unit {0}
-  PromisesFor (records.Close epoch) = Unit {0}
-  PromisesFor (records.Install start) = Unit {0}
-  PromisesFor (records.Commit commit) = Unit {0}
-  PromisesFor (records.Decide start) = Unit {0}
+  PromisesFor r = MatchOption (prepare_in r) (Unit {0}) (λ (p : Prepared). B p.tx)
 
   -- whatever becomes of a turn's record
   pub record TurnAsks (turn : Turn) : Type 0 where
@@ -132,13 +131,10 @@ module _ (decl : Declaration) (B : TxId → Type 0) where
   promising s (inputs.Lost number) here = record { failed = tt; writes = tt }
 
   about : (to : ℕ) (message : Message) → SiteTells decl B to message → IsAbout to message
-  about to (messages.Request tx epoch life want) never = tt
-  about to (messages.Answer asked answer) here = tt
-  about to (messages.Decision tx verdict) never = tt
-  about to (messages.Inquiry tx) here = here
-  about to (messages.Ask tx) never = tt
-  about to (messages.Close epoch) never = tt
-  about to (messages.Install start) never = tt
+  about to m here =
+      matched_by (MatchOption (answer_in m) ⊥ (λ (a : Answered). Unit {0})) (Unit {0})
+      (λ (tx : TxId). (to ≡ client_actor decl tx.client) × B tx)
+      (λ (tx : TxId). (to ≡ client_actor decl tx.client) × B tx) (inquiry_in m) (λ tx its. its) (λ none. tt) here
 
   -- one input
   pub takes_ask : (s : SiteState) (g : Input) → HeldFor decl B s.held → PreparedFor decl B s.prepared

@@ -4,18 +4,18 @@ use Rattle.std.proofs.Common.{◌≡◌, List, [], ◌∷◌, inl, inr, refl, sy
 use Rattle.std.proofs.lemmas.Cmp.{tied_itself}
 use Rattle.std.specs.declared.cmp.Ordering.TheVariants.{Equal}
 use Rattle.qc_stamp.specs.Vocabulary.{stamp_cmp}
-use Rattle.qc_stamp.proofs.Orders.{stamp_order}
+use Rattle.qc_stamp.proofs.Orders.{stamps_are_ordered}
 use Rattle.qc_entry.specs.declared.record.Commit.{Commit}
 use Rattle.qc_list.specs.Vocabulary.{In}
 use Rattle.theory_onecopy.specs.Vocabulary.{AreApart, IsOrdered, IsStampedBefore, sorted}
 use Rattle.theory_onecopy.proofs.Committed.{records_are_sorted}
 
 never_itself : (c : Commit) → IsStampedBefore c c → ⊥
-never_itself c before = let tied : stamp_cmp c.stamp c.stamp ≡ Equal = tied_itself stamp_order.total c.stamp in
+never_itself c before = let tied : stamp_cmp c.stamp c.stamp ≡ Equal = tied_itself stamps_are_ordered.total c.stamp in
     let no : ⊥ = cc in no
 
 never_both : (c d : Commit) → IsStampedBefore c d → IsStampedBefore d c → ⊥
-never_both c d first second = never_itself c (stamp_order.total.trans c.stamp d.stamp c.stamp first second)
+never_both c d first second = never_itself c (stamps_are_ordered.total.trans c.stamp d.stamp c.stamp first second)
 
 same_first : (x y : Commit) (xs ys : List Commit) → IsOrdered IsStampedBefore (x ∷ xs)
     → IsOrdered IsStampedBefore (y ∷ ys) → ((c : Commit) → In c (x ∷ xs) → In c (y ∷ ys))

@@ -9,20 +9,20 @@ use Rattle.qc_list.specs.Vocabulary.{In}
 use Rattle.qc_decl.specs.declared.declaration.Declaration.{Declaration}
 use Rattle.qc_entry.specs.declared.record.Commit.{Commit}
 use Rattle.qc_msg.specs.declared.message.Message.{Message}
-use Rattle.qc_msg.specs.declared.message.Message.TheVariants as messages
 use Rattle.qc_msg.specs.declared.record.Record.{Record}
 use Rattle.qc_msg.specs.declared.record.Record.TheVariants as records
 use Rattle.qc_msg.specs.declared.step.Input.{Input}
 use Rattle.qc_msg.specs.declared.step.Input.TheVariants as inputs
-use Rattle.qc_msg.specs.Vocabulary.{Deed, Rises}
+use Rattle.qc_msg.specs.Vocabulary.{Answered, Deed, Requested, Rises, answer_in, request_in}
 use Rattle.qc_promise.specs.Vocabulary.{Account, Journal, Sight, Status, account_at, account_of, account_sent}
 use Rattle.qc_promise.specs.Vocabulary.{account_taken, answered, is_asked_for, is_begun, life_with, new_account, sees}
-use Rattle.qc_promise.specs.Vocabulary.{sight_sent, sight_taken, waits}
+use Rattle.qc_promise.specs.Vocabulary.{counted, requested, sight_sent, sight_taken, waits}
 use Rattle.qc_promise.specs.Seen.{granted}
 use Rattle.qc_promise.specs.Status as statuses
 use Rattle.laws_due.proofs.Anew.{accounts_begin_anew}
 use Rattle.laws_atomic.proofs.Counted.{counts}
 use Rattle.laws_atomic.proofs.Seeing.{HasCommitted, Sees}
+use Rattle.laws_turns.proofs.ReadingCases.{mapped}
 use Rattle.laws_reach.proofs.Making.{IsHad}
 use Rattle.laws_reach.proofs.Naming.{IsNamed, SameCounts, named_as, sent_counts, taken_counts}
 
@@ -103,31 +103,20 @@ SameSight s t = (t.begun ≡ s.begun) × (t.committed ≡ s.committed)
 
 taken_sight : (tx : TxId) (s : Sight) (g : Input) → SameSight s (sight_taken tx s g)
 taken_sight tx s (inputs.Called command) = (refl, refl)
-taken_sight tx s (inputs.Got e) = by e.message
+taken_sight tx s (inputs.Got e) =
+    mapped (SameSight s)
+    (λ (a : Answered). cond (waits s a.to) (sees tx (answered s a.to) (granted a.answer)) s) s (answer_in e.message)
+    (λ a. at a (waits s a.to)) (refl, refl)
   where
-    by : (m : Message) → SameSight s (sight_taken tx s
-        (inputs.Got (record { number = e.number; from = e.from; to = e.to; message = m })))
-    by (messages.Request other epoch life want) = (refl, refl)
-    by (messages.Answer to answer) = at (waits s to)
-      where
-        at : (b : Bool) → SameSight s (cond b (sees tx (answered s to) (granted answer)) s)
-        at true = (refl, refl)
-        at false = (refl, refl)
-    by (messages.Decision other verdict) = (refl, refl)
-    by (messages.Inquiry other) = (refl, refl)
-    by (messages.Ask other) = (refl, refl)
-    by (messages.Close epoch) = (refl, refl)
-    by (messages.Install start) = (refl, refl)
+    at : (a : Answered) (b : Bool) → SameSight s (cond b (sees tx (answered s a.to) (granted a.answer)) s)
+    at a true = (refl, refl)
+    at a false = (refl, refl)
 taken_sight tx s (inputs.Lost number) = (refl, refl)
 
 sent_sight : (s : Sight) (number : ℕ) (message : Message) → SameSight s (sight_sent s number message)
-sent_sight s number (messages.Request other epoch life want) = (refl, refl)
-sent_sight s number (messages.Answer to answer) = (refl, refl)
-sent_sight s number (messages.Decision other verdict) = (refl, refl)
-sent_sight s number (messages.Inquiry other) = (refl, refl)
-sent_sight s number (messages.Ask other) = (refl, refl)
-sent_sight s number (messages.Close epoch) = (refl, refl)
-sent_sight s number (messages.Install start) = (refl, refl)
+sent_sight s number message =
+    mapped (SameSight s) (λ (q : Requested). record s { waiting = s.waiting ++ number ∷ [] }) s (request_in message)
+    (λ q. (refl, refl)) (refl, refl)
 
 -- and the record that was written
 
@@ -136,38 +125,27 @@ IsWrittenIn d e = (c : Commit) → e.written ≡ Some c → d.written ≡ Some c
 
 taken_written : (d : Account) (g : Input) → IsWrittenIn d (account_taken d g)
 taken_written d (inputs.Called command) c is = absurd (let never : ⊥ = cc in never)
-taken_written d (inputs.Got e) c is = by e.message is
-  where
-    by : (m : Message) → (account_taken d (inputs.Got
-        (record { number = e.number; from = e.from; to = e.to; message = m }))).written ≡ Some c → d.written ≡ Some c
-    by (messages.Request other epoch life want) same = same
-    by (messages.Answer to answer) same = sym (counts to d (Some answer)).written ∙ same
-    by (messages.Decision other verdict) same = same
-    by (messages.Inquiry other) same = same
-    by (messages.Ask other) same = same
-    by (messages.Close epoch) same = same
-    by (messages.Install start) same = same
+taken_written d (inputs.Got e) c is =
+    mapped (λ (x : Account). x.written ≡ Some c → d.written ≡ Some c)
+    (λ (a : Answered). counted d a.to (Some a.answer)) d (answer_in e.message)
+    (λ a same. sym (counts a.to d (Some a.answer)).written ∙ same) (λ same. same) is
 taken_written d (inputs.Lost number) c is = sym (counts number d None).written ∙ is
 
 sent_written : (decl : Declaration) (d : Account) (number to : ℕ) (message : Message)
     → IsWrittenIn d (account_sent decl d number to message)
-sent_written decl d number to (messages.Request other epoch life want) c is =
-    by (is_asked_for decl d to other epoch life want) is
+sent_written decl d number to message c is =
+    mapped (λ (x : Account). x.written ≡ Some c → d.written ≡ Some c)
+    (λ (q : Requested). requested decl d number to q.tx q.epoch q.life q.want) d (request_in message)
+    (λ q. by q (is_asked_for decl d to q.tx q.epoch q.life q.want)) (λ same. same) is
   where
-    by : (b : Bool)
+    by : (q : Requested) (b : Bool)
         → (cond b (record d {
           requests = d.requests
-              ++ record { number = number; site = to; life = life; want = want; taken = None } ∷ [];
+              ++ record { number = number; site = to; life = q.life; want = q.want; taken = None } ∷ [];
         }) d).written ≡ Some c
         → d.written ≡ Some c
-    by true same = same
-    by false same = same
-sent_written decl d number to (messages.Answer request answer) c is = is
-sent_written decl d number to (messages.Decision other verdict) c is = is
-sent_written decl d number to (messages.Inquiry other) c is = is
-sent_written decl d number to (messages.Ask other) c is = is
-sent_written decl d number to (messages.Close epoch) c is = is
-sent_written decl d number to (messages.Install start) c is = is
+    by q true same = same
+    by q false same = same
 
 pub up_not : {X : Type 0} → true ≡ false → X
 up_not is = absurd (let never : ⊥ = cc in never)

@@ -1,6 +1,7 @@
 -- How a transaction stands at its client while that is up, down, and risen: lives only grow.
-use Rattle.std.proofs.Common.{[], ◌≡◌, ◌≢◌, ℕ, ◌<◌, ◌≤◌, ◌⊎◌, inl, inr, Bool, true, false, cond, List, ◌∷◌, ◌++◌, fold}
-use Rattle.std.proofs.Common.{Option, Some, None, option_to_list, refl, sym, ap, ◌∙◌, subst, arith}
+use Rattle.std.proofs.Common.{◌≡◌, ◌≢◌, ℕ, ◌+◌, ◌<◌, ◌≤◌, max, ◌⊎◌, inl, inr, Bool, true, false, cond, List, [], ◌∷◌}
+use Rattle.std.proofs.Common.{◌++◌, fold, Option, Some, None, option_to_list, refl, sym, ap, ◌∙◌, subst, arith}
+use Rattle.std.specs.Option.{option_map_or}
 use Rattle.std.specs.List.{AllByRecursion as Every}
 use Rattle.std.proofs.lemmas.List.Sums.{fold-append}
 use Rattle.qc_list.specs.Vocabulary.{In}
@@ -8,16 +9,18 @@ use Rattle.qc_list.proofs.Members.{In-first, every-In}
 use Rattle.qc_entry.specs.declared.record.Commit.{Commit}
 use Rattle.qc_msg.specs.declared.record.Record.{Record}
 use Rattle.qc_msg.specs.declared.record.Record.TheVariants as records
+use Rattle.qc_msg.specs.Vocabulary.{commit_of, is_life}
 use Rattle.qc_promise.specs.Vocabulary.{AreRightKept, Begun, Committed, Dead, IsGivenBack, IsRightKept, IsRightRecord}
 use Rattle.qc_promise.specs.Vocabulary.{Journal, Status, Unborn, given_up, status_risen, status_written}
 use Rattle.laws_turns.proofs.DealingParts.{HasRecord}
 use Rattle.laws_turns.proofs.Statuses.{IsStatus, Page}
-use Rattle.qc_recover.specs.Clients.{Kept, keeps, kept_by, nothing_kept}
+use Rattle.qc_recover.specs.Clients.{Kept, keeps, kept_by, nothing_kept, with_commit}
 use Rattle.qc_stamp.specs.declared.stamp.Stamp.{Stamp}
 use Rattle.qc_stamp.specs.declared.stamp.TxId.{TxId}
 use Rattle.qc_stamp.specs.Vocabulary.{same_tx}
 use Rattle.qc_stamp.proofs.Orders.{same_tx_is, same_tx_itself}
 use Rattle.laws_reach.specs.Vocabulary.{IsRecorded}
+use Rattle.laws_reach.proofs.RecordCases.{commit_cases}
 
 pub listed_more : (tx : TxId) (stamp : Stamp) (xs ys : List Record) → IsRecorded tx stamp xs
     → IsRecorded tx stamp (xs ++ ys)
@@ -56,17 +59,21 @@ up_down tx s j k p o u pending = record {
 
 -- lives only grow
 
+life_one : (k : Kept) (r : Record) → k.life ≤ (keeps k r).life
+life_one k r = by (is_life r) (commit_of r)
+  where
+    by : (life : Bool) (o : Option Commit) → k.life
+        ≤ (cond life (record k { life = k.life + 1 }) (option_map_or (λ (c : Commit).
+        record k { commits = with_commit k.commits c; clock = max k.clock c.stamp.clock }) o k)).life
+    by true o = omega arith
+    by false None = omega arith
+    by false (Some c) = omega arith
+
 grows : (k : Kept) (rs : List Record) → k.life ≤ (fold keeps k rs).life
 grows k [] = omega arith
-grows k (r ∷ rs) = by r (grows (keeps k r) rs) where
-  by : (r : Record) → (keeps k r).life ≤ (fold keeps (keeps k r) rs).life → k.life ≤ (fold keeps (keeps k r) rs).life
-  by records.Life less = omega arith
-  by (records.Prepare p) less = less
-  by (records.Done other clock) less = less
-  by (records.Close epoch) less = less
-  by (records.Install start) less = less
-  by (records.Commit c) less = less
-  by (records.Decide start) less = less
+grows k (r ∷ rs) =
+    let one : k.life ≤ (keeps k r).life = life_one k r in
+    let rest : (keeps k r).life ≤ (fold keeps (keeps k r) rs).life = grows (keeps k r) rs in omega arith
 
 pub lives_grow : (xs ys : List Record) → (kept_by xs).life ≤ (kept_by (xs ++ ys)).life
 lives_grow xs ys =
@@ -97,13 +104,10 @@ module _ (tx : TxId) where
           };
         }
 
-    same : (w : Record) → status_written tx s w ≡ s
-        → (fold (status_written tx) (status_written tx s w) rs ≡ status_written tx s w)
-        ⊎ Rose rs (fold (status_written tx) (status_written tx s w) rs)
-        → (fold (status_written tx) (status_written tx s w) rs ≡ s)
-        ⊎ Rose (w ∷ rs) (fold (status_written tx) (status_written tx s w) rs)
-    same w is (inl still) = inl (still ∙ is)
-    same w is (inr r) = inr (later w (fold (status_written tx) (status_written tx s w) rs) r)
+    same : (w : Record) → (fold (status_written tx) s rs ≡ s) ⊎ Rose rs (fold (status_written tx) s rs)
+        → (fold (status_written tx) s rs ≡ s) ⊎ Rose (w ∷ rs) (fold (status_written tx) s rs)
+    same w (inl still) = inl still
+    same w (inr r) = inr (later w (fold (status_written tx) s rs) r)
 
     commits : (c : Commit) (t : Bool) → same_tx c.tx tx ≡ t
         → (fold (status_written tx) (cond t (Committed c.stamp) s) rs ≡ cond t (Committed c.stamp) s)
@@ -125,13 +129,13 @@ module _ (tx : TxId) where
         ⊎ Rose rs (fold (status_written tx) (status_written tx s w) rs)
         → (fold (status_written tx) (status_written tx s w) rs ≡ s)
         ⊎ Rose (w ∷ rs) (fold (status_written tx) (status_written tx s w) rs)
-    by records.Life rest = same records.Life refl rest
-    by (records.Prepare p) rest = same (records.Prepare p) refl rest
-    by (records.Done other clock) rest = same (records.Done other clock) refl rest
-    by (records.Close epoch) rest = same (records.Close epoch) refl rest
-    by (records.Install start) rest = same (records.Install start) refl rest
-    by (records.Commit c) rest = commits c (same_tx c.tx tx) refl rest
-    by (records.Decide start) rest = same (records.Decide start) refl rest
+    by w rest =
+        commit_cases
+        (λ w o. (let next : Status =
+        option_map_or (λ (c : Commit). cond (same_tx c.tx tx) (Committed c.stamp) s) o s in
+        (fold (status_written tx) next rs ≡ next) ⊎ Rose rs (fold (status_written tx) next rs)
+        → (fold (status_written tx) next rs ≡ s) ⊎ Rose (w ∷ rs) (fold (status_written tx) next rs)))
+        (λ c rest. commits c (same_tx c.tx tx) refl rest) (λ w none rest. same w rest) w rest
 
   given_committed : (s : Status) (stamp : Stamp) → given_up s ≡ Committed stamp → s ≡ Committed stamp
   given_committed Unborn stamp is = absurd (let never : ⊥ = cc in never)

@@ -1,18 +1,22 @@
 -- A transaction that isn't begun stays so over deeds that are right for it and don't begin it.
 use Rattle.std.proofs.Common.{◌≡◌, ℕ, ◌+◌, Bool, true, false, cond, List, [], ◌∷◌, ◌++◌, fold, Option, Some, None, refl}
 use Rattle.std.proofs.Common.{ap, ◌∙◌}
+use Rattle.std.specs.Option.{option_map_or}
 use Rattle.qc_msg.specs.declared.message.Message.{Message}
-use Rattle.qc_msg.specs.declared.message.Message.TheVariants as messages
+use Rattle.qc_msg.specs.declared.message.Outcome.{Outcome}
 use Rattle.qc_msg.specs.declared.message.Outcome.TheVariants as outcomes
 use Rattle.qc_msg.specs.declared.record.Record.{Record}
-use Rattle.qc_msg.specs.declared.record.Record.TheVariants as records
 use Rattle.qc_msg.specs.declared.reply.Reply.{Reply}
 use Rattle.qc_msg.specs.declared.reply.Reply.TheVariants as replies
 use Rattle.qc_msg.specs.declared.turn.Posting.{Posting}
 use Rattle.qc_msg.specs.declared.turn.Turn.{Turn}
-use Rattle.qc_msg.specs.Vocabulary.{sends_of, tells_of, turn_deeds, writes_of}
+use Rattle.qc_msg.specs.Vocabulary.{Decided, commit_of, decision_in, sends_of, tells_of, turn_deeds, writes_of}
 use Rattle.qc_promise.specs.Vocabulary.{AreRightFrom, Begun, Committed, IsRightRecord, Status, Unborn, status_at}
 use Rattle.qc_promise.specs.Vocabulary.{status_sent, status_told, status_written}
+use Rattle.qc_promise.specs.Status.{status_decided}
+use Rattle.qc_entry.specs.declared.record.Commit.{Commit}
+use Rattle.laws_turns.proofs.ReadingCases.{mapped, mapped_by}
+use Rattle.laws_turns.proofs.ReplyCases.{reply_cases}
 use Rattle.qc_stamp.specs.declared.stamp.TxId.{TxId}
 use Rattle.qc_stamp.specs.Vocabulary.{same_tx}
 
@@ -29,48 +33,31 @@ module _ (tx : TxId) where
   never is = let no : ⊥ = cc in no
 
   written : (w : Record) → IsRightRecord tx Unborn w → status_written tx Unborn w ≡ Unborn
-  written records.Life right = refl
-  written (records.Prepare prepared) right = refl
-  written (records.Done other clock) right = refl
-  written (records.Close epoch) right = refl
-  written (records.Install start) right = refl
-  written (records.Commit c) right = either (same_tx c.tx tx) (Committed c.stamp) (λ same. never (right same))
-  written (records.Decide start) right = refl
+  written w right =
+      mapped_by (λ (s : Status). s ≡ Unborn) (λ (c : Commit). cond (same_tx c.tx tx) (Committed c.stamp) Unborn) Unborn
+      (Unit {0}) (λ (c : Commit). same_tx c.tx tx ≡ true → Unborn ≡ Begun) (commit_of w)
+      (λ c right. either (same_tx c.tx tx) (Committed c.stamp) (λ same. never (right same))) (λ none. refl) right
+
+  decided : (other : TxId) (verdict : Outcome) → status_decided tx Unborn other verdict ≡ Unborn
+  decided other (outcomes.Committed stamp) = refl
+  decided other outcomes.Aborted = same_both (same_tx other tx)
+  decided other outcomes.Active = refl
 
   sent : (m : Message) → status_sent tx Unborn m ≡ Unborn
-  sent (messages.Request other epoch life want) = refl
-  sent (messages.Answer to answer) = refl
-  sent (messages.Decision other (outcomes.Committed stamp)) = refl
-  sent (messages.Decision other outcomes.Aborted) = same_both (same_tx other tx)
-  sent (messages.Decision other outcomes.Active) = refl
-  sent (messages.Inquiry other) = refl
-  sent (messages.Ask other) = refl
-  sent (messages.Close epoch) = refl
-  sent (messages.Install start) = refl
+  sent m =
+      mapped (λ (s : Status). s ≡ Unborn) (λ (v : Decided). status_decided tx Unborn v.tx v.verdict) Unborn
+      (decision_in m) (λ v. decided v.tx v.verdict) refl
 
   abbrev BeginsNot : Reply → Type 0
   BeginsNot r = (x : TxId) → r ≡ replies.Began x → same_tx x tx ≡ true → ⊥
 
   told : (r : Reply) → BeginsNot r → status_told tx Unborn r ≡ Unborn
-  told replies.Down bars = refl
-  told (replies.Already other) bars = refl
-  told (replies.Began other) bars = either (same_tx other tx) Begun (bars other refl)
-  told replies.NoTransaction bars = refl
-  told replies.Doomed bars = refl
-  told replies.TooLong bars = refl
-  told (replies.Closed epoch site) bars = refl
-  told (replies.Conflict holder site) bars = refl
-  told (replies.Quorum half got need) bars = refl
-  told replies.Absent bars = refl
-  told (replies.Response resp) bars = refl
-  told (replies.Aborted why) bars = refl
-  told replies.Unknown bars = refl
-  told (replies.Committed stamp) bars = refl
-  told replies.Dropped bars = refl
-  told (replies.Order current) bars = refl
-  told (replies.InDoubt holder site) bars = refl
-  told replies.Fault bars = refl
-  told (replies.Moved closed installed) bars = refl
+  told r bars =
+      reply_cases
+      (λ r began already gone. BeginsNot r
+      → option_map_or (λ (other : TxId). cond (same_tx other tx) Begun Unborn) began (cond gone Unborn Unborn) ≡ Unborn)
+      (λ other bars. either (same_tx other tx) Begun (bars other refl)) (λ other bars. refl) (λ why bars. refl)
+      (λ bars. refl) (λ r bars. refl) r bars
 
   talks : (n : ℕ) (ps : List Posting) (o : Option Reply)
       → ((x : TxId) → o ≡ Some (replies.Began x) → same_tx x tx ≡ true → ⊥)

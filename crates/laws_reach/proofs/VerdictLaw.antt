@@ -1,5 +1,5 @@
 -- In every run with falls whose records are kept a client's deeds are right, and the stamps of its records rise.
-use Rattle.std.proofs.Common.{[], ◌≡◌, ◌↔◌, ◌-◌, ◌≢◌, ◌≤◌, ◌<◌, ℕ, ◌+◌, ◌==◌, Bool, true, false, List, ◌∷◌, ◌++◌}
+use Rattle.std.proofs.Common.{◌≡◌, ◌↔◌, ◌-◌, ◌≢◌, ◌≤◌, ◌<◌, ℕ, ◌+◌, ◌==◌, Bool, true, false, List, [], ◌∷◌, ◌++◌}
 use Rattle.std.proofs.Common.{length, option_to_list, Some, None, slice_get, refl, sym, ap, ◌∙◌, subst, arith}
 use Rattle.std.proofs.Common.{append_assoc, eqb-true}
 use Rattle.std.specs.List.{AllPairs, filter_map}
@@ -45,6 +45,7 @@ use Rattle.qc_script.specs.Vocabulary.{posts, rises, takes, unopened}
 use Rattle.qc_script.specs.declared.script.Script.{Script}
 use Rattle.qc_stamp.specs.declared.stamp.Stamp.{Stamp}
 use Rattle.qc_stamp.specs.declared.stamp.TxId.{TxId}
+use Rattle.qc_stamp.specs.Vocabulary.{same_tx}
 use Rattle.qc_stamp.proofs.Orders.{same_tx_is, same_tx_itself}
 use Rattle.laws_due.specs.Vocabulary.{Declares}
 use Rattle.laws_due.proofs.AccountDeclared.{scripts_ask_what_is_declared}
@@ -58,6 +59,7 @@ use Rattle.laws_reach.proofs.Putting.{part_kept}
 use Rattle.laws_reach.proofs.Questions.{Asked, IsRequested, run_asked}
 use Rattle.laws_reach.proofs.RisingStamps.{Rise, commits_more, commits_of, rise_first, rise_pairs}
 use Rattle.laws_reach.proofs.Sent.{mail_deed}
+use Rattle.laws_reach.proofs.SitesAsk.{asked_of}
 use Rattle.laws_reach.proofs.StampsUp.{WithPending}
 use Rattle.laws_reach.proofs.Stamped.{course_rises}
 use Rattle.laws_reach.proofs.VerdictPosts.{right_second, post_posts, few}
@@ -72,10 +74,12 @@ module _ (decl : Declaration) (script : Script) (fits : ℕ → List Record → 
   abbrev AreKnown : List Entry → Type 0
   AreKnown h = (a : ℕ) → is_client decl a ≡ true → (tx : TxId) → KnownFrom tx Unborn (deeds a [] h)
 
-  declares : (h : List Entry) (open_inputs : List Bool) → IsRun h open_inputs → Kept h → (a : ℕ) → Declares decl (deeds a [] h)
+  declares : (h : List Entry) (open_inputs : List Bool) → IsRun h open_inputs → Kept h → (a : ℕ)
+      → Declares decl (deeds a [] h)
   declares h open_inputs run kept a =
       run_declares decl script fits accepted (scripts_ask_what_is_declared decl script accepted sound) h open_inputs run
-      (kept_planned decl script fits accepted (scripts_ask_what_is_declared decl script accepted sound) h open_inputs run kept) a
+      (kept_planned decl script fits accepted (scripts_ask_what_is_declared decl script accepted sound) h open_inputs
+          run kept) a
 
   record Lived (h : List Entry) (open_inputs : List Bool) (a : ℕ) : Type 0 where
     is_open : Bool
@@ -123,15 +127,11 @@ module _ (decl : Declaration) (script : Script) (fits : ℕ → List Record → 
 
     known_in : (a : ℕ) → is_client decl a ≡ true → (tx : TxId) (to : ℕ) (m : Message) → to ≡ a
         → Tells decl (IsRequested (mail h)) to m → IsKnownIn tx (status (deeds a [] h) tx) m
-    known_in a client tx to (messages.Request other epoch life want) at tells = tt
-    known_in a client tx to (messages.Answer asked answer) at tells = tt
-    known_in a client tx to (messages.Decision other verdict) at tells = tt
-    known_in a client tx to (messages.Inquiry other) at tells = λ same. (let is : other ≡ tx = same_tx_is other tx same in
-        asked_born a client tx (sym at ∙ tells.0 ∙ ap (λ (t : TxId). client_actor decl t.client) is)
-        (subst (IsRequested (mail h)) is tells.1))
-    known_in a client tx to (messages.Ask other) at tells = tt
-    known_in a client tx to (messages.Close epoch) at tells = tt
-    known_in a client tx to (messages.Install start) at tells = tt
+    known_in a client tx to m at tells =
+        asked_of decl (IsRequested (mail h)) (λ (x : TxId). same_tx x tx ≡ true → status (deeds a [] h) tx ≢ Unborn)
+        to m (λ other mine its same. (let is : other ≡ tx = same_tx_is other tx same in
+        asked_born a client tx (sym at ∙ mine ∙ ap (λ (t : TxId). client_actor decl t.client) is)
+        (subst (IsRequested (mail h)) is its))) tells
 
     known_given : (a : ℕ) → is_client decl a ≡ true → (tx : TxId) (g : Input) → WasSentTo a (mail h) g
         → IsKnown tx (status (deeds a [] h) tx) g

@@ -24,6 +24,7 @@ use Rattle.theory_machine.specs.Vocabulary.{Deed, State, put}
 use Rattle.qc_recover.specs.Vocabulary.{Kept}
 use Rattle.theory_machine.proofs.Names.{put_here}
 use Rattle.laws_reach.specs.Vocabulary.{IsOfClient}
+use Rattle.laws_reach.proofs.RecordCases.{commit_cases}
 
 -- the commit records among records
 
@@ -32,38 +33,29 @@ commits_of rs = filter_map commit_of rs
 
 pub is_among : (c : CommitRecord) (rs : List Record) → In c (commits_of rs) → In (records.Commit c) rs
 is_among c [] among = among
-is_among c (records.Life ∷ rs) among = inr (is_among c rs among)
-is_among c (records.Prepare p ∷ rs) among = inr (is_among c rs among)
-is_among c (records.Done tx clock ∷ rs) among = inr (is_among c rs among)
-is_among c (records.Close epoch ∷ rs) among = inr (is_among c rs among)
-is_among c (records.Install start ∷ rs) among = inr (is_among c rs among)
-is_among c (records.Commit d ∷ rs) among =
-    elim among [
-      | inl same ↦ inl (ap (λ (x : CommitRecord). records.Commit x) same)
-      | inr later ↦ inr
-          (is_among c rs later)
-    ]
-is_among c (records.Decide start ∷ rs) among = inr (is_among c rs among)
+is_among c (r ∷ rs) among =
+    commit_cases (λ r o. In c (cons_option o (commits_of rs)) → In (records.Commit c) (r ∷ rs))
+    (λ d among. by d (λ later. is_among c rs later) among) (λ r none among. inr (is_among c rs among)) r among
+  where
+    by : (d : CommitRecord) → (In c (commits_of rs) → In (records.Commit c) rs) → (c ≡ d) ⊎ In c (commits_of rs)
+        → In (records.Commit c) (records.Commit d ∷ rs)
+    by d rest (inl same) = inl (ap (λ (x : CommitRecord). records.Commit x) same)
+    by d rest (inr later) = inr (rest later)
 
 same_commit : (c d : CommitRecord) → records.Commit c ≡ records.Commit d → c ≡ d
 same_commit c d is = let same : c ≡ d = cc in same
 
 pub among_is : (c : CommitRecord) (rs : List Record) → In (records.Commit c) rs → In c (commits_of rs)
 among_is c [] among = among
-among_is c (records.Life ∷ rs) (inl never) = let no : ⊥ = cc in absurd no
-among_is c (records.Life ∷ rs) (inr later) = among_is c rs later
-among_is c (records.Prepare p ∷ rs) (inl never) = let no : ⊥ = cc in absurd no
-among_is c (records.Prepare p ∷ rs) (inr later) = among_is c rs later
-among_is c (records.Done tx clock ∷ rs) (inl never) = let no : ⊥ = cc in absurd no
-among_is c (records.Done tx clock ∷ rs) (inr later) = among_is c rs later
-among_is c (records.Close epoch ∷ rs) (inl never) = let no : ⊥ = cc in absurd no
-among_is c (records.Close epoch ∷ rs) (inr later) = among_is c rs later
-among_is c (records.Install start ∷ rs) (inl never) = let no : ⊥ = cc in absurd no
-among_is c (records.Install start ∷ rs) (inr later) = among_is c rs later
-among_is c (records.Commit d ∷ rs) (inl same) = inl (same_commit c d same)
-among_is c (records.Commit d ∷ rs) (inr later) = inr (among_is c rs later)
-among_is c (records.Decide start ∷ rs) (inl never) = let no : ⊥ = cc in absurd no
-among_is c (records.Decide start ∷ rs) (inr later) = among_is c rs later
+among_is c (r ∷ rs) (inl same) =
+    commit_cases (λ r o. records.Commit c ≡ r → In c (cons_option o (commits_of rs)))
+    (λ d same. inl (same_commit c d same)) (λ r none same. absurd (never r none same)) r same
+  where
+    never : (r : Record) → commit_of r ≡ None → records.Commit c ≡ r → ⊥
+    never r none same = let is : Some c ≡ None = ap commit_of same ∙ none in let no : ⊥ = cc in no
+among_is c (r ∷ rs) (inr later) =
+    commit_cases (λ r o. In c (commits_of rs) → In c (cons_option o (commits_of rs))) (λ d rest. inr rest)
+    (λ r none rest. rest) r (among_is c rs later)
 
 pub alone : (o : Option CommitRecord) → option_to_list o ≡ cons_option o []
 alone None = refl
@@ -82,23 +74,15 @@ and_life w = one_in w ∙ sym (filter_map-append commit_of (option_to_list w) (r
 none_at_site : (decl : Declaration) (now : State) (k : Kept) (ds : List Deed) (w : Option Record)
     → IsPendingAt decl now k ds w → commits_in w ≡ []
 none_at_site decl now k ds None is = refl
-none_at_site decl now k ds (Some records.Life) is = refl
-none_at_site decl now k ds (Some (records.Prepare p)) is = refl
-none_at_site decl now k ds (Some (records.Done tx clock)) is = refl
-none_at_site decl now k ds (Some (records.Close epoch)) is = refl
-none_at_site decl now k ds (Some (records.Install start)) is = refl
-none_at_site decl now k ds (Some (records.Commit c)) is = absurd is
-none_at_site decl now k ds (Some (records.Decide start)) is = refl
+none_at_site decl now k ds (Some r) is =
+    commit_cases (λ r o. IsPendingAt decl now k ds (Some r) → option_to_list o ≡ []) (λ c never. absurd never)
+    (λ r none its. refl) r is
 
 none_at_admin : (decl : Declaration) (now : State) (w : Option Record) → IsPendingRule decl now w → commits_in w ≡ []
 none_at_admin decl now None is = refl
-none_at_admin decl now (Some records.Life) is = refl
-none_at_admin decl now (Some (records.Prepare p)) is = refl
-none_at_admin decl now (Some (records.Done tx clock)) is = refl
-none_at_admin decl now (Some (records.Close epoch)) is = refl
-none_at_admin decl now (Some (records.Install start)) is = refl
-none_at_admin decl now (Some (records.Commit c)) is = absurd is
-none_at_admin decl now (Some (records.Decide start)) is = refl
+none_at_admin decl now (Some r) is =
+    commit_cases (λ r o. IsPendingRule decl now (Some r) → option_to_list o ≡ []) (λ c never. absurd never)
+    (λ r none its. refl) r is
 
 none_given : (pending back : Option Record) → commits_in pending ≡ [] → (back ≡ None) ⊎ (back ≡ pending)
     → commits_in back ≡ []

@@ -6,7 +6,7 @@ use Rattle.std.specs.declared.cmp.Ordering.{Ordering}
 use Rattle.std.specs.declared.cmp.Ordering.TheVariants.{Less, Equal, Greater}
 use Rattle.qc_stamp.specs.declared.stamp.TxId.{TxId}
 use Rattle.qc_stamp.specs.Vocabulary.{same_tx, tx_cmp}
-use Rattle.qc_stamp.proofs.Orders.{other_tx_sym, same_tx_is, tx_order}
+use Rattle.qc_stamp.proofs.Orders.{other_tx_sym, same_tx_is, transactions_are_ordered}
 use Rattle.qc_list.specs.Vocabulary.{In, by_order, inserted}
 use Rattle.qc_entry.specs.declared.record.Prepared.{Prepared}
 use Rattle.theory_machine.proofs.Names.{tx_test}
@@ -142,7 +142,8 @@ insert_found p (x ∷ xs) t a = by (tx_cmp p.tx x.tx) refl (insert_found p xs t 
         (cond (same_tx p.tx t) (Some p) None)
     by Less is rest = here (same_tx p.tx t) refl
     by Equal is rest = absurd (let same : same_tx x.tx p.tx ≡ true =
-        tx_test x.tx p.tx (sym (tx_order.apart p.tx x.tx is)) in let other : same_tx x.tx p.tx ≡ false = a.0 in
+        tx_test x.tx p.tx (sym (transactions_are_ordered.apart p.tx x.tx is)) in let other : same_tx x.tx p.tx ≡ false =
+            a.0 in
         let never : ⊥ = cc in never)
     by Greater is rest = ap (λ (o : Option Prepared). cond (same_tx x.tx t) (Some x) o) rest
         ∙ sym (either_first x (same_tx x.tx t) (prepared_of xs t) (cond (same_tx p.tx t) (Some p) None))

@@ -16,7 +16,7 @@ use Rattle.qc_lock.specs.declared.held.Held.{Held}
 use Rattle.qc_lock.specs.Vocabulary.{In as IsAmong, IsAppendConflict, IsReadConflict, IsSmallest, append_clash}
 use Rattle.qc_lock.specs.Vocabulary.{entry_of, held_of, is_held, lock_cmp, own_cmp, read_clash, with_held, with_lock}
 use Rattle.qc_lock.specs.Vocabulary.{with_locks, with_own, with_owns, without_held}
-use Rattle.qc_lock.proofs.Conflicts.{append_free, read_free}
+use Rattle.qc_lock.proofs.Conflicts.{granted_appends_conflict_with_nothing, granted_reads_conflict_with_nothing}
 use Rattle.qc_lock.proofs.Conflicts as conflicts
 use Rattle.qc_lock.proofs.Entries.{entry-without, entry-without_other, locks_given, own_given, others_stay}
 use Rattle.theory_machine.specs.Vocabulary.{Item, Lock, Own}
@@ -210,7 +210,8 @@ pub read_is_free : (relation : List ℕ) (held : List Held) (tx t : TxId) (objec
 read_is_free relation held tx t object inv line free other among here =
     let l : In (held_of held t) held × (same_tx (held_of held t).tx t ≡ true) =
     listed (λ (h : Held). In line h.own) held t among (λ n. n) in
-    read_free relation held tx object inv (held_of held t) line free (to_among (held_of held t) held l.0)
+    granted_reads_conflict_with_nothing relation held tx object inv (held_of held t) line free
+        (to_among (held_of held t) held l.0)
     (other_by (held_of held t).tx t tx l.1 other) (to_among line (held_of held t).own among) here
 
 pub append_is_free : (relation : List ℕ) (held : List Held) (tx t : TxId) (own : List OwnLine) (line : OwnLine)
@@ -220,7 +221,7 @@ pub append_is_free : (relation : List ℕ) (held : List Held) (tx t : TxId) (own
 append_is_free relation held tx t own line lock free other one among here =
     let l : In (held_of held t) held × (same_tx (held_of held t).tx t ≡ true) =
     listed (λ (h : Held). In lock h.locks) held t among (λ n. n) in
-    append_free relation held tx own line (held_of held t) lock free (to_among line own one)
+    granted_appends_conflict_with_nothing relation held tx own line (held_of held t) lock free (to_among line own one)
     (to_among (held_of held t) held l.0) (other_by (held_of held t).tx t tx l.1 other)
     (to_among lock (held_of held t).locks among) here
 
@@ -231,7 +232,7 @@ pub read_holder : (relation : List ℕ) (held : List Held) (tx : TxId) (object i
 read_holder relation held tx object inv c e =
     let s : IsSmallest (IsReadConflict relation held tx object inv) (Some c) =
     subst (IsSmallest (IsReadConflict relation held tx object inv)) e
-    (conflicts.read_smallest relation held tx object inv) in
+    (conflicts.reads_are_refused_on_conflict relation held tx object inv) in
     subst (λ (t : TxId). is_held held t ≡ true) (sym (ap (λ (x : Clash). x.holder) s.0.told))
     (entry_held held s.0.holder (from_among s.0.holder held s.0.holds))
 
@@ -239,7 +240,8 @@ pub append_holder : (relation : List ℕ) (held : List Held) (tx : TxId) (own : 
     → append_clash relation held tx own ≡ Some c → is_held held c.holder ≡ true
 append_holder relation held tx own c e =
     let s : IsSmallest (IsAppendConflict relation held tx own) (Some c) =
-    subst (IsSmallest (IsAppendConflict relation held tx own)) e (conflicts.append_smallest relation held tx own) in
+    subst (IsSmallest (IsAppendConflict relation held tx own)) e
+        (conflicts.appends_are_refused_on_conflict relation held tx own) in
     subst (λ (t : TxId). is_held held t ≡ true) (sym (ap (λ (x : Clash). x.holder) s.0.told))
     (entry_held held s.0.holder (from_among s.0.holder held s.0.holds))
 

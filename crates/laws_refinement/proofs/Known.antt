@@ -8,7 +8,7 @@ use Rattle.qc_list.specs.Vocabulary.{In}
 use Rattle.qc_list.proofs.Members.{In-filter, In-unfiltered}
 use Rattle.qc_entry.specs.declared.line.Line.{Line}
 use Rattle.qc_entry.specs.Vocabulary.{IsAscending, has_line, line_cmp, union, without}
-use Rattle.qc_entry.proofs.Orders.{line_order}
+use Rattle.qc_entry.proofs.Orders.{lines_are_ordered}
 use Rattle.qc_entry.proofs.Union.{ascending-union, in_either, in_first, in_second}
 use Rattle.qc_site.specs.Vocabulary.{SiteState, known}
 use Rattle.qc_site.proofs.Sorted.{ascending-without}
@@ -48,7 +48,7 @@ has_line_in (x ∷ xs) l h = by (line_cmp x l) refl h (has_line_in xs l)
   where
     by : (o : Ordering) → line_cmp x l ≡ o → (is_eq o || has_line xs l) ≡ true → (has_line xs l ≡ true → In l xs)
         → In l (x ∷ xs)
-    by Equal e k rest = inl (sym (line_order.apart x l e))
+    by Equal e k rest = inl (sym (lines_are_ordered.apart x l e))
     by Less e k rest = inr (rest k)
     by Greater e k rest = inr (rest k)
 

@@ -31,9 +31,9 @@ use Rattle.qc_front.specs.Conduct as fronts
 use Rattle.qc_front.specs.Vocabulary.{AreSent, AsksAtOnce, FrontHolds, FrontMove, IsFor, IsNumbered, IsSent, ended}
 use Rattle.qc_front.specs.Requests.{IsRequestOf, IsVerdictOf}
 use Rattle.qc_front.specs.Vocabulary.{numbered_all, numbered_one, requested}
-use Rattle.qc_front.proofs.AtOnce.{called_at_once, takes_at_once}
-use Rattle.qc_front.proofs.CommandsKeep.{called_holds}
-use Rattle.qc_front.proofs.Keeping.{ended_holds, new_holds, takes_holds}
+use Rattle.qc_front.proofs.AtOnce.{commands_ask_at_once, answers_ask_at_once}
+use Rattle.qc_front.proofs.CommandsKeep.{commands_keep_hold}
+use Rattle.qc_front.proofs.Keeping.{ended_holds, new_holds, answers_keep_hold}
 use Rattle.qc_front.proofs.Numbering.{sent_holds}
 use Rattle.qc_front.proofs.Sending.{called_sent, takes_sent}
 use Rattle.qc_client.specs.Vocabulary.{answered_by, by_desk, by_front, called, client_takes, commits, heard, sent_one}
@@ -183,8 +183,8 @@ module _ (decl : Declaration) where
       → Stands decl (sent_all (by_front c (fronts.called decl c.front command)).client n
       (by_front c (fronts.called decl c.front command)).turn.sends).front
   command_stands c command n s = front_turn c (fronts.called decl c.front command) n
-      (called_holds decl c.front command s.holds) (called_sent decl c.front command)
-      (called_at_once decl c.front command s.holds s.numbered)
+      (commands_keep_hold decl c.front command s.holds) (called_sent decl c.front command)
+      (commands_ask_at_once decl c.front command s.holds s.numbered)
 
   commit_stands : (c : Client) (t : Option Transaction) (n : ℕ) → Stands decl c.front
       → Stands decl (sent_all (commits decl c t).client n (commits decl c t).turn.sends).front
@@ -210,8 +210,8 @@ module _ (decl : Declaration) where
       → Stands decl (sent_all (answered_by decl c o number answer).client n
       (answered_by decl c o number answer).turn.sends).front
   answered_stands c number answer n None s =
-      front_turn c (fronts.takes decl c.front number answer) n (takes_holds decl c.front number answer s.holds)
-      (takes_sent decl c.front number answer) (takes_at_once decl c.front number answer s.holds s.numbered)
+      front_turn c (fronts.takes decl c.front number answer) n (answers_keep_hold decl c.front number answer s.holds)
+      (takes_sent decl c.front number answer) (answers_ask_at_once decl c.front number answer s.holds s.numbered)
   answered_stands c number answer n (Some v) s =
       desk_turn c (desks.vote c.desk number answer) n s
       (desk_sends c.desk _ (desks.vote c.desk number answer) (vote-moves c.desk number answer))

@@ -24,9 +24,9 @@ use Rattle.qc_front.specs.declared.transaction.Transaction.{Transaction}
 use Rattle.qc_front.specs.Vocabulary.{AsksFew, FrontFits, FrontHolds, FrontMove, aborts, appended_with, appending_takes}
 use Rattle.qc_front.specs.Vocabulary.{begins, called, commits, fresh, gives_up, learns, moved, next_tx, performs}
 use Rattle.qc_front.specs.Vocabulary.{read_with, reading_takes, reads, round_for, standing_of, takes, takes_in}
-use Rattle.qc_front.proofs.Fitting.{fits}
-use Rattle.qc_front.proofs.CommandsKeep.{called_holds}
-use Rattle.qc_front.proofs.Keeping.{appended_is, takes_holds}
+use Rattle.qc_front.proofs.Fitting.{front_ends_fit}
+use Rattle.qc_front.proofs.CommandsKeep.{commands_keep_hold}
+use Rattle.qc_front.proofs.Keeping.{appended_is, answers_keep_hold}
 use Rattle.laws_turns.specs.Vocabulary.{AreSites, AskedSites}
 use Rattle.laws_turns.proofs.Asked.{InRound, doing_below, few_sites}
 use Rattle.laws_turns.proofs.AskedSites.{Grows, count_in, AsksOn, same_asked, asked_by, still_grows, append_by-asks}
@@ -172,7 +172,7 @@ shorten decl front m accepted sites holds asks =
       asks_few : AsksFew m.front.doing
       asks_few =
           let f : FrontFits (record m.front { count = 0 }) =
-          fits decl (record m.front { count = 0 }) accepted holds (omega arith) in
+          front_ends_fit decl (record m.front { count = 0 }) accepted holds (omega arith) in
           f.few
 
       short : (length m.turn.sends ≤ count_in m.front.doing)
@@ -188,11 +188,12 @@ shorten decl front m accepted sites holds asks =
 pub called-short : (decl : Declaration) (front : Front) (command : Command) → IsAccepted decl
     → AskedSites decl front.transaction → FrontHolds decl front → IsShort decl (called decl front command)
 called-short decl front command accepted sites holds =
-    shorten decl front (called decl front command) accepted sites (called_holds decl front command holds)
+    shorten decl front (called decl front command) accepted sites (commands_keep_hold decl front command holds)
     (called-asks decl front command)
 
 pub takes_short : (decl : Declaration) (front : Front) (number : ℕ) (answer : Option Answer) → IsAccepted decl
     → AskedSites decl front.transaction → FrontHolds decl front → IsShort decl (takes decl front number answer)
 takes_short decl front number answer accepted sites holds =
-    shorten decl front (takes decl front number answer) accepted sites (takes_holds decl front number answer holds)
+    shorten decl front (takes decl front number answer) accepted sites
+        (answers_keep_hold decl front number answer holds)
     (takes_in-asks decl front front.doing front.transaction number answer refl)

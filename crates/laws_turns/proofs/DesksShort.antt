@@ -18,7 +18,7 @@ use Rattle.qc_commit.specs.declared.desk.Voting.{Voting}
 use Rattle.qc_commit.specs.Vocabulary.{AsksFew, DeskMove, Prepares, are_cast, blank, cast, counted_out, counts, decides}
 use Rattle.qc_commit.specs.Vocabulary.{first_against, learns, moved, next_stamp, participants, passed, prepare}
 use Rattle.qc_commit.specs.Vocabulary.{prepares, vote, vote_of, votes_at, votes_in}
-use Rattle.qc_commit.proofs.Aside.{few-after}
+use Rattle.qc_commit.proofs.Aside.{few_sites_are_asked}
 use Rattle.laws_turns.specs.Vocabulary.{AreSites, VotedSites}
 use Rattle.laws_turns.proofs.Asked.{few_sites}
 
@@ -76,7 +76,7 @@ module _ (decl : Declaration) (accepted : IsAccepted decl) where
   pub prepare_short : (desk : Desk) (b : Begun) (clock : ℕ) → AsksFew desk.voting → AreSites decl b.asked
       → IsDeskShort decl (prepare decl desk b clock)
   prepare_short desk b clock few are = by (length (participants decl desk.client b) == 0)
-      (few-after desk (Prepares decl b clock) (accepted.has_site, accepted.sites) few) where
+      (few_sites_are_asked desk (Prepares decl b clock) (accepted.has_site, accepted.sites) few) where
         by : (t : Bool) → AsksFew (cond t (decides (passed desk clock) b)
             (moved (record (passed desk clock) {
               voting =

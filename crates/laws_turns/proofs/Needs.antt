@@ -12,7 +12,7 @@ use Rattle.qc_msg.specs.declared.message.Message.{Message}
 use Rattle.qc_msg.specs.declared.turn.Turn.{Turn}
 use Rattle.qc_msg.specs.Vocabulary.{Deed, Entry, deeds, mail, Answered}
 use Rattle.qc_msg.proofs.GrownMail.{length-mail}
-use Rattle.qc_front.proofs.Fitting.{fits}
+use Rattle.qc_front.proofs.Fitting.{front_ends_fit}
 use Rattle.qc_script.specs.Vocabulary.{Runs}
 use Rattle.qc_script.specs.declared.script.Script.{Script}
 use Rattle.qc_site.specs.Vocabulary.{site_after}
@@ -83,7 +83,7 @@ module _ (decl : Declaration) (script : Script) (h : List Entry) (open_inputs : 
       let front : (client_after decl (a - decl.sites) (deeds a [] h)).client.front.clock.value ≤ length h = b.front in
       let desk : (client_after decl (a - decl.sites) (deeds a [] h)).client.desk.clock.value ≤ length h = b.desk in
       record {
-        front = fits decl (client_after decl (a - decl.sites) (deeds a [] h)).client.front accepted r.front
+        front = front_ends_fit decl (client_after decl (a - decl.sites) (deeds a [] h)).client.front accepted r.front
             (omega arith);
         clock = omega arith;
         desk = record { clock = omega arith; few = r.few };

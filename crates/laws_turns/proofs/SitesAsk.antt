@@ -15,7 +15,7 @@ use Rattle.qc_lock.specs.declared.clash.Clash.{Clash}
 use Rattle.qc_lock.specs.declared.held.Held.{Held}
 use Rattle.qc_lock.specs.Vocabulary.{IsAppendConflict, IsReadConflict, IsSmallest, append_clash, held_of, read_clash}
 use Rattle.qc_lock.specs.Vocabulary.{with_entry, with_held, with_locks, with_owns, without_held}
-use Rattle.qc_lock.proofs.Conflicts.{append_smallest, read_smallest}
+use Rattle.qc_lock.proofs.Conflicts.{appends_are_refused_on_conflict, reads_are_refused_on_conflict}
 use Rattle.qc_msg.specs.declared.message.Answer.{Answer}
 use Rattle.qc_msg.specs.declared.message.Answer.TheVariants as says
 use Rattle.qc_msg.specs.declared.message.Message.{Message}
@@ -84,7 +84,7 @@ module _ (decl : Declaration) (B : TxId → Type 0) where
   read_holder relation held tx object inv c all is =
       let found : IsSmallest (IsReadConflict relation held tx object inv) (Some c) =
       subst (IsSmallest (IsReadConflict relation held tx object inv)) is
-      (read_smallest relation held tx object inv) in
+      (reads_are_refused_on_conflict relation held tx object inv) in
       let conflict : IsReadConflict relation held tx object inv c = found.0 in
       subst (λ (d : Clash). B d.holder) (sym conflict.told)
       (every-In (λ (h : Held). B h.tx) conflict.holder held all conflict.holds)
@@ -93,7 +93,8 @@ module _ (decl : Declaration) (B : TxId → Type 0) where
       → append_clash relation held tx own ≡ Some c → B c.holder
   append_holder relation held tx own c all is =
       let found : IsSmallest (IsAppendConflict relation held tx own) (Some c) =
-      subst (IsSmallest (IsAppendConflict relation held tx own)) is (append_smallest relation held tx own) in
+      subst (IsSmallest (IsAppendConflict relation held tx own)) is
+          (appends_are_refused_on_conflict relation held tx own) in
       let conflict : IsAppendConflict relation held tx own c = found.0 in
       subst (λ (d : Clash). B d.holder) (sym conflict.told)
       (every-In (λ (h : Held). B h.tx) conflict.holder held all conflict.holds)

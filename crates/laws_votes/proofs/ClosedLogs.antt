@@ -51,7 +51,8 @@ module _ (fits : ℕ → List Record → Type 0) (decl : Declaration) (script : 
           let r : IsRequest (mail h) number request.to tx (Read (read_of object inv)) =
           record { epoch = epoch; life = named; is = (request, found, refl, asked) } in
           let one : (answer.from ≡ request.to) × (b.tx ≡ tx)
-          × (b.want ≡ Read (read_of object inv)) = one_request fits decl script h open_inputs accepted sound run kept number
+          × (b.want ≡ Read (read_of object inv)) =
+              one_request fits decl script h open_inputs accepted sound run kept number
           answer.from request.to b.tx tx b.want (Read (read_of object inv))
           (subst (λ (ms : List Envelope). IsRequest ms number answer.from b.tx b.want)
           (reached fits decl script h open_inputs accepted sound run kept).mail_is

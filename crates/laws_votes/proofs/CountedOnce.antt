@@ -30,14 +30,14 @@ use Rattle.laws_reach.proofs.Written.{among_is, is_among}
 use Rattle.laws_reach.specs.Vocabulary.{IsOfClient, records_of}
 use Rattle.qc_script.specs.Vocabulary.{IsScriptFor, RunsWithFalls}
 use Rattle.qc_script.specs.declared.script.Script.{Script}
-use Rattle.qc_stamp.proofs.Orders.{stamp_order}
+use Rattle.qc_stamp.proofs.Orders.{stamps_are_ordered}
 use Rattle.qc_stamp.specs.Vocabulary.{stamp_cmp}
 use Rattle.laws_reach.proofs.RisingStamps.{commits_of}
 use Rattle.laws_reach.proofs.VerdictLaw.{records_rise}
 use Rattle.std.specs.List.{AllPairs}
 
 never_itself : (c : CommitRecord) → IsStampedBefore c c → ⊥
-never_itself c before = let tied : stamp_cmp c.stamp c.stamp ≡ Equal = tied_itself stamp_order.total c.stamp in
+never_itself c before = let tied : stamp_cmp c.stamp c.stamp ≡ Equal = tied_itself stamps_are_ordered.total c.stamp in
     let no : ⊥ = cc in no
 
 named_client : (decl : Declaration) (n : ℕ) → n < decl.clients → is_client decl (decl.sites + n) ≡ true

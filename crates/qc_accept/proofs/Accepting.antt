@@ -6,8 +6,8 @@ use Rattle.std.specs.Option.{option_map_or}
 use Rattle.std.proofs.lemmas.List.{length-map}
 use Rattle.std.proofs.lemmas.Option.{slice_get-map}
 use Rattle.toml.specs.Data.{Members}
-use Rattle.qc_cert.proofs.Faultless.{inductive}
-use Rattle.qc_cert.proofs.Walk.{exact}
+use Rattle.qc_cert.proofs.Faultless.{no_fault_is_inductive}
+use Rattle.qc_cert.proofs.Walk.{inductive_lists_make_relations_exact}
 use Rattle.qc_cert.specs.Faults as cert
 use Rattle.qc_cert.specs.declared.fault.CertFault.{CertFault}
 use Rattle.qc_cert.specs.declared.triple.Triple.{Triple}
@@ -27,7 +27,7 @@ use Rattle.qc_accept.specs.Vocabulary.{ObjectsOf, TypeOf, TypesOf, accepted, adm
 use Rattle.qc_accept.specs.Vocabulary.{all_names, cert_names, certified, declared, document_of, draft, draft_of, keys}
 use Rattle.qc_accept.specs.Vocabulary.{kind_names, kind_of, no_others, number, objects_of, places, plan_names, plans_of}
 use Rattle.qc_accept.specs.Vocabulary.{types_of}
-use Rattle.qc_decl.proofs.AcceptedNames.{few_names}
+use Rattle.qc_decl.proofs.AcceptedNames.{accepted_declarations_have_few_names}
 use Rattle.qc_accept.specs.declared.epochs.Side.{Side}
 use Rattle.qc_accept.specs.declared.epochs.Side.TheVariants.{Initial, Final}
 use Rattle.qc_accept.proofs.Answered.{came, found, mapped, same_ok}
@@ -75,7 +75,11 @@ module _ (sites clients : ℕ) (types : TypesOf) (objects : ObjectsOf) (plans : 
       all_certified_none 0 (all_names types.names ts) (map (λ (t : TypeOf). t.kind) ts)
       (map (λ (t : TypeOf). t.triples) ts) long shown number kind p.type.triples at list_at in
       let sound : IsSound kind.table = subst (λ (k : Kind). IsSound k.table) p.is kept.table in
-      record { sound = sound; exact = exact kind p.type.triples (inductive kind p.type.triples sound none) }
+      record {
+            sound = sound;
+            inductive_lists_make_relations_exact = inductive_lists_make_relations_exact kind p.type.triples
+                (no_fault_is_inductive kind p.type.triples sound none)
+          }
 
   good_at : all_admitted (draft sites clients types objects plans).decl 1 plans ≡ Ok tt → (place : ℕ) (p : Plan)
       → slice_get plans place ≡ Some p
@@ -227,10 +231,11 @@ shown bytes d is =
       admitted = e.first;
     }
 
-pub accepted_is : (bytes : List ℕ) (d : Declaration) → accepted bytes ≡ Ok d → IsAccepted d
-accepted_is bytes d is =
+pub accepted_declarations_keep_the_rules : (bytes : List ℕ) (d : Declaration) → accepted bytes ≡ Ok d → IsAccepted d
+accepted_declarations_keep_the_rules bytes d is =
     let s : IsShown d = shown bytes d is in subst IsAccepted s.is
     (draft_accepted s.whole s.drafted s.certified s.admitted)
 
-pub accepted_named : (bytes : List ℕ) (d : Declaration) → accepted bytes ≡ Ok d → IsNamed d
-accepted_named bytes d is = few_names d (accepted_is bytes d is)
+pub accepted_declarations_are_named : (bytes : List ℕ) (d : Declaration) → accepted bytes ≡ Ok d → IsNamed d
+accepted_declarations_are_named bytes d is =
+    accepted_declarations_have_few_names d (accepted_declarations_keep_the_rules bytes d is)

@@ -6,8 +6,8 @@ use Rattle.std.specs.Option.{option_map_or}
 use Rattle.std.proofs.lemmas.List.{length-map}
 use Rattle.std.proofs.lemmas.Option.{slice_get-map}
 use Rattle.toml.specs.Data.{Members}
-use Rattle.qc_cert.proofs.Faultless.{inductive}
-use Rattle.qc_cert.proofs.Walk.{exact}
+use Rattle.qc_cert.proofs.Faultless.{no_fault_is_inductive}
+use Rattle.qc_cert.proofs.Walk.{inductive_lists_make_relations_exact}
 use Rattle.qc_cert.specs.Faults as cert
 use Rattle.qc_cert.specs.declared.fault.CertFault.{CertFault}
 use Rattle.qc_cert.specs.declared.triple.Triple.{Triple}
@@ -27,7 +27,7 @@ use Rattle.qc_accept.specs.Vocabulary.{ObjectsOf, TypeOf, TypesOf, accepted, adm
 use Rattle.qc_accept.specs.Vocabulary.{all_names, cert_names, certified, declared, document_of, draft, draft_of, keys}
 use Rattle.qc_accept.specs.Vocabulary.{kind_names, kind_of, no_others, number, objects_of, places, plan_names, plans_of}
 use Rattle.qc_accept.specs.Vocabulary.{types_of}
-use Rattle.qc_decl.proofs.AcceptedNames.{few_names}
+use Rattle.qc_decl.proofs.AcceptedNames.{accepted_declarations_have_few_names}
 use Rattle.qc_accept.specs.declared.epochs.Side.{Side}
 use Rattle.qc_accept.specs.declared.epochs.Side.TheVariants.{Initial, Final}
 use Rattle.qc_accept.proofs.Answered.{came, found, mapped, same_ok}

@@ -178,9 +178,10 @@ draft_declared table d is =
           };
     })
 
-pub accepted_declared : (bytes : List ℕ) (table : Members) (decl : Declaration) → document_of bytes ≡ Ok table
+pub accepted_declarations_are_their_documents : (bytes : List ℕ) (table : Members) (decl : Declaration)
+    → document_of bytes ≡ Ok table
     → accepted bytes ≡ Ok decl → IsDeclared table decl
-accepted_declared bytes table decl document is =
+accepted_declarations_are_their_documents bytes table decl document is =
     let a = came (document_of bytes) declared decl is in
     let one : (let x : Answer Members = Ok table in x) ≡ Ok a.value = sym document ∙ a.first in
     let same : a.value ≡ table = sym (same_ok table a.value one) in

@@ -11,7 +11,7 @@ use Rattle.qc_accept.specs.Vocabulary.{IsSpelled, ObjectsOf, TypeOf, TypesOf, it
 use Rattle.qc_accept.specs.Vocabulary.{name_among, name_at, no_others, number, number_of, object_keys, required}
 use Rattle.qc_accept.specs.Vocabulary.{text_at, told, type_of, with_name, with_object, with_text, with_type}
 use Rattle.qc_accept.proofs.Answered.{came, found, same_ok, told_some}
-use Rattle.qc_accept.proofs.Spelling.{type_spelled}
+use Rattle.qc_accept.proofs.Spelling.{types_are_their_texts}
 use Rattle.qc_accept.proofs.ItemLists.{Adds}
 
 -- an item's reading adds one to a list, which came from the item
@@ -69,7 +69,9 @@ type_from types d next is =
       from = record {
         item = a.value;
         is = is_table (codes "type") (length types.names) d a.value a.first;
-        spelled = type_spelled path a.value (length types.names) (name_at c.value (length types.names)) e.value e.first;
+        spelled =
+            types_are_their_texts path a.value (length types.names) (name_at c.value (length types.names)) e.value
+            e.first;
       };
     }
 

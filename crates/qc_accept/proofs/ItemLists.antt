@@ -22,7 +22,7 @@ use Rattle.qc_accept.specs.Vocabulary.{text_at, told, type_of, types_of, weights
 use Rattle.qc_accept.specs.Vocabulary.{with_text, with_type, with_weight}
 use Rattle.qc_accept.proofs.Answered.{Came, came, found, mapped, same_ok, told_some}
 use Rattle.qc_accept.proofs.Listing.{plan_listed}
-use Rattle.qc_accept.proofs.Spelling.{in_order, items_are, type_spelled}
+use Rattle.qc_accept.proofs.Spelling.{in_order, items_are, types_are_their_texts}
 
 pub record Adds {A B C : Type 0} (list : A → List C) (From : B → C → Type 0) (a : A) (b : B) (next : A) : Type 0 where
   pub one : C

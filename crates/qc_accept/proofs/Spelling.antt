@@ -161,9 +161,9 @@ relation_spelled path table w events rel is =
     }
 
 -- so a type is what its table's texts say
-pub type_spelled : (path : List ℕ) (table : Members) (place : ℕ) (name : List ℕ) (t : TypeOf)
+pub types_are_their_texts : (path : List ℕ) (table : Members) (place : ℕ) (name : List ℕ) (t : TypeOf)
     → type_of path table place name ≡ Ok t → IsSpelled table t
-type_spelled path table place name t is =
+types_are_their_texts path table place name t is =
     let a = came (words path table) _ t is in
     let b = came (rows path table a.value) _ t a.rest in
     let c = came (table_of place name a.value b.value) _ t b.rest in

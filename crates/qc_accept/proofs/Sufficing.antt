@@ -3,7 +3,7 @@ use Rattle.std.proofs.Common.{◌≡◌, ℕ, suc, List, [], ◌∷◌, Option, 
 use Rattle.std.specs.Prelude.{slice_get}
 use Rattle.std.specs.Option.{option_map_or}
 use Rattle.toml.specs.Data.{Members}
-use Rattle.qc_cert.proofs.Faultless.{faultless}
+use Rattle.qc_cert.proofs.Faultless.{inductive_lists_have_no_fault}
 use Rattle.qc_cert.specs.Faults as cert
 use Rattle.qc_cert.specs.declared.fault.CertFault.{CertFault}
 use Rattle.qc_cert.specs.declared.triple.Triple.{Triple}
@@ -47,13 +47,14 @@ admitted_all d epoch (p ∷ ps) none =
     ap (λ (a : Answer (Unit {0})). a >>= (λ _. all_admitted d (suc epoch) ps)) here
     ∙ admitted_all d (suc epoch) ps (λ k q at. none (suc k) q at)
 
-pub sufficient : (bytes : List ℕ) (table : Members) (d : DraftOf) → document_of bytes ≡ Ok table → draft_of table ≡ Ok d
+pub sufficient_declarations_are_accepted : (bytes : List ℕ) (table : Members) (d : DraftOf)
+    → document_of bytes ≡ Ok table → draft_of table ≡ Ok d
     → AreInductive d → AreAdmitted d
     → accepted bytes ≡ Ok d.decl
-sufficient bytes table d document read inductive plans =
+sufficient_declarations_are_accepted bytes table d document read inductive plans =
     let types : all_certified 0 d.decl.kind_names d.decl.kinds d.triples ≡ Ok tt =
     certified_all 0 d.decl.kind_names d.decl.kinds d.triples
-    (λ k kind list at of. faultless kind list (inductive k kind list at of)) in
+    (λ k kind list at of. inductive_lists_have_no_fault kind list (inductive k kind list at of)) in
     let epochs : all_admitted d.decl 1 d.decl.plans ≡ Ok tt =
     admitted_all d.decl 1 d.decl.plans (λ k p at. plan_proofs.faultless p d.decl.kinds d.decl.objects (plans k p at)) in
     ap (λ (a : Answer Members). a >>= declared) document

@@ -227,8 +227,10 @@ heard_goes decl m (messages.Ask tx) accepted was told = silent quiet refl
 heard_goes decl m (messages.Close epoch) accepted was told = silent quiet refl
 heard_goes decl m (messages.Install start) accepted was told = silent quiet refl
 
-pub takes_go : (decl : Declaration) (m : Admin) (input : Input) → IsAccepted decl → AdminFits m → GivenFits input
+pub turns_go_to_actors : (decl : Declaration) (m : Admin) (input : Input) → IsAccepted decl → AdminFits m
+    → GivenFits input
     → GoesToActors (admin_takes decl m input).turn
-takes_go decl m (inputs.Called command) accepted was told = called_goes decl m command accepted
-takes_go decl m (inputs.Got envelope) accepted was told = heard_goes decl m envelope.message accepted was told
-takes_go decl m (inputs.Lost number) accepted was told = answered_goes decl m m.doing number None accepted was tt
+turns_go_to_actors decl m (inputs.Called command) accepted was told = called_goes decl m command accepted
+turns_go_to_actors decl m (inputs.Got envelope) accepted was told = heard_goes decl m envelope.message accepted was told
+turns_go_to_actors decl m (inputs.Lost number) accepted was told =
+    answered_goes decl m m.doing number None accepted was tt

@@ -56,8 +56,8 @@ true_free kind inv out free =
         omega (arith, bit_at-lt out k)
 
 -- `covers` tells cover
-pub covers_is : (a b : Triple) → IsTrue (covers a b) ↔ Covers a b
-covers_is a b = (
+pub covers_is_cover : (a b : Triple) → IsTrue (covers a b) ↔ Covers a b
+covers_is_cover a b = (
   λ t.
       let one : ((a.view == b.view) ≡ true) × (((a.log == b.log) && is_within a.out b.out) ≡ true) =
       and_parts (a.view == b.view) ((a.log == b.log) && is_within a.out b.out) t in
@@ -79,7 +79,7 @@ covered_true (a ∷ list) t h = by (covers a t) refl h (covered_true list t)
   where
     by : (b : Bool) → covers a t ≡ b → (b || is_covered list t) ≡ true → (is_covered list t ≡ true → IsCovered list t)
         → IsCovered (a ∷ list) t
-    by true is h more = record { place = 0; by = a; listed = refl; covers = (covers_is a t).0 is }
+    by true is h more = record { place = 0; by = a; listed = refl; covers = (covers_is_cover a t).0 is }
     by false is h more = let c : IsCovered list t = more h in
         record { place = suc c.place; by = c.by; listed = c.listed; covers = c.covers }
 
@@ -91,4 +91,4 @@ any_at (x ∷ list) t zero a at c = or_left (covers x t) (is_covered list t)
 any_at (x ∷ list) t (suc place) a at c = or_right (covers x t) (is_covered list t) (any_at list t place a at c)
 
 pub true_covered : (list : List Triple) (t : Triple) → IsCovered list t → is_covered list t ≡ true
-true_covered list t c = any_at list t c.place c.by c.listed ((covers_is c.by t).1 c.covers)
+true_covered list t c = any_at list t c.place c.by c.listed ((covers_is_cover c.by t).1 c.covers)

@@ -161,9 +161,9 @@ none_faultless kind list place t sound none = record {
 }
 
 -- a list without a fault is inductive
-pub inductive : (kind : Kind) (list : List Triple) → IsSound kind.table → fault_of kind list ≡ None
+pub no_fault_is_inductive : (kind : Kind) (list : List Triple) → IsSound kind.table → fault_of kind list ≡ None
     → IsInductive kind list
-inductive kind list sound none =
+no_fault_is_inductive kind list sound none =
     let both : (unless_covered list NoStart (triple kind.table.start kind.table.start 0) ≡ None)
     × (triples_fault kind list 0 list ≡ None) =
     none_parts (unless_covered list NoStart (triple kind.table.start kind.table.start 0))
@@ -211,8 +211,9 @@ inv_none kind list k place t inv ind at = by (is_free kind inv t.out) refl
         (λ e less. taken free e (inv_of kind e == inv) refl))
 
 -- an inductive list has no fault
-pub faultless : (kind : Kind) (list : List Triple) → IsInductive kind list → fault_of kind list ≡ None
-faultless kind list ind =
+pub inductive_lists_have_no_fault : (kind : Kind) (list : List Triple) → IsInductive kind list
+    → fault_of kind list ≡ None
+inductive_lists_have_no_fault kind list ind =
     none_from (unless_covered list NoStart (triple kind.table.start kind.table.start 0))
     (triples_fault kind list 0 list)
     (covered_none list NoStart (triple kind.table.start kind.table.start 0) ind.begun)

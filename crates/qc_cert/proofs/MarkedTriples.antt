@@ -179,5 +179,5 @@ covered_after before (x ∷ ts) t = by (is_among before x) refl
     by false among more = first (is_covered before t) (covers x t) (is_covered rest t) (is_covered ts t) more
 
 -- being covered by the distinct triples is being covered by all
-pub covered_once : (list : List Triple) (t : Triple) → is_covered (distinct list) t ≡ is_covered list t
-covered_once list t = covered_after [] list t
+pub distinct_triples_cover_alike : (list : List Triple) (t : Triple) → is_covered (distinct list) t ≡ is_covered list t
+distinct_triples_cover_alike list t = covered_after [] list t

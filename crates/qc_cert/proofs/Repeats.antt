@@ -88,8 +88,8 @@ module _ (kind : Kind) (list : List Triple) (p q : ℕ) (t : Triple) where
           (λ e less. taken_anywhere inv e
           (none_below (length (events_of kind.table.rows)) (taken_fault kind list p t inv) both.1 e less)))
 
-  pub none_anywhere : triple_fault kind list p t ≡ None → triple_fault kind list q t ≡ None
-  none_anywhere none =
+  pub a_place_makes_no_fault : triple_fault kind list p t ≡ None → triple_fault kind list q t ≡ None
+  a_place_makes_no_fault none =
       let both =
       none_parts (first_below (length (events_of kind.table.rows)) (left_out_fault kind list p t))
       (first_below kind.table.invs (inv_fault kind list p t)) none in
@@ -112,7 +112,7 @@ none_more kind list before place x none here t among =
     by : (b s : Bool) → is_among before t ≡ b → is_same x t ≡ s → (b || s) ≡ true → triple_fault kind list 0 t ≡ None
     by true s old same either = none t old
     by false true old same either =
-        ap (triple_fault kind list 0) (sym (same_equal x t same)) ∙ none_anywhere kind list place 0 x here
+        ap (triple_fault kind list 0) (sym (same_equal x t same)) ∙ a_place_makes_no_fault kind list place 0 x here
     by false false old same either = absurd (true≢false (sym either))
 
 -- where those before have no fault, the first of the others tell the first fault
@@ -133,15 +133,15 @@ fault_after kind list before place (x ∷ ts) none =
     by true None among here more = more here
     by true (Some f) among here more =
         absurd (let nothing : triple_fault kind list place x ≡ None =
-        none_anywhere kind list 0 place x (none x among) in
+        a_place_makes_no_fault kind list 0 place x (none x among) in
         let never : ⊥ = cc in never)
     by false None among here more = more here
     by false (Some f) among here more = refl
 
 -- the first fault of the triples that stand nowhere before is the first fault of all
-pub fault_once : (kind : Kind) (list : List Triple)
+pub the_first_fault_is_of_a_first : (kind : Kind) (list : List Triple)
     → marked_fault kind list 0 (firsts list) list ≡ triples_fault kind list 0 list
-fault_once kind list = fault_after kind list [] 0 list (λ t among. absurd (true≢false (sym among)))
+the_first_fault_is_of_a_first kind list = fault_after kind list [] 0 list (λ t among. absurd (true≢false (sym among)))
 
 -- one triple more
 pub fault_more : (kind : Kind) (list ts : List Triple) (marks : List Bool) (i : ℕ) (b c : Bool) (x d : Triple)
@@ -183,4 +183,4 @@ pub fault_of_firsts : (kind : Kind) (list : List Triple) (marks : List Bool) (it
     → marked_fault kind list 0 marks items ≡ triples_fault kind list 0 list
 fault_of_firsts kind list marks items m i =
     ap (λ ms. marked_fault kind list 0 ms items) m ∙ ap (marked_fault kind list 0 (firsts list)) i
-    ∙ fault_once kind list
+    ∙ the_first_fault_is_of_a_first kind list

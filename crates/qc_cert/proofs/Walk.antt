@@ -198,8 +198,8 @@ module _ (kind : Kind) (list : List Triple) (ind : IsInductive kind list) where
       }
 
   -- an inductive list makes the relation exact
-  pub exact : IsExact kind
-  exact history inv set legal view =
+  pub inductive_lists_make_relations_exact : IsExact kind
+  inductive_lists_make_relations_exact history inv set legal view =
       let a : IsAccountedFor kind list history set = accounted history set legal view.closed in
       let free : IsFree kind inv a.by.out = λ f o. false_from_ne_true (depends kind.relation inv f)
       (λ d. clash (view.complete (a.out f o).position f (a.out f o).stands d) (a.out f o).outside) in

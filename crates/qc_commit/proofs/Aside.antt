@@ -158,15 +158,15 @@ prepares-few decl desk b clock some few = by (length (participants decl desk.cli
   by true = tt
   by false = low
 
-pub few-after : (desk : Desk) (call : DeskCall) → HasFew call → AsksFew desk.voting
+pub few_sites_are_asked : (desk : Desk) (call : DeskCall) → HasFew call → AsksFew desk.voting
     → AsksFew (after_call desk call).voting
-few-after desk (Prepares decl b clock) has few = prepares-few decl desk b clock has.0 has.1
-few-after desk (Votes number answer) has few = votes-few desk number answer few
-few-after desk (Numbers first) has few = by desk.voting refl few where
+few_sites_are_asked desk (Prepares decl b clock) has few = prepares-few decl desk b clock has.0 has.1
+few_sites_are_asked desk (Votes number answer) has few = votes-few desk number answer few
+few_sites_are_asked desk (Numbers first) has few = by desk.voting refl few where
   by : (o : Option Voting) → desk.voting ≡ o → AsksFew o → AsksFew (sent_in desk o first).voting
   by None is low = subst AsksFew (sym is) tt
   by (Some v) is low = low
-few-after desk (Sends number site) has few = by desk.voting refl few where
+few_sites_are_asked desk (Sends number site) has few = by desk.voting refl few where
   by : (o : Option Voting) → desk.voting ≡ o → AsksFew o → AsksFew (prepared_in desk o number site).voting
   by None is low = subst AsksFew (sym is) tt
   by (Some v) is low = low

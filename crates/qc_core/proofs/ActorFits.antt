@@ -12,7 +12,7 @@ use Rattle.qc_front.specs.declared.doing.Doing.{Doing}
 use Rattle.qc_front.specs.declared.doing.Doing.TheVariants.{Idle, Reading, Appending}
 use Rattle.qc_front.specs.Conduct as fronts
 use Rattle.qc_front.specs.Fits as rounds
-use Rattle.qc_front.proofs.Fitting.{fits}
+use Rattle.qc_front.proofs.Fitting.{front_ends_fit}
 use Rattle.qc_msg.specs.declared.step.Input.{Input}
 use Rattle.qc_msg.specs.declared.turn.Turn.{Turn}
 use Rattle.qc_msg.specs.Vocabulary.{Deed, Falls, Rises, Sends, Takes, Tells, Writes, turn_deeds}
@@ -53,7 +53,8 @@ few_sent c first = by c.desk.voting refl
 
 round_few : (decl : Declaration) (running : Bool) (c : Client) → IsAccepted decl → Stands decl running c
     → rounds.AsksFew c.front.doing
-round_few decl running c accepted st = (fits decl (record c.front { count = 0 }) accepted st.front (omega arith)).few
+round_few decl running c accepted st =
+    (front_ends_fit decl (record c.front { count = 0 }) accepted st.front (omega arith)).few
 
 -- a client that stands fits, where its clocks and its count are below the ends
 
@@ -64,7 +65,7 @@ client_fits decl running c n accepted low st within =
     let front_clock : c.front.clock.value ≤ n = within.1 in
     let desk_clock : c.desk.clock.value ≤ n = within.2 in
     record {
-      front = fits decl c.front accepted st.front (omega arith);
+      front = front_ends_fit decl c.front accepted st.front (omega arith);
       clock = omega arith;
       desk = record { clock = omega arith; few = st.few };
     }

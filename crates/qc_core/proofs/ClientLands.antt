@@ -9,7 +9,7 @@ use Rattle.qc_commit.specs.declared.desk.Voting.{Voting}
 use Rattle.qc_commit.specs.Vocabulary.{AsksFew, DeskMove, Numbers, Prepares, Votes, are_cast, blank, cast}
 use Rattle.qc_commit.specs.Vocabulary.{first_against, moved as desk_moved, participants, prepares, sent_each, vote_of}
 use Rattle.qc_commit.specs.Conduct as desks
-use Rattle.qc_commit.proofs.Aside.{few-after}
+use Rattle.qc_commit.proofs.Aside.{few_sites_are_asked}
 use Rattle.qc_commit.proofs.Numbering.{IsSettled, each-sent, settled-prepare, settled-sent, settled-vote}
 use Rattle.qc_front.specs.declared.doing.Doing.{Doing}
 use Rattle.qc_front.specs.declared.doing.Doing.TheVariants.{Idle, Reading, Appending}
@@ -17,10 +17,10 @@ use Rattle.qc_front.specs.declared.front.Front.{Front}
 use Rattle.qc_front.specs.declared.transaction.Transaction.{Transaction}
 use Rattle.qc_front.specs.Conduct as fronts
 use Rattle.qc_front.specs.Vocabulary.{aborts, begins, gives_up, is_idle, moved as front_moved}
-use Rattle.qc_front.proofs.AtOnce.{called_at_once, takes_at_once}
+use Rattle.qc_front.proofs.AtOnce.{commands_ask_at_once, answers_ask_at_once}
 use Rattle.qc_front.proofs.Goes.{do_goes, takes_goes}
-use Rattle.qc_front.proofs.CommandsKeep.{called_holds}
-use Rattle.qc_front.proofs.Keeping.{takes_holds}
+use Rattle.qc_front.proofs.CommandsKeep.{commands_keep_hold}
+use Rattle.qc_front.proofs.Keeping.{answers_keep_hold}
 use Rattle.qc_front.proofs.Sending.{called_sent, takes_sent}
 use Rattle.qc_msg.specs.declared.begun.Begun.{Begun}
 use Rattle.qc_msg.specs.declared.message.Answer.{Answer}
@@ -82,9 +82,9 @@ prepare_lands decl c first b clock some most st = by (length (participants decl 
         (waits_lands decl true c first (begins false) going refl refl refl
         (subst (λ (x : Bool). IsSettled (desks.sent (begins x).desk first)) asks
         (settled-prepare decl c.desk b clock first some))
-        (few-after (begins false).desk (Numbers first) tt
+        (few_sites_are_asked (begins false).desk (Numbers first) tt
         (subst (λ (x : Bool). AsksFew (begins x).desk.voting) asks
-        (few-after c.desk (Prepares decl b clock) (some, most) st.few)))
+        (few_sites_are_asked c.desk (Prepares decl b clock) (some, most) st.few)))
         (prepares_sent c (begins false).desk first b sites
         ∙ ap (λ (d : Desk). record c { desk = d })
         (subst (λ (x : Bool). sent_each (begins x).desk first sites ≡ desks.sent (begins x).desk first) asks
@@ -116,8 +116,8 @@ takes_lands : (decl : Declaration) (running : Bool) (c : Client) (first number :
     → Lands decl running first (by_front c (fronts.takes decl c.front number answer))
 takes_lands decl running c first number answer none st =
     front_lands decl running c first (fronts.takes decl c.front number answer) none
-    (takes_sent decl c.front number answer) (takes_holds decl c.front number answer st.front)
-    (takes_at_once decl c.front number answer st.front st.numbered) (free (is_idle c.front.doing) refl)
+    (takes_sent decl c.front number answer) (answers_keep_hold decl c.front number answer st.front)
+    (answers_ask_at_once decl c.front number answer st.front st.numbered) (free (is_idle c.front.doing) refl)
   where
     free : (x : Bool) → is_idle c.front.doing ≡ x
         → runs_told running (fronts.takes decl c.front number answer).turn.told ≡ false
@@ -177,7 +177,7 @@ answered_lands : (decl : Declaration) (running : Bool) (c : Client) (first numbe
     → Stands decl running c → Lands decl running first (answered decl c number answer)
 answered_lands decl running c first number answer st =
     by c.desk.voting refl (settled-vote c.desk number answer st.settled)
-    (few-after c.desk (Votes number answer) tt st.few)
+    (few_sites_are_asked c.desk (Votes number answer) tt st.few)
   where
     by : (o : Option Voting) → c.desk.voting ≡ o → IsSettled (desks.votes_in c.desk o number answer).desk
         → AsksFew (desks.votes_in c.desk o number answer).desk.voting
@@ -238,8 +238,9 @@ front_command : (decl : Declaration) (c : Client) (first : ℕ) (command : Comma
     → Lands decl true first (by_front c (fronts.called decl c.front command))
 front_command decl c first command st =
     front_lands decl true c first (fronts.called decl c.front command) (st.free refl).voting
-    (called_sent decl c.front command) (called_holds decl c.front command st.front)
-    (called_at_once decl c.front command st.front st.numbered) (command_idle decl c.front command (st.free refl).doing)
+    (called_sent decl c.front command) (commands_keep_hold decl c.front command st.front)
+    (commands_ask_at_once decl c.front command st.front st.numbered)
+        (command_idle decl c.front command (st.free refl).doing)
 
 commits_lands : (decl : Declaration) (c : Client) (first : ℕ) → 0 < decl.sites → decl.sites ≤ most_sites
     → Stands decl false c → (o : Option Transaction) → Lands decl true first (commits decl c o)

@@ -16,7 +16,7 @@ use Rattle.qc_front.specs.declared.transaction.Transaction.{Transaction}
 use Rattle.qc_front.specs.Conduct as fronts
 use Rattle.qc_front.specs.Vocabulary.{AreSent, AsksAtOnce, FrontHolds, FrontMove, IsFor, IsNumbered, IsRequestOf}
 use Rattle.qc_front.specs.Vocabulary.{IsSent, ended, numbered_all, numbered_one}
-use Rattle.qc_front.proofs.AtOnce.{called_at_once}
+use Rattle.qc_front.proofs.AtOnce.{commands_ask_at_once}
 use Rattle.qc_front.proofs.Keeping.{ended_holds, new_holds}
 use Rattle.qc_front.proofs.Numbering.{sent_holds}
 use Rattle.qc_list.specs.Vocabulary.{In}
@@ -70,7 +70,7 @@ pub record Lands (decl : Declaration) (running : Bool) (first : ℕ) (m : Client
 
 front_still : (decl : Declaration) (front : Front) (first : ℕ) → FrontHolds decl front → IsNumbered front.doing
     → front ≡ fronts.sent front first
-front_still decl front first h n = (called_at_once decl front (commands.Epoch 0) h n).told first
+front_still decl front first h n = (commands_ask_at_once decl front (commands.Epoch 0) h n).told first
 
 still : (decl : Declaration) (running : Bool) (c : Client) (first : ℕ) → Stands decl running c → c ≡ sent c first
 still decl running c first st = by c.desk.voting

@@ -32,8 +32,8 @@ type_of decl number names is of =
     let there = some_at decl.kinds number within in
     record { kind = there.0; at = there.1; has = is.names number there.0 names there.1 of }
 
-pub few_names : (decl : Declaration) → IsAccepted decl → IsNamed decl
-few_names decl is = record { objects = objects; invs = invs }
+pub accepted_declarations_have_few_names : (decl : Declaration) → IsAccepted decl → IsNamed decl
+accepted_declarations_have_few_names decl is = record { objects = objects; invs = invs }
   where
     objects : length decl.object_names ≤ 16
     objects = let many : length decl.object_names ≡ length decl.objects = is.object_names.count in

@@ -3,8 +3,8 @@ use Rattle.std.proofs.Common.{◌≡◌, ◌<◌, ◌≤◌, ℕ, zero, suc, Lis
 use Rattle.std.proofs.Common.{slice_get}
 use Rattle.std.specs.Prelude.{All, codes}
 use Rattle.std.proofs.lemmas.List.Elements.{All-cons, All-nil}
-use Rattle.qc_cert.proofs.Faultless.{inductive}
-use Rattle.qc_cert.proofs.Walk.{exact}
+use Rattle.qc_cert.proofs.Faultless.{no_fault_is_inductive}
+use Rattle.qc_cert.proofs.Walk.{inductive_lists_make_relations_exact}
 use Rattle.qc_cert.specs.Vocabulary.{IsExact, triple}
 use Rattle.qc_cert.specs.declared.triple.Triple.{Triple}
 use Rattle.qc_decl.proofs.Places.{all_differ}
@@ -35,7 +35,9 @@ register_sound = record {
 }
 
 register_exact : IsExact register_kind
-register_exact = exact register_kind register_triples (inductive register_kind register_triples register_sound refl)
+register_exact =
+    inductive_lists_make_relations_exact register_kind register_triples
+    (no_fault_is_inductive register_kind register_triples register_sound refl)
 
 -- the register's names
 
@@ -129,7 +131,7 @@ module _ (actors : ℕ) (weights : List ℕ) (need : ℕ) (small : need ≤ grea
 
       right : (number : ℕ) (kind : Kind) → slice_get (register_kind ∷ []) number ≡ Some kind → IsRight kind
       right zero kind is = let same : register_kind ≡ kind = cc in
-          subst IsRight same (record { sound = register_sound; exact = register_exact })
+          subst IsRight same (record { sound = register_sound; inductive_lists_make_relations_exact = register_exact })
       right (suc number) kind is = absurd (let never : ⊥ = cc in never)
 
       good : (place : ℕ) (plan : Plan) → slice_get (register_plan weights need ∷ []) place ≡ Some plan

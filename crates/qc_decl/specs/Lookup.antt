@@ -1,5 +1,6 @@
 -- What a declaration says of an object.
-use Rattle.std.specs.Prelude.{ℕ, ◌==◌, ◌-◌, cond, List, [], Option, None, slice_get, option_map, option_and_then, unwrap_or}
+use Rattle.std.specs.Prelude.{ℕ, ◌==◌, ◌-◌, cond, List, [], Option, None, slice_get, option_map, option_and_then}
+use Rattle.std.specs.Prelude.{unwrap_or}
 use Rattle.std.specs.Option.{option_map_or}
 use Rattle.qc_decl.specs.declared.declaration.Declaration.{Declaration}
 use Rattle.qc_plan.specs.declared.plan.Plan.{Plan}

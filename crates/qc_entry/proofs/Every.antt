@@ -7,7 +7,7 @@ use Rattle.qc_entry.specs.declared.line.Line.{Line}
 use Rattle.qc_entry.specs.Vocabulary.{IsAscending, line_cmp}
 use Rattle.qc_list.proofs.Members.{every-at}
 use Rattle.qc_list.proofs.Order.{less_is}
-use Rattle.qc_entry.proofs.Orders.{line_order}
+use Rattle.qc_entry.proofs.Orders.{lines_are_ordered}
 
 -- where the last of an ascending list is below a line, each is
 below_last : (xs : List Line) (n : ℕ) (last y : Line) → IsAscending xs → suc n ≡ length xs → slice_get xs n ≡ Some last
@@ -21,7 +21,7 @@ below_last (x ∷ z ∷ xs) zero last y ascending size at less = absurd (omega a
 below_last (x ∷ z ∷ xs) (suc n) last y ascending size at less =
     let smaller : suc n ≡ length (z ∷ xs) = omega arith in
     let rest = below_last (z ∷ xs) n last y ascending.1 smaller at less in
-    (line_order.total.trans x z y ascending.0.0 rest.0, rest)
+    (lines_are_ordered.total.trans x z y ascending.0.0 rest.0, rest)
 
 -- where the last line of an ascending list is below a line, each is
 pub below-last : (xs : List Line) (last y : Line) → IsAscending xs → Some last ≡ slice_get xs (length xs - 1)

@@ -8,13 +8,13 @@ use Rattle.qc_entry.specs.declared.line.Line.{Line}
 use Rattle.qc_entry.specs.Vocabulary.{IsAscending, line_cmp, of_object, union}
 use Rattle.qc_list.specs.Vocabulary.{In, IsBelowAll, by_order}
 use Rattle.qc_list.proofs.Members.{every-In, In-filter, In-passes, In-unfiltered}
-use Rattle.qc_entry.proofs.Orders.{line_order}
+use Rattle.qc_entry.proofs.Orders.{lines_are_ordered}
 use Rattle.qc_list.proofs.Order.{ascends-filter}
 use Rattle.qc_entry.proofs.Union.{in_first, in_second, in_either, ascending-union}
 
 -- no line is below itself
 pub not_below : (l : Line) → line_cmp l l ≡ Less → ⊥
-not_below l less = let tied : line_cmp l l ≡ Equal = tied_itself line_order.total l in
+not_below l less = let tied : line_cmp l l ≡ Equal = tied_itself lines_are_ordered.total l in
     let never : ⊥ = cc (less, tied) in never
 
 -- a line that is below all lines of a list is not one of them
@@ -28,7 +28,7 @@ first_same x xs y ys a b (inr here) (inl same) = sym same
 first_same x xs y ys a b (inr here) (inr there) =
     let less : line_cmp y x ≡ Less = every-In (λ z. line_cmp y z ≡ Less) x ys b.0 here in
     let more : line_cmp x y ≡ Less = every-In (λ z. line_cmp x z ≡ Less) y xs a.0 there in
-    absurd (not_below x (line_order.total.trans x y x more less))
+    absurd (not_below x (lines_are_ordered.total.trans x y x more less))
 
 -- a line behind the first of one list is behind the first, if that is the same, of the other
 behind : (x : Line) (xs : List Line) (y : Line) (ys : List Line) → x ≡ y → IsBelowAll line_cmp x xs → (l : Line)
@@ -56,7 +56,7 @@ pub union-self : (xs : List Line) → union xs xs ≡ xs
 union-self [] = refl
 union-self (x ∷ xs) =
     ap (λ order. by_order order (x ∷ union xs (x ∷ xs)) (x ∷ union xs xs) (x ∷ union (x ∷ xs) xs))
-    (tied_itself line_order.total x) ∙ ap (λ zs. x ∷ zs) (union-self xs)
+    (tied_itself lines_are_ordered.total x) ∙ ap (λ zs. x ∷ zs) (union-self xs)
 
 swapped : {A B : Type 0} → A ⊎ B → B ⊎ A
 swapped (inl a) = inr a

@@ -7,7 +7,7 @@ use Rattle.qc_entry.specs.declared.line.Line.{Line}
 use Rattle.qc_entry.specs.Vocabulary.{IsAscending, IsUnion, line_cmp, union, union_from}
 use Rattle.qc_list.specs.Vocabulary.{In, IsBelowAll, by_order}
 use Rattle.qc_list.proofs.Members.{every-In, every-from_In}
-use Rattle.qc_entry.proofs.Orders.{line_order, above}
+use Rattle.qc_entry.proofs.Orders.{lines_are_ordered, above}
 use Rattle.std.specs.Cmp.{tied_itself}
 use Rattle.qc_list.proofs.Order.{below_trans}
 
@@ -48,18 +48,18 @@ ascending-union_from x xs low ascending step (y ∷ ys) ys_ascending =
           → IsAscending (by_order order (x ∷ union xs (y ∷ ys)) (x ∷ union xs ys) (y ∷ union (x ∷ xs) ys))
       by Less is rest = (
         every-union (λ l. line_cmp x l ≡ Less) xs (y ∷ ys) low
-            (is, below_trans line_cmp line_order.total x y ys is ys_ascending.0),
+            (is, below_trans line_cmp lines_are_ordered.total x y ys is ys_ascending.0),
         step (y ∷ ys) ys_ascending,
       )
       by Equal is rest =
-          let same : y ≡ x = sym (line_order.apart x y is) in (
+          let same : y ≡ x = sym (lines_are_ordered.apart x y is) in (
             every-union (λ l. line_cmp x l ≡ Less) xs ys low (subst (λ l. IsBelowAll line_cmp l ys) same ys_ascending.0),
             step ys ys_ascending.1,
           )
       by Greater is rest =
           let less : line_cmp y x ≡ Less = above x y is in (
             every-union (λ l. line_cmp y l ≡ Less) (x ∷ xs) ys
-                (less, below_trans line_cmp line_order.total y x xs less low) ys_ascending.0,
+                (less, below_trans line_cmp lines_are_ordered.total y x xs less low) ys_ascending.0,
             rest,
           )
 
@@ -93,7 +93,7 @@ in_second-from l x xs step (y ∷ ys) member =
       by : (order : Ordering) → line_cmp x y ≡ order → (In l ys → In l (union (x ∷ xs) ys)) → In l (y ∷ ys)
           → In l (by_order order (x ∷ union xs (y ∷ ys)) (x ∷ union xs ys) (y ∷ union (x ∷ xs) ys))
       by Less is rest member = inr (step (y ∷ ys) member)
-      by Equal is rest (inl same) = inl (same ∙ sym (line_order.apart x y is))
+      by Equal is rest (inl same) = inl (same ∙ sym (lines_are_ordered.apart x y is))
       by Equal is rest (inr member) = inr (step ys member)
       by Greater is rest (inl same) = inl same
       by Greater is rest (inr member) = inr (rest member)
@@ -110,8 +110,8 @@ in_either l xs ys member =
     (every-from_In Either ys (λ k. inr))) member
 
 -- the union is sorted, and has the lines of both lists
-pub union_lem : (xs ys : List Line) → IsAscending xs → IsAscending ys → IsUnion xs ys (union xs ys)
-union_lem xs ys first second = record {
+pub union_is_a_union : (xs ys : List Line) → IsAscending xs → IsAscending ys → IsUnion xs ys (union xs ys)
+union_is_a_union xs ys first second = record {
   ascending = ascending-union xs ys first second;
   members = λ l. (in_either l xs ys, by l);
 } where
@@ -145,5 +145,5 @@ pub union-shared : (p xs ys : List Line) → union (p ++ xs) (p ++ ys) ≡ p ++ 
 union-shared [] xs ys = refl
 union-shared (x ∷ p) xs ys =
     ap (λ order. by_order order (x ∷ union (p ++ xs) (x ∷ p ++ ys)) (x ∷ union (p ++ xs) (p ++ ys))
-    (x ∷ union (x ∷ p ++ xs) (p ++ ys))) (tied_itself line_order.total x)
+    (x ∷ union (x ∷ p ++ xs) (p ++ ys))) (tied_itself lines_are_ordered.total x)
     ∙ ap (λ zs. x ∷ zs) (union-shared p xs ys)

@@ -7,7 +7,7 @@ use Rattle.std.specs.Prelude.{not}
 use Rattle.qc_entry.specs.declared.line.Line.{Line}
 use Rattle.qc_entry.specs.Vocabulary.{IsAscending, has_line, line_cmp, without}
 use Rattle.qc_list.specs.Vocabulary.{IsBelowAll}
-use Rattle.qc_entry.proofs.Orders.{line_order, above, below}
+use Rattle.qc_entry.proofs.Orders.{lines_are_ordered, above, below}
 use Rattle.qc_list.proofs.Order.{below_trans}
 
 -- a line below all of a list is not among them
@@ -32,14 +32,14 @@ pub without-Less : (x : Line) (xs : List Line) (y : Line) (ys : List Line) → l
     → IsBelowAll line_cmp y ys → without (x ∷ xs) (y ∷ ys) ≡ x ∷ without xs (y ∷ ys)
 without-Less x xs y ys less low =
     ap (λ has. cond (not has) (x ∷ without xs (y ∷ ys)) (without xs (y ∷ ys)))
-    (absent x (y ∷ ys) (less, below_trans line_cmp line_order.total x y ys less low))
+    (absent x (y ∷ ys) (less, below_trans line_cmp lines_are_ordered.total x y ys less low))
 
 -- the first line goes where it is the first of the others
 pub without-Equal : (x : Line) (xs : List Line) (y : Line) (ys : List Line) → line_cmp x y ≡ Equal
     → IsBelowAll line_cmp x xs → without (x ∷ xs) (y ∷ ys) ≡ without xs ys
 without-Equal x xs y ys equal low =
-    let same : x ≡ y = line_order.apart x y equal in
-    let found : line_cmp y x ≡ Equal = subst (λ l. line_cmp l x ≡ Equal) same (tied_itself line_order.total x) in
+    let same : x ≡ y = lines_are_ordered.apart x y equal in
+    let found : line_cmp y x ≡ Equal = subst (λ l. line_cmp l x ≡ Equal) same (tied_itself lines_are_ordered.total x) in
     rw found (without-below xs y ys (subst (λ l. IsBelowAll line_cmp l xs) same low))
 
 -- the first of the others takes nothing away where it is below the first line
@@ -47,7 +47,7 @@ pub without-Greater : (x : Line) (xs : List Line) (y : Line) (ys : List Line) �
     → IsBelowAll line_cmp x xs → without (x ∷ xs) (y ∷ ys) ≡ without (x ∷ xs) ys
 without-Greater x xs y ys greater low =
     let less : line_cmp y x ≡ Less = above x y greater in
-    without-below (x ∷ xs) y ys (less, below_trans line_cmp line_order.total y x xs less low)
+    without-below (x ∷ xs) y ys (less, below_trans line_cmp lines_are_ordered.total y x xs less low)
 
 -- what two ascending lists begin with alike brings nothing
 pub without-shared : (n : ℕ) (xs ys : List Line) → IsAscending xs → IsAscending ys → take n xs ≡ take n ys
@@ -59,7 +59,7 @@ without-shared (suc n) (x ∷ xs) [] up other alike = absurd (let never : ⊥ = 
 without-shared (suc n) (x ∷ xs) (y ∷ ys) up other alike =
     let same : x ≡ y = cc in
     let rest : take n xs ≡ take n ys = cc in
-    let equal : line_cmp x y ≡ Equal = subst (λ l. line_cmp x l ≡ Equal) same (tied_itself line_order.total x) in
+    let equal : line_cmp x y ≡ Equal = subst (λ l. line_cmp x l ≡ Equal) same (tied_itself lines_are_ordered.total x) in
     without-Equal x xs y ys equal up.0 ∙ without-shared n xs ys up.1 other.1 rest
 
 -- lines behind all others stay
@@ -75,7 +75,7 @@ absent-behind z (y ∷ ys) all = rw all.0 (absent-behind z ys all.1)
 further : (x z : Line) (ys : List Line) → line_cmp x z ≡ Less → Every (λ l. line_cmp l x ≡ Less) ys
     → Every (λ l. line_cmp l z ≡ Less) ys
 further x z [] less all = tt
-further x z (y ∷ ys) less all = (line_order.total.trans y x z all.0 less, further x z ys less all.1)
+further x z (y ∷ ys) less all = (lines_are_ordered.total.trans y x z all.0 less, further x z ys less all.1)
 
 none-there : (x : Line) (xs ys : List Line) → IsBelowAll line_cmp x xs → Every (λ l. line_cmp l x ≡ Less) ys
     → Every (λ z. has_line ys z ≡ false) xs

@@ -5,14 +5,10 @@ use Rattle.std.specs.Option.{option_map_or}
 use Rattle.qc_plan.specs.declared.standing.Standing.{Standing}
 use Rattle.qc_plan.specs.declared.standing.Standing.TheVariants as standings
 use Rattle.qc_msg.specs.declared.message.Answer.{Answer}
-use Rattle.qc_msg.specs.declared.message.Answer.TheVariants as answers
 use Rattle.qc_msg.specs.declared.message.Outcome.{Outcome}
 use Rattle.qc_epoch.specs.Admin.{Question, ShutSite}
-use Rattle.qc_msg.specs.Vocabulary.{Answered, shut_in, verdict_in}
+use Rattle.qc_msg.specs.Vocabulary.{has_installed, shut_in, verdict_in}
 use Rattle.qc_msg.specs.declared.payload.Snapshot.{Snapshot}
-use Rattle.qc_msg.specs.Vocabulary.{has_installed}
-use Rattle.std.specs.Option.{option_map_or}
-use Rattle.std.specs.Prelude.{if◌then◌else◌}
 
 -- a Close: a site that tells all it has is closed, every other one is missing
 
@@ -21,19 +17,10 @@ standing_of answer =
     option_map_or (λ (x : Snapshot). standings.Granted) (option_and_then shut_in answer) standings.Missing
 
 abbrev pub with_shut_of : List ShutSite → ℕ → Option Answer → List ShutSite
-with_shut_of shuts site None = shuts
-with_shut_of shuts site (Some (answers.Granted grant)) = shuts
-with_shut_of shuts site (Some (answers.Clash holder inv event)) = shuts
-with_shut_of shuts site (Some (answers.Closed epoch)) = shuts
-with_shut_of shuts site (Some (answers.Behind epoch)) = shuts
-with_shut_of shuts site (Some (answers.Restarted life)) = shuts
-with_shut_of shuts site (Some answers.Stale) = shuts
-with_shut_of shuts site (Some answers.Fault) = shuts
-with_shut_of shuts site (Some (answers.Yes clock)) = shuts
-with_shut_of shuts site (Some (answers.Shut snapshot)) =
-    shuts ++ record { site = site; clock = snapshot.clock; log = snapshot.log; prepared = snapshot.prepared } ∷ []
-with_shut_of shuts site (Some answers.Installed) = shuts
-with_shut_of shuts site (Some (answers.Answered verdict)) = shuts
+with_shut_of shuts site answer =
+    option_map_or
+    (λ (s : Snapshot). shuts ++ record { site = site; clock = s.clock; log = s.log; prepared = s.prepared } ∷ [])
+    (option_and_then shut_in answer) shuts
 
 -- an Ask: the verdict that its client told, or none
 

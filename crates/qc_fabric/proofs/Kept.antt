@@ -9,7 +9,7 @@ use Rattle.atomic_table.specs.Seated.{TableId}
 use Rattle.qc_decl.specs.Vocabulary.{actors, controller}
 use Rattle.qc_decl.specs.declared.declaration.Declaration.{Declaration}
 use Rattle.qc_mailbox.specs.Vocabulary.{Inboxes, IsKept, TellsWhereDown, empty_inboxes, Roomy}
-use Rattle.qc_mailbox.proofs.Keeping.{kept_begins}
+use Rattle.qc_mailbox.proofs.Keeping.{new_trays_are_kept}
 use Rattle.qc_msg.specs.declared.record.Record.{Record}
 use Rattle.qc_msg.specs.declared.step.Step.{Step}
 use Rattle.qc_msg.specs.declared.turn.Turn.{Turn}
@@ -158,7 +158,7 @@ starts L F D S z w lg mb op hd tb r ws none is oc hc te i so few down = record {
       (subst (λ (o : List Bool). RunsWithFalls L F D S [] o) (sym oc) begins);
   kept =
       subst (λ (l : List Entry). IsKept S l mb.inboxes) (sym none)
-      (subst (λ (b : Inboxes). IsKept S [] b) (sym is) (kept_begins S));
+      (subst (λ (b : Inboxes). IsKept S [] b) (sym is) (new_trays_are_kept S));
   phase_is = sym (ap (λ (l : List Entry). phase_of l) none);
   opens = ap length oc ∙ length-replicate (actors D) false;
   helds = ap length hc ∙ length-replicate (actors D) false;

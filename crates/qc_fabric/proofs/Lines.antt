@@ -10,9 +10,9 @@ use Rattle.atomic_table.specs.Seated.{TableId}
 use Rattle.qc_decl.specs.Vocabulary.{actors, controller}
 use Rattle.qc_decl.specs.declared.declaration.Declaration.{Declaration}
 use Rattle.qc_mailbox.specs.Vocabulary.{Inboxes, IsKept, after_control, after_fall_by_line, after_first, Roomy}
-use Rattle.qc_mailbox.proofs.Bounds.{controls_shown}
-use Rattle.qc_mailbox.proofs.Controlling.{kept_control}
-use Rattle.qc_mailbox.proofs.FallTrays.{kept_fall_by_line}
+use Rattle.qc_mailbox.proofs.Bounds.{trays_show_controls}
+use Rattle.qc_mailbox.proofs.Controlling.{controls_keep_trays}
+use Rattle.qc_mailbox.proofs.FallTrays.{falls_by_lines_keep_trays}
 use Rattle.qc_msg.specs.declared.record.Record.{Record}
 use Rattle.qc_msg.specs.declared.step.Control.{Control}
 use Rattle.qc_msg.specs.declared.step.Control.TheVariants as controls
@@ -62,7 +62,7 @@ module _ {L : ℕ → List Deed → Turn → Type 0} {F : ℕ → List Record �
     falls_on lg1 lg' mb' hs lr bd g mr is = steps_on s r e p q t
         (steps.Fell causes.Script None) op ph m a lg1 lg' mb' hs lr bd g (omega (arith, mr, s.mail_room))
         (subst (λ (i : Inboxes). IsKept S (lg.history ++ fallen) i) (sym is)
-        (kept_fall_by_line S lg.history mb.inboxes (number p) causes.Script None s.kept
+        (falls_by_lines_keep_trays S lg.history mb.inboxes (number p) causes.Script None s.kept
         (omega (arith, low, s.few)) refl))
         (s.phase_is ∙ sym (phase_more lg.history fallen)) run_fallen s.opens (λ k o. o) may.below refl (λ b. refl)
 
@@ -153,12 +153,13 @@ module _ {L : ℕ → List Deed → Turn → Type 0} {F : ℕ → List Record �
     arms_on lg1 lg' mb' hs lr bd g mr is =
         let es : lg'.history ≡ lg.history ++ arming = g.history ∙ ap (λ (l : List Entry). l ++ arming) hs in
         let shown : mb.inboxes.controls ≡ controls.Armed (number p) kind at ∷ arm_lines.rest =
-        controls_shown S lg.history mb.inboxes s.kept ∙ arm_lines.are in
+        trays_show_controls S lg.history mb.inboxes s.kept ∙ arm_lines.are in
         let after : mb'.inboxes ≡ after_control mb.inboxes (controls.Armed (number p) kind at) = is
         ∙ ap (λ (cs : List Control). after_first mb.inboxes cs) shown in
         let kept : IsKept S (lg.history ++ arming) mb'.inboxes =
         subst (λ (i : Inboxes). IsKept S (lg.history ++ arming) i) (sym after)
-        (kept_control S lg.history mb.inboxes (controls.Armed (number p) kind at) (steps.Armed (number p) kind at)
+        (controls_keep_trays S lg.history mb.inboxes (controls.Armed (number p) kind at)
+            (steps.Armed (number p) kind at)
         (number c) s.kept refl) in
         record {
           script_is = s.script_is;

@@ -7,8 +7,8 @@ use Rattle.qc_decl.specs.Vocabulary.{controller}
 use Rattle.qc_decl.specs.declared.declaration.Declaration.{Declaration}
 use Rattle.std.specs.Option.{IfSome}
 use Rattle.qc_mailbox.specs.Vocabulary.{Inboxes, IsKept, IsWithin, after_control, after_first, after_phase, Roomy}
-use Rattle.qc_mailbox.proofs.Bounds.{controls_shown, controls_within}
-use Rattle.qc_mailbox.proofs.Controlling.{kept_control, kept_phase}
+use Rattle.qc_mailbox.proofs.Bounds.{trays_show_controls, controls_within}
+use Rattle.qc_mailbox.proofs.Controlling.{controls_keep_trays, phases_keep_trays}
 use Rattle.qc_msg.specs.declared.record.Record.{Record}
 use Rattle.qc_msg.specs.declared.step.Control.{Control}
 use Rattle.qc_msg.specs.declared.step.Control.TheVariants as controls
@@ -90,7 +90,7 @@ module _ {L : ℕ → List Deed → Turn → Type 0} {F : ℕ → List Record �
       let next : k ≡ ph + 1 = may.next.1 ∙ ap (λ n. n + 1) (sym s.phase_is) in
       let kept : IsKept S (lg.history ++ marked (number p) (steps.Phase k) ∷ []) (after_phase mb.inboxes lines) =
       subst (λ n. IsKept S (lg.history ++ marked (number p) (steps.Phase n) ∷ []) (after_phase mb.inboxes lines))
-      (sym next) (kept_phase S lg.history mb.inboxes ph lines (number p) s.kept there) in
+      (sym next) (phases_keep_trays S lg.history mb.inboxes ph lines (number p) s.kept there) in
       let run : RunsWithFalls L F D S (lg.history ++ marked (number p) (steps.Phase k) ∷ []) op =
       subst (λ n. RunsWithFalls L F D S (lg.history ++ marked n (steps.Phase k) ∷ []) op) (sym at)
       (subst (λ n. RunsWithFalls L F D S (lg.history ++ marked (controller D) (steps.Phase n) ∷ []) op) (sym may.next.1)
@@ -110,7 +110,8 @@ module _ {L : ℕ → List Deed → Turn → Type 0} {F : ℕ → List Record �
       → IsFabricState L F D S z w lg' mb' op hd ph rsv sp tb (Some t)
   acts_on s r e p q t line step at first under said m a lg1 lg' mb' hs lr bd g mr is =
       let lines : Lines (controls_left S lg.history) line = lines_of (controls_left S lg.history) line first in
-      let shown : mb.inboxes.controls ≡ line ∷ lines.rest = controls_shown S lg.history mb.inboxes s.kept ∙ lines.are in
+      let shown : mb.inboxes.controls ≡ line ∷ lines.rest =
+              trays_show_controls S lg.history mb.inboxes s.kept ∙ lines.are in
       let after : mb'.inboxes ≡ after_control mb.inboxes line = is
       ∙ ap (λ (cs : List Control). after_first mb.inboxes cs) shown in
       let run : RunsWithFalls L F D S (lg.history ++ marked (number p) step ∷ []) op =
@@ -118,7 +119,7 @@ module _ {L : ℕ → List Deed → Turn → Type 0} {F : ℕ → List Record �
       (control line lines.rest step op lg.history s.runs lines.are (acts_same line step said)) in
       steps_on s r e p q t step op ph m a lg1 lg' mb' hs lr bd g (omega (arith, mr, s.mail_room))
       (subst (λ (i : Inboxes). IsKept S (lg.history ++ marked (number p) step ∷ []) i) (sym after)
-      (kept_control S lg.history mb.inboxes line step (number p) s.kept (acts_same line step said)))
+      (controls_keep_trays S lg.history mb.inboxes line step (number p) s.kept (acts_same line step said)))
       (s.phase_is ∙ sym (phase_control lg.history (number p) line step said)) run s.opens (λ j o. o) under
       (begins_control line step said) (control_arms_none line step said)
 

@@ -11,7 +11,7 @@ use Rattle.qc_decl.specs.Vocabulary.{actors}
 use Rattle.qc_decl.specs.declared.declaration.Declaration.{Declaration}
 use Rattle.qc_mailbox.specs.Vocabulary.{Inboxes, IsKept, MayPost, after_post_as, Roomy}
 use Rattle.qc_mailbox.proofs.FallLaws.{may_post}
-use Rattle.qc_mailbox.proofs.FallTrays.{kept_post}
+use Rattle.qc_mailbox.proofs.FallTrays.{posts_keep_trays}
 use Rattle.qc_script.specs.Vocabulary.{RunsWithFalls, is_up, posts}
 use Rattle.qc_msg.specs.declared.record.Record.{Record}
 use Rattle.qc_msg.specs.declared.step.Step.{Step}
@@ -89,7 +89,7 @@ module _ {L : ℕ → List Deed → Turn → Type 0} {F : ℕ → List Record �
     kept_after : IsKept S (lg.history ++ by (number p) xs) (after_post_as turn.append mb.inboxes (number p) turn)
     kept_after = subst (λ (x : ℕ). IsKept S (lg.history ++ by (number p) (posted_as turn.append x turn))
         (after_post_as turn.append mb.inboxes (number p) turn)) (sym first_is)
-        (kept_post S lg.history mb.inboxes (number p) turn s.kept here (receivers_as turn.append turn to) may)
+        (posts_keep_trays S lg.history mb.inboxes (number p) turn s.kept here (receivers_as turn.append turn to) may)
 
     pub posts_on : (lg' : Logged) (mb' : Roomy) (b : ℕ) → HasGrown lg lg' (by (number p) xs) → suc k ≡ size_of turn
         → mb'.room + length (sends_as turn.append turn) ≡ mb.room

@@ -3,8 +3,8 @@ use Rattle.std.proofs.Common.{◌≡◌, ℕ, ◌<◌, Bool, List, Option, Some,
 use Rattle.qc_decl.specs.declared.declaration.Declaration.{Declaration}
 use Rattle.qc_mailbox.specs.Vocabulary.{Inboxes, IsKept, input_in, input_of}
 use Rattle.qc_mailbox.specs.declared.input.ReadyInput.{ReadyInput}
-use Rattle.qc_mailbox.proofs.Among.{ready_found}
-use Rattle.qc_mailbox.proofs.Seeing.{ready_kept}
+use Rattle.qc_mailbox.proofs.Among.{ready_messages_were_sent}
+use Rattle.qc_mailbox.proofs.Seeing.{trays_show_what_is_ready}
 use Rattle.qc_msg.specs.declared.message.Envelope.{Envelope}
 use Rattle.qc_msg.specs.declared.step.Input.{Input}
 use Rattle.qc_msg.specs.declared.step.Input.TheVariants as inputs
@@ -27,12 +27,12 @@ readies decl script h kept a input is low shown = by (ready decl script a h) ref
     by : (o : Option Input) → ready decl script a h ≡ o → Readies decl script h a input
     by None none =
         let here : option_map input_of (ready decl script a h) ≡ input_in decl a kept =
-        ready_kept decl script h kept a is low in
+        trays_show_what_is_ready decl script h kept a is low in
         let never : None ≡ Some input = ap (option_map input_of) (sym none) ∙ here ∙ shown in
         absurd (let no : ⊥ = cc in no)
     by (Some g) rdy =
         let here : option_map input_of (ready decl script a h) ≡ input_in decl a kept =
-        ready_kept decl script h kept a is low in
+        trays_show_what_is_ready decl script h kept a is low in
         let same : Some (input_of g) ≡ Some input = ap (option_map input_of) (sym rdy) ∙ here ∙ shown in
         record { given = g; rdy = rdy; named = cc }
 
@@ -51,7 +51,7 @@ pub input_there : (decl : Declaration) (script : Script) (h : List Entry) (kept 
 input_there decl script h kept a input is low shown =
     let r = readies decl script h kept a input is low shown in
     subst (λ (i : ReadyInput). IsThere (mail h) i) r.named
-    (there_by a (mail h) r.given (ready_found decl script h kept a r.given is r.rdy))
+    (there_by a (mail h) r.given (ready_messages_were_sent decl script h kept a r.given is r.rdy))
 
 pub given_ready : (decl : Declaration) (script : Script) (h : List Entry) (kept : Inboxes) (a : ℕ) (input : ReadyInput)
     (g : Input) → IsKept script h kept → a < most_actors → input_in decl a kept ≡ Some input
@@ -60,7 +60,7 @@ pub given_ready : (decl : Declaration) (script : Script) (h : List Entry) (kept 
 given_ready decl script h kept a input g is low shown by =
     let r = readies decl script h kept a input is low shown in
     let back : given_by (mail h) input ≡ Some r.given = ap (λ (i : ReadyInput). given_by (mail h) i) (sym r.named)
-    ∙ given_back a (mail h) r.given (ready_found decl script h kept a r.given is r.rdy) in
+    ∙ given_back a (mail h) r.given (ready_messages_were_sent decl script h kept a r.given is r.rdy) in
     r.rdy ∙ (sym back ∙ by)
 
 pub none_ready : (decl : Declaration) (script : Script) (h : List Entry) (kept : Inboxes) (a : ℕ) → IsKept script h kept
@@ -71,7 +71,7 @@ none_ready decl script h kept a is low shown = by (ready decl script a h) refl
     by None none = none
     by (Some g) rdy =
         let here : option_map input_of (ready decl script a h) ≡ input_in decl a kept =
-        ready_kept decl script h kept a is low in
+        trays_show_what_is_ready decl script h kept a is low in
         let never : Some (input_of g) ≡ None = ap (option_map input_of) (sym rdy) ∙ here ∙ shown in
         absurd (let no : ⊥ = cc in no)
 

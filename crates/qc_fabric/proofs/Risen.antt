@@ -5,9 +5,9 @@ use Rattle.atomic_table.specs.Seated.{TableId}
 use Rattle.qc_decl.specs.Vocabulary.{actors}
 use Rattle.qc_decl.specs.declared.declaration.Declaration.{Declaration}
 use Rattle.qc_mailbox.specs.Vocabulary.{Inboxes, IsKept, Roomy}
-use Rattle.qc_mailbox.proofs.Controlling.{kept_damage}
+use Rattle.qc_mailbox.proofs.Controlling.{damaged_journals_keep_trays}
 use Rattle.qc_mailbox.proofs.FallLaws.{restarts_down}
-use Rattle.qc_mailbox.proofs.FallTrays.{kept_fall_by_line, kept_rise, up_kept}
+use Rattle.qc_mailbox.proofs.FallTrays.{falls_by_lines_keep_trays, rises_keep_trays, up_kept}
 use Rattle.qc_msg.specs.declared.record.Record.{Record}
 use Rattle.qc_msg.specs.declared.step.Control.TheVariants as controls
 use Rattle.qc_msg.specs.declared.step.Fall.{Fall}
@@ -147,10 +147,10 @@ module _ {L : ℕ → List Deed → Turn → Type 0} {F : ℕ → List Record �
     kept_risen : (rising : Rising) → IsRising L F a lg.history rising
         → IsKept S (lg.history ++ by a (steps_of_rising (length (mail lg.history)) rising))
         (after_rising mb.inboxes a rising)
-    kept_risen (Rose records turn) ok = kept_rise S lg.history mb.inboxes a records turn s.kept
+    kept_risen (Rose records turn) ok = rises_keep_trays S lg.history mb.inboxes a records turn s.kept
         (omega (arith, low, s.few)) is_down ok.1 (receivers_as turn.append turn ok.2)
-    kept_risen (Damaged offset) ok = kept_damage S lg.history mb.inboxes a offset s.kept
-    kept_risen (NotOpened cause) ok = kept_fall_by_line S lg.history mb.inboxes a cause None s.kept
+    kept_risen (Damaged offset) ok = damaged_journals_keep_trays S lg.history mb.inboxes a offset s.kept
+    kept_risen (NotOpened cause) ok = falls_by_lines_keep_trays S lg.history mb.inboxes a cause None s.kept
         (omega (arith, low, s.few)) (by_line (is_up mb.inboxes.up a) cause is_down ok)
 
   module _ (s : IsFabricState L F D S z w lg mb op hd ph rsv sp tb ri) (r : Right Step) (e : ri ≡ Some r)

@@ -6,8 +6,8 @@ use Rattle.qc_decl.specs.Vocabulary.{actors}
 use Rattle.qc_decl.specs.declared.declaration.Declaration.{Declaration}
 use Rattle.qc_mailbox.specs.Vocabulary.{Inboxes, IsKept, picked_in, either}
 use Rattle.qc_mailbox.specs.Picks as inboxes
-use Rattle.qc_mailbox.proofs.Bounds.{controls_shown}
-use Rattle.qc_mailbox.proofs.Picking.{none_picked, none_ready, picked_kept}
+use Rattle.qc_mailbox.proofs.Bounds.{trays_show_controls}
+use Rattle.qc_mailbox.proofs.Picking.{none_picked, none_ready, picks_are_made_by_trays}
 use Rattle.qc_mailbox.proofs.Passing.{held_either}
 use Rattle.qc_msg.specs.declared.step.Control.{Control}
 use Rattle.qc_msg.specs.Vocabulary.{Entry}
@@ -49,10 +49,10 @@ pub stops : (decl : Declaration) (script : Script) (h : List Entry) (inputs : Li
     → IsStopped decl script h inputs
 stops decl script h inputs kept is few none control picks =
     let nobody : inboxes.picked decl script (either inputs inputs) h ≡ None =
-    sym (picked_kept decl script (either inputs inputs) h kept is few) ∙ picks in
+    sym (picks_are_made_by_trays decl script (either inputs inputs) h kept is few) ∙ picks in
     record {
       none_open = none_open inputs none;
-      none_left = sym (controls_shown script h kept is) ∙ nothing_first kept.controls control;
+      none_left = sym (trays_show_controls script h kept is) ∙ nothing_first kept.controls control;
       none_ready = λ a low. none_ready decl script (either inputs inputs) h nobody a low (none_passed inputs none a);
     }
 
@@ -63,13 +63,13 @@ stopped_inputs decl script h inputs s = no_bit inputs s.none_open
 pub stopped_controls : (decl : Declaration) (script : Script) (h : List Entry) (inputs : List Bool) (kept : Inboxes)
     → IsKept script h kept → IsStopped decl script h inputs → slice_get kept.controls 0 ≡ None
 stopped_controls decl script h inputs kept is s =
-    ap (λ (cs : List Control). slice_get cs 0) (controls_shown script h kept is ∙ s.none_left)
+    ap (λ (cs : List Control). slice_get cs 0) (trays_show_controls script h kept is ∙ s.none_left)
 
 pub stopped_picks : (decl : Declaration) (script : Script) (h : List Entry) (inputs : List Bool) (kept : Inboxes)
     → IsKept script h kept → actors decl ≤ most_actors → IsStopped decl script h inputs
     → picked_in decl (either inputs inputs) kept ≡ None
 stopped_picks decl script h inputs kept is few s =
-    picked_kept decl script (either inputs inputs) h kept is few
+    picks_are_made_by_trays decl script (either inputs inputs) h kept is few
     ∙ none_picked decl script (either inputs inputs) h (λ a low clear. s.none_ready a low)
 
 -- tests of options

@@ -10,8 +10,8 @@ use Rattle.qc_decl.specs.Vocabulary.{actors}
 use Rattle.qc_decl.specs.declared.declaration.Declaration.{Declaration}
 use Rattle.qc_mailbox.specs.Vocabulary.{Inboxes, IsKept, after_take, Roomy}
 use Rattle.qc_mailbox.specs.declared.input.ReadyInput.{ReadyInput}
-use Rattle.qc_mailbox.proofs.Acting.{kept_take}
-use Rattle.qc_mailbox.proofs.Among.{ready_found}
+use Rattle.qc_mailbox.proofs.Acting.{inputs_keep_trays}
+use Rattle.qc_mailbox.proofs.Among.{ready_messages_were_sent}
 use Rattle.qc_msg.specs.declared.record.Record.{Record}
 use Rattle.qc_msg.specs.declared.step.Input.{Input}
 use Rattle.qc_msg.specs.declared.step.Input.TheVariants as inputs
@@ -67,7 +67,7 @@ module _ {L : ℕ → List Deed → Turn → Type 0} {F : ℕ → List Record �
     takes_on lg1 lg' mb' hs lr bd g mr is = steps_on s r e p q t (step_of given)
         (slice_set op (number p) true) ph m a lg1 lg' mb' hs lr bd g (omega (arith, mr, s.mail_room))
         (subst (λ (i : Inboxes). IsKept S (lg.history ++ marked (number p) (step_of given) ∷ []) i) (sym is)
-        (kept_take D S lg.history mb.inboxes (number p) given s.kept here next.rdy))
+        (inputs_keep_trays D S lg.history mb.inboxes (number p) given s.kept here next.rdy))
         (s.phase_is ∙ sym (phase_input lg.history (number p) given)) run_taken (length_set op (number p) true ∙ s.opens)
         (λ k o. dite (ℕ_discrete k (number p)) (λ i. subst
         (λ (x : ℕ). slice_get (slice_set op (number p) true) x ≡ Some true) (sym i) open_now)
@@ -102,7 +102,7 @@ module _ {L : ℕ → List Deed → Turn → Type 0} {F : ℕ → List Record �
           mine_is = m.mine_is;
           does = ap (λ (l : List Entry). deeds (number p) [] l) seen_now
               ∙ (deeds-taken (number p) lg.history given
-              (ready_found D S lg.history mb.inboxes (number p) given s.kept next.rdy)
+              (ready_messages_were_sent D S lg.history mb.inboxes (number p) given s.kept next.rdy)
               ∙ ap (λ (l : List Deed). l ++ TakesInput given ∷ []) does_then);
           room_is = m.room_is;
         }

@@ -226,6 +226,6 @@ fit decl actor before (records.Decide start) h =
     true_both _ _ (of_few before h.few) (true_both _ _ (of_administrator decl actor h.writer)
     (of_start decl start.epoch start.clock start.lines h.epochs.0 h.clocks.0 h.lines))
 
-pub as_said : (decl : Declaration) (actor before : ℕ) (rec : Record)
+pub fits_is_as_said : (decl : Declaration) (actor before : ℕ) (rec : Record)
     → (fits decl actor before rec ≡ true) ↔ IsFit decl actor before rec
-as_said decl actor before rec = (said decl actor before rec, fit decl actor before rec)
+fits_is_as_said decl actor before rec = (said decl actor before rec, fit decl actor before rec)

@@ -35,8 +35,8 @@ use Rattle.qc_front.specs.Vocabulary.{read_with, reading_takes, reads, request_o
 use Rattle.qc_front.specs.Vocabulary.{standing_of, takes, takes_in}
 use Rattle.qc_front.proofs.Apart.{AreApart}
 use Rattle.qc_front.proofs.Awaited.{asking_awaits, unnoted}
-use Rattle.qc_front.proofs.CommandsKeep.{called_holds}
-use Rattle.qc_front.proofs.Keeping.{takes_holds}
+use Rattle.qc_front.proofs.CommandsKeep.{commands_keep_hold}
+use Rattle.qc_front.proofs.Keeping.{answers_keep_hold}
 use Rattle.qc_front.proofs.Learning.{append_learns, learned, read_learns}
 use Rattle.qc_front.proofs.NotedRounds.{note_wants, round_apart}
 use Rattle.qc_front.proofs.Noting.{no_calls, note_numbered, noted_awaits}
@@ -259,13 +259,15 @@ at_once decl move h asks = record {
       h asks;
 }
 
-pub called_at_once : (decl : Declaration) (front : Front) (command : Command) → FrontHolds decl front
+pub commands_ask_at_once : (decl : Declaration) (front : Front) (command : Command) → FrontHolds decl front
     → IsNumbered front.doing → AsksAtOnce decl (called decl front command)
-called_at_once decl front command h full =
-    at_once decl (called decl front command) (called_holds decl front command h) (called_asks decl front command h full)
+commands_ask_at_once decl front command h full =
+    at_once decl (called decl front command) (commands_keep_hold decl front command h)
+        (called_asks decl front command h full)
 
-pub takes_at_once : (decl : Declaration) (front : Front) (number : ℕ) (answer : Option Answer) → FrontHolds decl front
+pub answers_ask_at_once : (decl : Declaration) (front : Front) (number : ℕ) (answer : Option Answer)
+    → FrontHolds decl front
     → IsNumbered front.doing → AsksAtOnce decl (takes decl front number answer)
-takes_at_once decl front number answer h full =
-    at_once decl (takes decl front number answer) (takes_holds decl front number answer h)
+answers_ask_at_once decl front number answer h full =
+    at_once decl (takes decl front number answer) (answers_keep_hold decl front number answer h)
     (takes_asks decl front number answer h full)

@@ -207,10 +207,10 @@ aborts_holds : (decl : Declaration) (front : Front) (t : Option Transaction) →
 aborts_holds decl front None same = same
 aborts_holds decl front (Some t) same = refl
 
-pub called_holds : (decl : Declaration) (front : Front) (command : Command) → FrontHolds decl front
+pub commands_keep_hold : (decl : Declaration) (front : Front) (command : Command) → FrontHolds decl front
     → MoveHolds decl (called decl front command)
-called_holds decl front commands.Begin h = begins_holds decl front front.transaction h h
-called_holds decl front (commands.Do object inv) h = performs_holds decl front front.transaction object inv h h
-called_holds decl front commands.Commit h = commits_holds decl front front.transaction h
-called_holds decl front commands.Abort h = aborts_holds decl front front.transaction h
-called_holds decl front (commands.Epoch number) h = h
+commands_keep_hold decl front commands.Begin h = begins_holds decl front front.transaction h h
+commands_keep_hold decl front (commands.Do object inv) h = performs_holds decl front front.transaction object inv h h
+commands_keep_hold decl front commands.Commit h = commits_holds decl front front.transaction h
+commands_keep_hold decl front commands.Abort h = aborts_holds decl front front.transaction h
+commands_keep_hold decl front (commands.Epoch number) h = h

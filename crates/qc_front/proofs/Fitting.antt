@@ -117,9 +117,10 @@ room_in decl client (Some t) Idle h = h.1
 room_in decl client (Some t) (Reading object inv calls round) h = h.1.room
 room_in decl client (Some t) (Appending object inv event calls round) h = h.1.room
 
-pub fits : (decl : Declaration) (front : Front) → IsAccepted decl → FrontHolds decl front → front.count < 2 ^ 32 - 1
+pub front_ends_fit : (decl : Declaration) (front : Front) → IsAccepted decl → FrontHolds decl front
+    → front.count < 2 ^ 32 - 1
     → FrontFits front
-fits decl front accepted h count = record {
+front_ends_fit decl front accepted h count = record {
   count = count;
   room = room_in decl front.client front.transaction front.doing h;
   few = few_in decl front.client front.transaction front.doing accepted h;

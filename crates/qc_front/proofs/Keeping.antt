@@ -153,9 +153,10 @@ takes_in_holds decl front (Appending object inv event calls round) (Some t) numb
     by (Some site) is =
         append_counts_holds decl front t object inv event calls round number site answer is here.0 here.1
 
-pub takes_holds : (decl : Declaration) (front : Front) (number : ℕ) (answer : Option Answer) → FrontHolds decl front
+pub answers_keep_hold : (decl : Declaration) (front : Front) (number : ℕ) (answer : Option Answer)
+    → FrontHolds decl front
     → MoveHolds decl (takes decl front number answer)
-takes_holds decl front number answer h = takes_in_holds decl front front.doing front.transaction number answer h h
+answers_keep_hold decl front number answer h = takes_in_holds decl front front.doing front.transaction number answer h h
 
 -- at the beginning, and where the transaction ends elsewhere
 

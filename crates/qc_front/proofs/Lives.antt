@@ -292,7 +292,8 @@ takes_in_lives decl front (Appending object inv event calls round) (Some t) numb
         (verdict (note round site (standing_of answer))) ∙ appended_lives t site answer))
         (with_keeps t.begun.lives site answer)
 
-pub takes_lives : (decl : Declaration) (front : Front) (number : ℕ) (answer : Option Answer)
+pub first_grants_give_lives : (decl : Declaration) (front : Front) (number : ℕ) (answer : Option Answer)
     → KeepsLives (lives_of front.transaction) (lives_of (takes decl front number answer).front.transaction)
     (asked_at front number) answer
-takes_lives decl front number answer = takes_in_lives decl front front.doing front.transaction number answer refl
+first_grants_give_lives decl front number answer =
+    takes_in_lives decl front front.doing front.transaction number answer refl

@@ -4,7 +4,7 @@ use Rattle.std.proofs.Common.{length, refl, sym, ap, ◌∙◌, subst, arith}
 use Rattle.std.proofs.lemmas.List.{append-nil}
 use Rattle.qc_plan.specs.Vocabulary.{RoundState, asking_all, asking_first, asking_in_turn, asking_next, asking_on}
 use Rattle.qc_plan.specs.Vocabulary.{first, may_ask, next_site, wanted}
-use Rattle.qc_plan.proofs.Rounds.{one_by_one}
+use Rattle.qc_plan.proofs.Rounds.{sites_are_asked_one_by_one}
 
 -- a round that asks no site stays as it is
 
@@ -27,7 +27,7 @@ all_asked begun last sites more none =
     sym (append-nil sites)
     ∙ ap (λ (p : List ℕ × RoundState). sites ++ p.0) (sym (stops (length last.rest) last none))
     ∙ more
-    ∙ ap (λ (p : List ℕ × RoundState). p.0) (one_by_one (length begun.rest) begun (omega arith))
+    ∙ ap (λ (p : List ℕ × RoundState). p.0) (sites_are_asked_one_by_one (length begun.rest) begun (omega arith))
 
 pub last_asked : (begun last : RoundState)
     → (asking_in_turn (length last.rest) last).1 ≡ (asking_in_turn (length begun.rest) begun).1 → next_site last ≡ None
@@ -36,7 +36,7 @@ last_asked begun last more none =
     stays last none
     ∙ ap (λ (p : List ℕ × RoundState). p.1) (sym (stops (length last.rest) last none))
     ∙ more
-    ∙ ap (λ (p : List ℕ × RoundState). p.1) (one_by_one (length begun.rest) begun (omega arith))
+    ∙ ap (λ (p : List ℕ × RoundState). p.1) (sites_are_asked_one_by_one (length begun.rest) begun (omega arith))
 
 -- once all that is wanted is asked, nothing more is
 
@@ -71,6 +71,6 @@ pub ends_asked : (r : RoundState) → wanted (asking_all r (wanted r)) ≡ []
 ends_asked r =
     let last : RoundState = asking_all r (wanted r) in
     let none : next_site last ≡ None = subst (λ (p : List ℕ × RoundState). next_site p.1 ≡ None)
-    (one_by_one (length r.rest) r (omega arith)) (last_stops (length r.rest) r (omega arith)) in
-    ap (λ (p : List ℕ × RoundState). p.0) (sym (one_by_one (length last.rest) last (omega arith))
+    (sites_are_asked_one_by_one (length r.rest) r (omega arith)) (last_stops (length r.rest) r (omega arith)) in
+    ap (λ (p : List ℕ × RoundState). p.0) (sym (sites_are_asked_one_by_one (length last.rest) last (omega arith))
     ∙ stops (length last.rest) last none)

@@ -14,5 +14,5 @@ rest_is_journal end bodies t rest image is =
     (λ i le. is_image.same i (omega (arith, le, length-append rest.front (0 ∷ rest.rest))) tt) in
     record { front = rest.front; rest = found.0; records = rest.records; closed = found.1 }
 
-pub rest_lasts : (end : ℕ) (bodies : List (List ℕ)) (t : Told) → IsAtRest end bodies t → Leaves (Holds bodies) t.now
-rest_lasts end bodies t rest image is = inl (rest_is_journal end bodies t rest image is)
+pub records_last : (end : ℕ) (bodies : List (List ℕ)) (t : Told) → IsAtRest end bodies t → Leaves (Holds bodies) t.now
+records_last end bodies t rest image is = inl (rest_is_journal end bodies t rest image is)

@@ -42,8 +42,8 @@ unsynced_image = record {
   same = λ i lt outside. absurd (open_place i lt outside.0);
 }
 
-pub first_sync : (c : List ℕ) × IsImage unsynced c × (HoldsWithOrWithout [] (5 ∷ []) c → ⊥)
-first_sync = (1 ∷ 9 ∷ [], unsynced_image, no_list)
+pub first_sync_is_needed : (c : List ℕ) × IsImage unsynced c × (HoldsWithOrWithout [] (5 ∷ []) c → ⊥)
+first_sync_is_needed = (1 ∷ 9 ∷ [], unsynced_image, no_list)
 
 abbrev in_one_piece : Stored
 in_one_piece = wrote (settled (0 ∷ [])) (at_once 0 (5 ∷ []))
@@ -59,8 +59,8 @@ piece_image = record {
   same = λ i lt outside. absurd (first_place i lt outside.0);
 }
 
-pub two_writes : (c : List ℕ) × IsImage in_one_piece c × (HoldsWithOrWithout [] (5 ∷ []) c → ⊥)
-two_writes = (1 ∷ 9 ∷ [], piece_image, no_list)
+pub two_writes_are_needed : (c : List ℕ) × IsImage in_one_piece c × (HoldsWithOrWithout [] (5 ∷ []) c → ⊥)
+two_writes_are_needed = (1 ∷ 9 ∷ [], piece_image, no_list)
 
 -- the record behind its closed gate
 abbrev shut : List ℕ
@@ -72,8 +72,8 @@ shut_image = record { no_shorter = omega arith; no_longer = omega arith; same = 
 shut_holds : Holds [] shut
 shut_holds = inl (record { front = []; rest = counted (5 ∷ []) ++ 0 ∷ []; records = refl; closed = refl })
 
-pub last_sync : (c : List ℕ) × IsImage (wrote (settled shut) (gate 0)) c × (Holds ((5 ∷ []) ∷ []) c → ⊥)
-last_sync = (shut, shut_image, λ h. none_or_one (one_list [] ((5 ∷ []) ∷ []) shut shut_holds h))
+pub last_sync_is_needed : (c : List ℕ) × IsImage (wrote (settled shut) (gate 0)) c × (Holds ((5 ∷ []) ∷ []) c → ⊥)
+last_sync_is_needed = (shut, shut_image, λ h. none_or_one (one_list [] ((5 ∷ []) ∷ []) shut shut_holds h))
   where
     none_or_one : ◌≡◌ {A = List (List ℕ)} [] ((5 ∷ []) ∷ []) → ⊥
     none_or_one e = absurd (cc e)

@@ -92,19 +92,19 @@ cond_and : (t u : Bool) → cond t false u ≡ (not t && u)
 cond_and true u = refl
 cond_and false u = refl
 
-pub cut_parts : (cuts : List Bool) (a b x y : ℕ) → length cuts ≡ most_actors * most_actors → a < most_actors
+pub cuts_part_two_actors : (cuts : List Bool) (a b x y : ℕ) → length cuts ≡ most_actors * most_actors → a < most_actors
     → b < most_actors → x < most_actors → y < most_actors
     → is_cut (with_cut cuts a b) x y ≡ (is_pair a b x y || is_cut cuts x y)
-cut_parts cuts a b x y size al bl xl yl =
+cuts_part_two_actors cuts a b x y size al bl xl yl =
     let low : pair_place a b < length cuts = subst (λ n. pair_place a b < n) (sym size) (within a b al bl) in
     written cuts (pair_place a b) (pair_place x y) true low
     ∙ cond_or (pair_place a b == pair_place x y) (is_cut cuts x y)
     ∙ ap (λ t. t || is_cut cuts x y) (same_pair a b x y al bl xl yl)
 
-pub heal_joins : (cuts : List Bool) (a b x y : ℕ) → length cuts ≡ most_actors * most_actors → a < most_actors
+pub heals_join_two_actors : (cuts : List Bool) (a b x y : ℕ) → length cuts ≡ most_actors * most_actors → a < most_actors
     → b < most_actors → x < most_actors → y < most_actors
     → is_cut (without_cut cuts a b) x y ≡ (not (is_pair a b x y) && is_cut cuts x y)
-heal_joins cuts a b x y size al bl xl yl =
+heals_join_two_actors cuts a b x y size al bl xl yl =
     let low : pair_place a b < length cuts = subst (λ n. pair_place a b < n) (sym size) (within a b al bl) in
     written cuts (pair_place a b) (pair_place x y) false low
     ∙ cond_and (pair_place a b == pair_place x y) (is_cut cuts x y)

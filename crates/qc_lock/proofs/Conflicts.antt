@@ -67,9 +67,9 @@ read_back relation held tx object inv d c =
     flat_map-in (lines_in_way relation tx object inv) d c.holder held c.holds
     (subst (λ x. In x (lines_in_way relation tx object inv c.holder)) (sym c.told) here)
 
-pub read_smallest : (relation : List ℕ) (held : List Held) (tx : TxId) (object inv : ℕ)
+pub reads_are_refused_on_conflict : (relation : List ℕ) (held : List Held) (tx : TxId) (object inv : ℕ)
     → IsSmallest (IsReadConflict relation held tx object inv) (read_clash relation held tx object inv)
-read_smallest relation held tx object inv =
+reads_are_refused_on_conflict relation held tx object inv =
     smallest_by (λ d. In d (read_clashes relation held tx object inv)) (IsReadConflict relation held tx object inv)
     (read_clash relation held tx object inv)
     (read_to relation held tx object inv) (read_back relation held tx object inv)
@@ -121,9 +121,9 @@ append_back relation held tx own d c =
     (subst (λ x. In x (locks_in_way relation tx c.line c.holder)) (sym c.told) here) in
     flat_map-in (λ (line : OwnLine). flat_map (locks_in_way relation tx line) held) d c.line own c.given way
 
-pub append_smallest : (relation : List ℕ) (held : List Held) (tx : TxId) (own : List OwnLine)
+pub appends_are_refused_on_conflict : (relation : List ℕ) (held : List Held) (tx : TxId) (own : List OwnLine)
     → IsSmallest (IsAppendConflict relation held tx own) (append_clash relation held tx own)
-append_smallest relation held tx own =
+appends_are_refused_on_conflict relation held tx own =
     smallest_by (λ d. In d (append_clashes relation held tx own)) (IsAppendConflict relation held tx own)
     (append_clash relation held tx own)
     (append_to relation held tx own) (append_back relation held tx own)
@@ -139,14 +139,16 @@ none_of : (P : Clash → Type 0) (answer : Option Clash) (d : Clash) → IsSmall
 none_of P None d least is p = least d p
 none_of P (Some c) d least is p = absurd (cc)
 
-pub read_free : (relation : List ℕ) (held : List Held) (tx : TxId) (object inv : ℕ) (holder : Held) (line : OwnLine)
+pub granted_reads_conflict_with_nothing : (relation : List ℕ) (held : List Held) (tx : TxId) (object inv : ℕ)
+    (holder : Held) (line : OwnLine)
     → read_clash relation held tx object inv ≡ None → In holder held → same_tx holder.tx tx ≡ false → In line holder.own
     → line.object ≡ object
     → depends relation inv line.event ≡ false
-read_free relation held tx object inv holder line free holds another own here =
+granted_reads_conflict_with_nothing relation held tx object inv holder line free holds another own here =
     is_false (depends relation inv line.event) (λ depended.
     none_of (IsReadConflict relation held tx object inv) (read_clash relation held tx object inv)
-    (record { holder = holder.tx; inv = inv; event = line.event }) (read_smallest relation held tx object inv) free
+    (record { holder = holder.tx; inv = inv; event = line.event })
+        (reads_are_refused_on_conflict relation held tx object inv) free
     (record {
       holder = holder;
       line = line;
@@ -158,15 +160,17 @@ read_free relation held tx object inv holder line free holds another own here =
       told = refl;
     }))
 
-pub append_free : (relation : List ℕ) (held : List Held) (tx : TxId) (own : List OwnLine) (line : OwnLine)
+pub granted_appends_conflict_with_nothing : (relation : List ℕ) (held : List Held) (tx : TxId) (own : List OwnLine)
+    (line : OwnLine)
     (holder : Held) (lock : ReadLock)
     → append_clash relation held tx own ≡ None → In line own → In holder held → same_tx holder.tx tx ≡ false
     → In lock holder.locks → lock.object ≡ line.object
     → depends relation lock.inv line.event ≡ false
-append_free relation held tx own line holder lock free given holds another locked here =
+granted_appends_conflict_with_nothing relation held tx own line holder lock free given holds another locked here =
     is_false (depends relation lock.inv line.event) (λ depended.
     none_of (IsAppendConflict relation held tx own) (append_clash relation held tx own)
-    (record { holder = holder.tx; inv = lock.inv; event = line.event }) (append_smallest relation held tx own) free
+    (record { holder = holder.tx; inv = lock.inv; event = line.event })
+        (appends_are_refused_on_conflict relation held tx own) free
     (record {
       line = line;
       holder = holder;

@@ -13,7 +13,7 @@ use Rattle.std.proofs.lemmas.Bool.Decides.{nat_tests}
 use Rattle.std.proofs.lemmas.Map.Keys.{le_from_not_gt}
 use Rattle.qc_stamp.specs.declared.stamp.TxId.{TxId}
 use Rattle.qc_stamp.specs.Vocabulary.{tx_cmp}
-use Rattle.qc_stamp.proofs.Orders.{tx_order}
+use Rattle.qc_stamp.proofs.Orders.{transactions_are_ordered}
 use Rattle.qc_lock.specs.declared.places.Place.{Place}
 use Rattle.qc_lock.specs.Vocabulary.{IsFirst, holder_at, is_there, place_cmp, same_tx}
 use Rattle.qc_lock.proofs.Entries.{same_self, tx_apart}
@@ -135,7 +135,7 @@ beside_next places object number tx next first is = by next is where
     order : (o : Ordering) → tx_cmp tx other ≡ o → is_lt o ≡ true
     order Less same = refl
     order Equal same =
-        let equal : tx ≡ other = tx_order.apart tx other same in
+        let equal : tx ≡ other = transactions_are_ordered.apart tx other same in
         absurd (both_ways (same_tx other tx) (not-true (same_tx other tx) apart)
         (subst (λ u. same_tx u tx ≡ true) equal (same_self tx)))
     order Greater same = absurd (first.2 other refl there same)
@@ -143,7 +143,7 @@ beside_next places object number tx next first is = by next is where
   apart : (holder : TxId) → is_lt (tx_cmp tx holder) ≡ true → not (same_tx holder tx) ≡ true
   apart holder less = ap not (false_from_ne_true (same_tx holder tx) (λ same.
       let itself : tx_cmp tx holder ≡ Equal = subst (λ u. tx_cmp tx u ≡ Equal) (sym (tx_apart holder tx same))
-      (cmp_self tx_order.total tx) in
+      (cmp_self transactions_are_ordered.total tx) in
       both_ways (is_lt (tx_cmp tx holder)) (ap is_lt itself) less))
 
   by : (next : Option TxId) → IsFirst places object number (λ other. is_lt (tx_cmp tx other)) next

@@ -15,7 +15,7 @@ use Rattle.std.proofs.lemmas.Cmp.{nat_cmp_total}
 use Rattle.std.proofs.lemmas.Map.Keys.{sorted_head, sorted_tail}
 use Rattle.qc_stamp.specs.declared.stamp.TxId.{TxId}
 use Rattle.qc_stamp.specs.Vocabulary.{tx_cmp}
-use Rattle.qc_stamp.proofs.Orders.{tx_order}
+use Rattle.qc_stamp.proofs.Orders.{transactions_are_ordered}
 use Rattle.qc_lock.specs.Vocabulary.{AreBelow, number_of, one_of, put_one}
 use Rattle.qc_lock.specs.Numbered.{same_tx}
 use Rattle.qc_lock.proofs.Entries.{same_self, tx_apart}
@@ -38,10 +38,11 @@ equal_is Greater h = absurd (let never : ⊥ = cc in never)
 pub tx_same : (a b : TxId) → is_eq (tx_cmp a b) ≡ same_tx a b
 tx_same a b = by (same_tx a b) refl where
   by : (t : Bool) → same_tx a b ≡ t → is_eq (tx_cmp a b) ≡ t
-  by true is = subst (λ u. is_eq (tx_cmp a u) ≡ true) (tx_apart a b is) (ap is_eq (cmp_self tx_order.total a))
+  by true is =
+      subst (λ u. is_eq (tx_cmp a u) ≡ true) (tx_apart a b is) (ap is_eq (cmp_self transactions_are_ordered.total a))
   by false is = false_from_ne_true (is_eq (tx_cmp a b)) (λ equal.
       both_ways (same_tx a b) is
-      (subst (λ u. same_tx a u ≡ true) (tx_order.apart a b (equal_is (tx_cmp a b) equal)) (same_self a)))
+      (subst (λ u. same_tx a u ≡ true) (transactions_are_ordered.apart a b (equal_is (tx_cmp a b) equal)) (same_self a)))
 
 pub nat_self : (n : ℕ) → nat_cmp n n ≡ Equal
 nat_self n = cmp_self nat_cmp_total n

@@ -21,7 +21,7 @@ use Rattle.qc_lock.specs.Vocabulary.{IsReadConflict, IsReadPlaced, IsSingle, IsS
 use Rattle.qc_lock.specs.Vocabulary.{entry_of, has_line, has_read, held_of, is_there, lines_held, read_clash}
 use Rattle.qc_lock.specs.Vocabulary.{reads_held, same_tx}
 use Rattle.qc_lock.proofs.SmallestOf.{smallest_by}
-use Rattle.qc_lock.proofs.Conflicts.{append_smallest, read_smallest}
+use Rattle.qc_lock.proofs.Conflicts.{appends_are_refused_on_conflict, reads_are_refused_on_conflict}
 use Rattle.qc_lock.proofs.Entries.{same_self, tx_apart}
 use Rattle.qc_lock.proofs.NumberedEntries.{nat_self}
 use Rattle.qc_lock.proofs.Ones.{holder}
@@ -174,7 +174,7 @@ read_found relation held places tx object inv answer single index least =
     (smallest_by (IsReadPlaced relation places tx object inv) (IsReadConflict relation held tx object inv) answer
     (λ d found. read_conflict relation held places tx object inv d index found)
     (λ d c. read_placed relation held places tx object inv d single index c) least)
-    (read_smallest relation held tx object inv)
+    (reads_are_refused_on_conflict relation held tx object inv)
 
 -- appends
 
@@ -237,4 +237,4 @@ append_found relation held places tx own answer single index least =
     (smallest_by (IsAppendPlaced relation places tx own) (IsAppendConflict relation held tx own) answer
     (λ d found. append_conflict relation held places tx own d index found)
     (λ d c. append_placed relation held places tx own d single index c) least)
-    (append_smallest relation held tx own)
+    (appends_are_refused_on_conflict relation held tx own)

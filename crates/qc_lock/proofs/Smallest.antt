@@ -7,7 +7,7 @@ use Rattle.std.specs.declared.cmp.Ordering.TheVariants.{Less, Equal, Greater}
 use Rattle.std.proofs.Math.Seq.{take-suc}
 use Rattle.std.proofs.lemmas.Bool.{cases_lt}
 use Rattle.qc_stamp.specs.Vocabulary.{tx_cmp}
-use Rattle.qc_stamp.proofs.Orders.{first_Equal, nat_apart, second_Equal, tx_order}
+use Rattle.qc_stamp.proofs.Orders.{first_Equal, nat_apart, second_Equal, transactions_are_ordered}
 use Rattle.qc_entry.specs.declared.line.OwnLine.{OwnLine}
 use Rattle.qc_list.specs.Vocabulary.{by_order}
 use Rattle.qc_lock.specs.declared.clash.Clash.{Clash}
@@ -59,7 +59,7 @@ clash_apart : (a b : Clash) → clash_cmp a b ≡ Equal → a ≡ b
 clash_apart a b h =
     let rest : ordering_then (nat_cmp a.inv b.inv) (nat_cmp a.event b.event) ≡ Equal =
     second_Equal (tx_cmp a.holder b.holder) _ h in
-    let holder : a.holder ≡ b.holder = tx_order.apart a.holder b.holder (first_Equal _ _ h) in
+    let holder : a.holder ≡ b.holder = transactions_are_ordered.apart a.holder b.holder (first_Equal _ _ h) in
     let inv : a.inv ≡ b.inv = nat_apart _ _ (first_Equal _ _ rest) in
     let event : a.event ≡ b.event = nat_apart _ _ (second_Equal (nat_cmp a.inv b.inv) _ rest) in
     λ i. record { holder = holder i; inv = inv i; event = event i }

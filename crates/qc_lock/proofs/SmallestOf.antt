@@ -7,14 +7,14 @@ use Rattle.std.specs.Ordering.{ordering_reverse}
 use Rattle.std.specs.declared.cmp.Ordering.{Ordering}
 use Rattle.std.specs.declared.cmp.Ordering.TheVariants.{Less, Equal, Greater}
 use Rattle.std.proofs.lemmas.Cmp.{then_total, on_total, nat_cmp_total}
-use Rattle.qc_stamp.proofs.Orders.{tx_order}
+use Rattle.qc_stamp.proofs.Orders.{transactions_are_ordered}
 use Rattle.qc_list.specs.Vocabulary.{by_order}
 use Rattle.qc_lock.specs.declared.clash.Clash.{Clash}
 use Rattle.qc_lock.specs.Vocabulary.{In, IsSmallest, clash_cmp, smaller, smallest}
 
 pub clash_total : IsTotalOrder clash_cmp
 clash_total =
-    then_total (on_total (λ (c : Clash). c.holder) tx_order.total)
+    then_total (on_total (λ (c : Clash). c.holder) transactions_are_ordered.total)
     (then_total (on_total (λ (c : Clash). c.inv) nat_cmp_total) (on_total (λ (c : Clash). c.event) nat_cmp_total))
 
 never_both : (o : Ordering) → o ≡ Less → o ≡ Greater → ⊥

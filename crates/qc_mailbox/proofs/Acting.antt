@@ -85,10 +85,10 @@ input_sends_nothing a (inputs.Called command) = refl
 input_sends_nothing a (inputs.Got envelope) = refl
 input_sends_nothing a (inputs.Lost number) = refl
 
-pub kept_take : (decl : Declaration) (script : Script) (h : List Entry) (old : Inboxes) (a : ℕ) (g : Input)
+pub inputs_keep_trays : (decl : Declaration) (script : Script) (h : List Entry) (old : Inboxes) (a : ℕ) (g : Input)
     → IsKept script h old → a < most_actors → ready decl script a h ≡ Some g
     → IsKept script (h ++ marked a (step_of g) ∷ []) (after_take old a)
-kept_take decl script h old a g kept within is =
+inputs_keep_trays decl script h old a g kept within is =
     kept_step script h (marked a (step_of g)) old (after_take old a) kept (input_sends_nothing a g) refl refl kept.ups
     (length-set old.trays a _ ∙ kept.trays)
     (λ b b_within shows.
@@ -147,11 +147,11 @@ replied script h old a (Some reply) kept within =
     (λ other. sym (ap (λ (t : Bool). tray_of (calls_of b h)
     (if t then reply_told (inbox script b h) else inbox script b h)) other))))
 
-pub kept_turn : (script : Script) (h : List Entry) (old : Inboxes) (a : ℕ) (turn : Turn) → IsKept script h old
+pub turns_keep_trays : (script : Script) (h : List Entry) (old : Inboxes) (a : ℕ) (turn : Turn) → IsKept script h old
     → a < most_actors → Every (λ (p : Posting). p.to < most_actors) turn.sends
     → MayWrite (is_up old.up a) turn.write
     → IsKept script (h ++ by a (posted (length (mail h)) turn)) (after_turn old a turn)
-kept_turn script h old a turn kept within receivers may =
+turns_keep_trays script h old a turn kept within receivers may =
     subst (λ (n : ℕ). IsKept script (h ++ by a (posted n turn)) (after_turn old a turn)) kept.sent
     (subst (λ (x : List Entry). IsKept script x (after_turn old a turn)) whole
     (replied script ((h ++ by a (wrote turn.write)) ++ by a (sents old.counts.all turn.sends))

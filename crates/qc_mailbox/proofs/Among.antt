@@ -169,22 +169,25 @@ pub sent_ready : (decl : Declaration) (script : Script) (h : List Entry) (a : �
 sent_ready decl script h a g numbered ready_ =
     first_found decl a (mail h) (inbox script a h) g numbered (inbox_waits script a h) ready_
 
-pub ready_found : (decl : Declaration) (script : Script) (h : List Entry) (kept : Inboxes) (a : ℕ) (g : Input)
+pub ready_messages_were_sent : (decl : Declaration) (script : Script) (h : List Entry) (kept : Inboxes) (a : ℕ)
+    (g : Input)
     → IsKept script h kept → ready.ready decl script a h ≡ Some g → WasSentTo a (mail h) g
-ready_found decl script h kept a g is ready_ =
+ready_messages_were_sent decl script h kept a g is ready_ =
     first_found decl a (mail h) (inbox script a h) g is.numbered (inbox_waits script a h) ready_
 
 -- all that waits
-pub copies_found : (script : Script) (h : List Entry) (kept : Inboxes) (a : ℕ) → IsKept script h kept
+pub waiting_messages_were_sent : (script : Script) (h : List Entry) (kept : Inboxes) (a : ℕ) → IsKept script h kept
     → Every (λ (e : Envelope). WasSentTo a (mail h) (inputs.Got e)) (inbox script a h).copies
-copies_found script h kept a is =
+waiting_messages_were_sent script h kept a is =
     every-weaker (IsSentTo (mail h) a) (λ (e : Envelope). WasSentTo a (mail h) (inputs.Got e))
     (λ e sent. found (mail h) a e is.numbered sent) (inbox script a h).copies (inbox_waits script a h).copies
 
 -- who sent a message that is ready is an actor
-pub sender_within : (decl : Declaration) (script : Script) (h : List Entry) (kept : Inboxes) (a : ℕ) (e : Envelope)
+pub ready_messages_have_senders : (decl : Declaration) (script : Script) (h : List Entry) (kept : Inboxes) (a : ℕ)
+    (e : Envelope)
     → IsKept script h kept → ready.ready decl script a h ≡ Some (inputs.Got e)
     → e.from < most_actors
-sender_within decl script h kept a e is ready_ =
-    let at : WasSentTo a (mail h) (inputs.Got e) = ready_found decl script h kept a (inputs.Got e) is ready_ in
+ready_messages_have_senders decl script h kept a e is ready_ =
+    let at : WasSentTo a (mail h) (inputs.Got e) =
+            ready_messages_were_sent decl script h kept a (inputs.Got e) is ready_ in
     (every-at (λ (x : Envelope). (x.from < most_actors) × (x.to < most_actors)) (mail h) e.number e is.ends at.0).0

@@ -63,9 +63,9 @@ calls_few script h kept a is within =
 
 -- the control lines left
 
-pub controls_shown : (script : Script) (h : List Entry) (kept : Inboxes) → IsKept script h kept
+pub trays_show_controls : (script : Script) (h : List Entry) (kept : Inboxes) → IsKept script h kept
     → kept.controls ≡ controls_left script h
-controls_shown script h kept is = let shows : Shows kept 0 (calls_of 0 h) (inbox script 0 h) =
+trays_show_controls script h kept is = let shows : Shows kept 0 (calls_of 0 h) (inbox script 0 h) =
     is.inboxes 0 (omega arith) in sym shows.controls
 
 within : (decl : Declaration) → administrator decl < most_actors → (c : Control) → IsControlFor decl c → IsWithin c
@@ -171,5 +171,5 @@ pub controls_within : (decl : Declaration) (script : Script) (h : List Entry) (k
     → IsScriptFor decl script → administrator decl < most_actors
     → IfSome (slice_get kept.controls 0) IsWithin
 controls_within decl script h kept is sound few =
-    subst (λ (cs : List Control). IfSome (slice_get cs 0) IsWithin) (sym (controls_shown script h kept is))
+    subst (λ (cs : List Control). IfSome (slice_get cs 0) IsWithin) (sym (trays_show_controls script h kept is))
     (first_within (controls_left script h) (steps_within decl script few sound 0 h empty_inbox tt))

@@ -127,38 +127,40 @@ pub length-gone : (kept : Inboxes) → length kept.trays ≡ most_actors
 length-gone kept long = length-each (tray_opened (none_left (acting kept.up (drop 1 kept.controls)))) kept.up kept.trays
     ∙ long
 
-pub kept_control : (script : Script) (h : List Entry) (old : Inboxes) (line : Control) (step : Step) (controller : ℕ)
+pub controls_keep_trays : (script : Script) (h : List Entry) (old : Inboxes) (line : Control) (step : Step)
+    (controller : ℕ)
     → IsKept script h old → controller_step line ≡ Some step
     → IsKept script (h ++ marked controller step ∷ []) (after_control old line)
-kept_control script h old (controls.Phase k) step controller kept is = absurd (let never : ⊥ = cc in never)
-kept_control script h old (controls.Cut x y) step controller kept is =
+controls_keep_trays script h old (controls.Phase k) step controller kept is = absurd (let never : ⊥ = cc in never)
+controls_keep_trays script h old (controls.Cut x y) step controller kept is =
     let said : Cut x y ≡ step = some_step (Cut x y) step is in
     subst (λ (s : Step). IsKept script (h ++ marked controller s ∷ []) (after_control old (controls.Cut x y))) said
     (kept_step script h (marked controller (Cut x y)) old
     (after_control old (controls.Cut x y)) kept refl refl refl kept.ups (length-gone old kept.trays)
     (λ a within shows. gone_shown (record old { cuts = with_cut old.cuts x y }) a (calls_of a h) _ kept.trays within
     (cut_shown old a (calls_of a h) (inbox script a h) (λ (cuts : List Bool). with_cut cuts x y) shows)))
-kept_control script h old (controls.Heal x y) step controller kept is =
+controls_keep_trays script h old (controls.Heal x y) step controller kept is =
     let said : Heal x y ≡ step = some_step (Heal x y) step is in
     subst (λ (s : Step). IsKept script (h ++ marked controller s ∷ []) (after_control old (controls.Heal x y))) said
     (kept_step script h (marked controller (Heal x y)) old
     (after_control old (controls.Heal x y)) kept refl refl refl kept.ups (length-gone old kept.trays)
     (λ a within shows. gone_shown (record old { cuts = without_cut old.cuts x y }) a (calls_of a h) _ kept.trays within
     (cut_shown old a (calls_of a h) (inbox script a h) (λ (cuts : List Bool). without_cut cuts x y) shows)))
-kept_control script h old (controls.Armed actor kind at) step controller kept is =
+controls_keep_trays script h old (controls.Armed actor kind at) step controller kept is =
     let said : Armed actor kind at ≡ step = some_step (Armed actor kind at) step is in
     subst (λ (s : Step). IsKept script (h ++ marked controller s ∷ [])
     (after_control old (controls.Armed actor kind at))) said
     (kept_step script h (marked controller (Armed actor kind at)) old
     (after_control old (controls.Armed actor kind at)) kept refl refl refl kept.ups (length-gone old kept.trays)
     (λ a within shows. gone_shown old a (calls_of a h) (inbox script a h) kept.trays within shows))
-kept_control script h old (controls.Crash a) step controller kept is = absurd (let never : ⊥ = cc in never)
-kept_control script h old (controls.Restart a) step controller kept is = absurd (let never : ⊥ = cc in never)
+controls_keep_trays script h old (controls.Crash a) step controller kept is = absurd (let never : ⊥ = cc in never)
+controls_keep_trays script h old (controls.Restart a) step controller kept is = absurd (let never : ⊥ = cc in never)
 
 -- a journal that is damaged: its actor stays down, and the line has acted
-pub kept_damage : (script : Script) (h : List Entry) (old : Inboxes) (a offset : ℕ) → IsKept script h old
+pub damaged_journals_keep_trays : (script : Script) (h : List Entry) (old : Inboxes) (a offset : ℕ)
+    → IsKept script h old
     → IsKept script (h ++ marked a (Damaged offset) ∷ []) (with_control_gone old)
-kept_damage script h old a offset kept =
+damaged_journals_keep_trays script h old a offset kept =
     kept_step script h (marked a (Damaged offset)) old (with_control_gone old) kept refl refl refl kept.ups
     (length-gone old kept.trays)
     (λ b within shows. gone_shown old b (calls_of b h) (inbox script b h) kept.trays within shows)
@@ -249,10 +251,10 @@ phase_shown kept a calls i phase long within shows =
     (record (tray_of calls i) { commands = i.commands ++ commands_for a phase.commands })) (sym shows.up)
     ∙ begun_shown a calls i phase))))
 
-pub kept_phase : (script : Script) (h : List Entry) (old : Inboxes) (n : ℕ) (phase : PhaseLines) (controller : ℕ)
+pub phases_keep_trays : (script : Script) (h : List Entry) (old : Inboxes) (n : ℕ) (phase : PhaseLines) (controller : ℕ)
     → IsKept script h old → slice_get script.phases n ≡ Some phase
     → IsKept script (h ++ marked controller (Phase (n + 1)) ∷ []) (after_phase old phase)
-kept_phase script h old n phase controller kept is =
+phases_keep_trays script h old n phase controller kept is =
     kept_step script h (marked controller (Phase (n + 1))) old (after_phase old phase) kept refl refl refl kept.ups
     (length-each (tray_begun (none_left (acting old.up phase.controls))) old.up (with_commands old.trays phase.commands)
     ∙ (length-with_commands old.trays phase.commands ∙ kept.trays))

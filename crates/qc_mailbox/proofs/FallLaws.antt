@@ -31,9 +31,10 @@ use Rattle.qc_mailbox.proofs.Standing.{ClosedWhile, IsSettled, Stands}
 
 -- between lines
 
-pub lines_hold_back : (decl : Declaration) (script : Script) (h : List Entry) (line : Control) (lines : List Control)
+pub nothing_is_ready_while_a_line_is_left : (decl : Declaration) (script : Script) (h : List Entry) (line : Control)
+    (lines : List Control)
     → controls_left script h ≡ line ∷ lines → (a : ℕ) → a < most_actors → ready decl script a h ≡ None
-lines_hold_back decl script h line lines left a within =
+nothing_is_ready_while_a_line_is_left decl script h line lines left a within =
     ap (λ (cs : List Control). after_controls cs
     (first_copy (inbox script a h).copies (first_lost (inbox script a h).lost
     (command_in decl a (inbox script a h)))))

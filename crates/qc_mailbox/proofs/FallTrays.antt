@@ -24,7 +24,7 @@ use Rattle.qc_script.specs.declared.script.Script.{Script}
 use Rattle.qc_mailbox.specs.Vocabulary.{Inboxes, IsKept, MayPost, Shows, Tray, after_fall, after_fall_by_line}
 use Rattle.qc_mailbox.specs.Vocabulary.{after_post_as, after_reply, after_rise, after_rising_as, after_send}
 use Rattle.qc_mailbox.specs.Vocabulary.{after_sends, calls_of, empty_tray, tray_at, tray_emptied, tray_losing, tray_of}
-use Rattle.qc_mailbox.proofs.Acting.{kept_turn, own_tray, replied, sent}
+use Rattle.qc_mailbox.proofs.Acting.{turns_keep_trays, own_tray, replied, sent}
 use Rattle.qc_mailbox.proofs.Controlling.{gone_shown, length-gone, shown_after}
 use Rattle.qc_mailbox.proofs.Keeping.{kept_step}
 
@@ -99,9 +99,9 @@ module _ (script : Script) (h : List Entry) (old : Inboxes) (r : ℕ) (cause : F
       (fell_shown old b (calls_of b h) (inbox script b h) r kept.trays b_within within shows))
 
   -- by the line that is next
-  pub kept_fall_by_line : is_by_line (is_up old.up r) cause ≡ true
+  pub falls_by_lines_keep_trays : is_by_line (is_up old.up r) cause ≡ true
       → IsKept script (h ++ marked r (Fell cause pending) ∷ []) (after_fall_by_line old r)
-  kept_fall_by_line is =
+  falls_by_lines_keep_trays is =
       kept_step script h (marked r (Fell cause pending)) old (after_fall_by_line old r) kept refl refl refl
       (length-set old.up r false ∙ kept.ups) (length-gone (after_fall old r) (length-fall old r kept.trays))
       (λ b b_within shows.
@@ -187,25 +187,26 @@ module _ (script : Script) (h : List Entry) (old : Inboxes) (a : ℕ) (turn : Tu
   falls_by_line end ps reply receivers down =
       subst (λ (x : List Entry). IsKept script x (after_fall_by_line (after_said old a ps reply) a))
       (ends_with h a (sents old.counts.all ps) (told reply) (cause_of end) turn.write)
-      (kept_fall_by_line script (h ++ by a (sents old.counts.all ps ++ told reply)) (after_said old a ps reply) a
+      (falls_by_lines_keep_trays script (h ++ by a (sents old.counts.all ps ++ told reply)) (after_said old a ps reply)
+          a
       (cause_of end) turn.write (said script h old a ps reply kept within receivers) within
       (is_line end (is_up (after_said old a ps reply).up a) (here ps reply false down)))
 
   posts_as : (end : Appended) → Every (λ (p : Posting). p.to < most_actors) (sends_as end turn)
       → MayPost (is_up old.up a) end turn.write
       → IsKept script (h ++ by a (posted_as end (length (mail h)) turn)) (after_post_as end old a turn)
-  posts_as Done receivers may = kept_turn script h old a turn kept within receivers may
+  posts_as Done receivers may = turns_keep_trays script h old a turn kept within receivers may
   posts_as Failed receivers may = subst (λ (n : ℕ). IsKept script (h ++ by a (posted_as Failed n turn))
       (after_post_as Failed old a turn)) kept.sent (falls Failed turn.failed_sends turn.failed_told receivers may)
   posts_as Stopped receivers may = falls Stopped [] turn.failed_told receivers may
 
 -- an actor posts a turn
-pub kept_post : (script : Script) (h : List Entry) (old : Inboxes) (a : ℕ) (turn : Turn) → IsKept script h old
+pub posts_keep_trays : (script : Script) (h : List Entry) (old : Inboxes) (a : ℕ) (turn : Turn) → IsKept script h old
     → a < most_actors → Every (λ (p : Posting). p.to < most_actors) (sends_as turn.append turn)
     → MayPost (is_up old.up a) turn.append turn.write
     → IsKept script (h ++ by a (posted_as turn.append (length (mail h)) turn))
     (after_post_as turn.append old a turn)
-kept_post script h old a turn kept within receivers may =
+posts_keep_trays script h old a turn kept within receivers may =
     posts_as script h old a turn kept within turn.append receivers may
 
 -- an actor rises
@@ -263,12 +264,12 @@ module _ (script : Script) (h : List Entry) (old : Inboxes) (a : ℕ) (records :
       (rose script h old a records kept) within Stopped [] turn.failed_told receivers down
 
 -- an actor that is down rises and posts its rising turn, which has a record
-pub kept_rise : (script : Script) (h : List Entry) (old : Inboxes) (a : ℕ) (records : List Record) (turn : Turn)
+pub rises_keep_trays : (script : Script) (h : List Entry) (old : Inboxes) (a : ℕ) (records : List Record) (turn : Turn)
     → IsKept script h old → a < most_actors → is_up old.up a ≡ false → HasRecord turn.write
     → Every (λ (p : Posting). p.to < most_actors) (sends_as turn.append turn)
     → IsKept script (h ++ by a (Rose records ∷ posted_as turn.append (length (mail h)) turn))
     (after_rising_as turn.append old a turn)
-kept_rise script h old a records turn kept within down has receivers =
+rises_keep_trays script h old a records turn kept within down has receivers =
     subst (λ (n : ℕ). IsKept script (h ++ by a (Rose records ∷ posted_as turn.append n turn))
     (after_rising_as turn.append old a turn)) kept.sent
     (subst (λ (x : List Entry). IsKept script x (after_rising_as turn.append old a turn))

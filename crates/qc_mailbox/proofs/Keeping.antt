@@ -132,8 +132,8 @@ kept_send script h old from p kept from_within to_within = record {
     sends = marked from (Sent old.counts.all p.to p.message)
 
 -- before the first step
-pub kept_begins : (script : Script) → IsKept script [] (empty_inboxes script)
-kept_begins script = record {
+pub new_trays_are_kept : (script : Script) → IsKept script [] (empty_inboxes script)
+new_trays_are_kept script = record {
   links = refl;
   sent = refl;
   numbered = λ n e found. absurd (let never : ⊥ = cc in never);

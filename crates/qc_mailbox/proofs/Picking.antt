@@ -17,7 +17,7 @@ use Rattle.qc_mailbox.specs.Vocabulary.{sooner, tray_at, unless_held}
 use Rattle.qc_mailbox.specs.declared.input.ReadyInput.{ReadyInput}
 use Rattle.qc_mailbox.specs.declared.input.Candidate.{Candidate}
 use Rattle.qc_mailbox.specs.declared.input.Rank.{Rank}
-use Rattle.qc_mailbox.proofs.Seeing.{ready_kept}
+use Rattle.qc_mailbox.proofs.Seeing.{trays_show_what_is_ready}
 use Rattle.qc_link.specs.Vocabulary.{most_actors}
 
 -- the first of some actors, by ranks that are the same
@@ -52,16 +52,17 @@ rank_kept decl script held h kept a is within =
     let calls : (tray_at kept.trays a).calls ≡ calls_of a h = ap (λ (t : Tray). t.calls) shows.tray in
     ap (λ (n : ℕ). unless_held (is_held held a) (option_map (input_rank n) (input_in decl a kept))) calls
     ∙ (ap (λ (o : Option ReadyInput). unless_held (is_held held a) (option_map (input_rank (calls_of a h)) o))
-    (sym (ready_kept decl script h kept a is within))
+    (sym (trays_show_what_is_ready decl script h kept a is within))
     ∙ ap (λ (o : Option Rank). unless_held (is_held held a) o) (ranks_same (calls_of a h) (ready decl script a h)))
 
 below_all : (a n : ℕ) → a < n → n ≤ most_actors → a < most_actors
 below_all a n h few = omega arith
 
-pub picked_kept : (decl : Declaration) (script : Script) (held : List Bool) (h : List Entry) (kept : Inboxes)
+pub picks_are_made_by_trays : (decl : Declaration) (script : Script) (held : List Bool) (h : List Entry)
+    (kept : Inboxes)
     → IsKept script h kept → actors decl ≤ most_actors
     → picked_in decl held kept ≡ picked decl script held h
-picked_kept decl script held h kept is few =
+picks_are_made_by_trays decl script held h kept is few =
     ap (λ (o : Option Candidate). option_map (λ (c : Candidate). c.actor) o)
     (first_same (rank_in decl held kept) (rank_at decl script held h) (actors decl)
     (λ a below. rank_kept decl script held h kept a is (below_all a (actors decl) below few)))

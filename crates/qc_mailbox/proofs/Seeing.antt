@@ -11,10 +11,11 @@ use Rattle.qc_mailbox.specs.Vocabulary.{next_in, tray_of}
 use Rattle.qc_mailbox.proofs.Taking.{ready_shown}
 use Rattle.qc_link.specs.Vocabulary.{most_actors}
 
-pub ready_kept : (decl : Declaration) (script : Script) (h : List Entry) (kept : Inboxes) (a : ℕ) → IsKept script h kept
+pub trays_show_what_is_ready : (decl : Declaration) (script : Script) (h : List Entry) (kept : Inboxes) (a : ℕ)
+    → IsKept script h kept
     → a < most_actors
     → option_map input_of (ready decl script a h) ≡ input_in decl a kept
-ready_kept decl script h kept a is within =
+trays_show_what_is_ready decl script h kept a is within =
     let shows : Shows kept a (calls_of a h) (inbox script a h) = is.inboxes a within in
     ready_shown decl a (calls_of a h) (inbox script a h)
     ∙ (ap (λ (cs : List Control). after_controls cs

@@ -160,8 +160,8 @@ tally_written t (e ∷ h) none =
     operations-cons (commit_in e.step) (written h) in
     omega arith
 
-pub operations-written : (h : List Entry) → Every (λ (e : Entry). IsNoRise e.step) h
+pub operations_are_those_of_records : (h : List Entry) → Every (λ (e : Entry). IsNoRise e.step) h
     → operations_of h ≡ sum_by answered_by (written h)
-operations-written h none =
+operations_are_those_of_records h none =
     let all : operations_of h ≡ 0 + sum_by answered_by (written h) = tally_written no_tally h none in
     omega arith

@@ -174,7 +174,7 @@ module _ {E : Type 0} where
     stand_unmade n le = own_other n 1 (marked 0 d ∷ []) e (λ q. omega (arith, le, q))
         ∙ own_other n 0 [] d (λ q. omega (arith, le, q))
 
-    pub stands : IsOneHistory (word_of 2 views)
+    pub two_entries_stand : IsOneHistory (word_of 2 views)
     stands = record {
       history = both;
       rooms = 3 ∷ 0 ∷ [];

@@ -94,9 +94,9 @@ one_by_one_in (suc turns) weights need asked rest few =
     (λ site sites is. one_by_one_in turns weights need (with_site asked site) sites
     (shorter turns site sites rest few is))
 
-pub one_by_one : (turns : ℕ) (r : RoundState) → length r.rest ≤ turns
+pub sites_are_asked_one_by_one : (turns : ℕ) (r : RoundState) → length r.rest ≤ turns
     → asking_in_turn turns r ≡ (wanted r, asking_all r (wanted r))
-one_by_one turns r few = one_by_one_in turns r.weights r.need r.asked r.rest few
+sites_are_asked_one_by_one turns r few = one_by_one_in turns r.weights r.need r.asked r.rest few
 
 -- the sites of positive weight from one on
 

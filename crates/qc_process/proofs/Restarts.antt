@@ -24,7 +24,7 @@ use Rattle.qc_outside.specs.declared.disk.ArmKind.TheVariants as kinds
 use Rattle.qc_promise.specs.Vocabulary.{Calls, DiskAccount, IsGivenBack, IsInTime, Journal, disk_account_with}
 use Rattle.qc_promise.specs.Vocabulary.{disk_called, of_opening}
 use Rattle.qc_record.specs.Vocabulary.{is_legal}
-use Rattle.qc_record.proofs.Frames.{apart}
+use Rattle.qc_record.proofs.Frames.{spellings_are_apart}
 use Rattle.qc_store.specs.Vocabulary.{AreGiven, IsAccountOf, of_bodies}
 use Rattle.qc_store.specs.declared.store.RiseFault.{RiseFault}
 use Rattle.qc_store.specs.declared.store.RiseFault.TheVariants as faults
@@ -93,7 +93,7 @@ legal_alike [] [] legal others same = refl
 legal_alike [] (q ∷ qs) legal others same = absurd (cc same)
 legal_alike (r ∷ rs) [] legal others same = absurd (cc same)
 legal_alike (r ∷ rs) (q ∷ qs) legal others same =
-    let one : r ≡ q = apart r q legal.0 others.0 (cc same) in
+    let one : r ≡ q = spellings_are_apart r q legal.0 others.0 (cc same) in
     ap (λ (x : Record). x ∷ rs) one ∙ ap (λ (l : List Record). q ∷ l) (legal_alike rs qs legal.1 others.1 (cc same))
 
 given_back : (j : Journal) (rs : List Record) → AreLegal j.records → IsLegalPending j.pending → AreLegal rs

@@ -14,7 +14,7 @@ use Rattle.qc_record.specs.Vocabulary.{start_form, whole_at, ◌>>=◌}
 use Rattle.qc_record.proofs.Cuts.{ends_first}
 use Rattle.qc_record.proofs.Exact.{epoch_exact, prepared_exact, done_exact, start_exact, commit_exact}
 use Rattle.qc_record.proofs.Exactness.{IsExact, nothing_exact}
-use Rattle.qc_record.proofs.Frames.{apart}
+use Rattle.qc_record.proofs.Frames.{spellings_are_apart}
 use Rattle.qc_record.proofs.Whole.{again, found}
 
 abbrev torn : ℕ → Result Record RecordFault
@@ -46,41 +46,48 @@ whole_behind shape form exact x b rest legal =
     let at : length bytes + 1 - length (b ∷ rest) ≡ suc (length (form.spelled x)) = omega (arith, both) in
     ap (placed (length bytes + 1)) read ∙ ap torn at
 
-pub cut : (rec : Record) (n : ℕ) → is_legal rec ≡ true → n < length (spelled rec)
+pub cut_spellings_are_refused : (rec : Record) (n : ℕ) → is_legal rec ≡ true → n < length (spelled rec)
     → record_at (take n (spelled rec)) ≡ torn n
-cut rec zero legal inside = refl
-cut records.Life (suc n) legal inside = absurd (omega (arith, inside))
-cut (records.Prepare p) (suc n) legal inside =
+cut_spellings_are_refused rec zero legal inside = refl
+cut_spellings_are_refused records.Life (suc n) legal inside = absurd (omega (arith, inside))
+cut_spellings_are_refused (records.Prepare p) (suc n) legal inside =
     whole_cut records.Prepare prepared_form prepared_exact p n legal (omega (arith, inside))
-cut (records.Done tx clock) (suc n) legal inside =
+cut_spellings_are_refused (records.Done tx clock) (suc n) legal inside =
     whole_cut done_of done_form done_exact (tx, clock) n legal (omega (arith, inside))
-cut (records.Close epoch) (suc n) legal inside =
+cut_spellings_are_refused (records.Close epoch) (suc n) legal inside =
     whole_cut records.Close epoch_form epoch_exact epoch n legal (omega (arith, inside))
-cut (records.Install start) (suc n) legal inside =
+cut_spellings_are_refused (records.Install start) (suc n) legal inside =
     whole_cut install_of start_form start_exact (start.epoch, (start.clock, start.lines)) n legal
         (omega (arith, inside))
-cut (records.Commit c) (suc n) legal inside =
+cut_spellings_are_refused (records.Commit c) (suc n) legal inside =
     whole_cut records.Commit commit_form commit_exact c n legal (omega (arith, inside))
-cut (records.Decide start) (suc n) legal inside =
+cut_spellings_are_refused (records.Decide start) (suc n) legal inside =
     whole_cut decide_of start_form start_exact (start.epoch, (start.clock, start.lines)) n legal (omega (arith, inside))
 
-pub behind : (rec : Record) (b : ℕ) (rest : List ℕ) → is_legal rec ≡ true
+pub longer_spellings_are_refused : (rec : Record) (b : ℕ) (rest : List ℕ) → is_legal rec ≡ true
     → record_at (spelled rec ++ b ∷ rest) ≡ torn (length (spelled rec))
-behind records.Life b rest legal = whole_behind (λ _. records.Life) nothing nothing_exact tt b rest refl
-behind (records.Prepare p) b rest legal = whole_behind records.Prepare prepared_form prepared_exact p b rest legal
-behind (records.Done tx clock) b rest legal = whole_behind done_of done_form done_exact (tx, clock) b rest legal
-behind (records.Close epoch) b rest legal = whole_behind records.Close epoch_form epoch_exact epoch b rest legal
-behind (records.Install start) b rest legal =
+longer_spellings_are_refused records.Life b rest legal =
+    whole_behind (λ _. records.Life) nothing nothing_exact tt b rest refl
+longer_spellings_are_refused (records.Prepare p) b rest legal =
+    whole_behind records.Prepare prepared_form prepared_exact p b rest legal
+longer_spellings_are_refused (records.Done tx clock) b rest legal =
+    whole_behind done_of done_form done_exact (tx, clock) b rest legal
+longer_spellings_are_refused (records.Close epoch) b rest legal =
+    whole_behind records.Close epoch_form epoch_exact epoch b rest legal
+longer_spellings_are_refused (records.Install start) b rest legal =
     whole_behind install_of start_form start_exact (start.epoch, (start.clock, start.lines)) b rest legal
-behind (records.Commit c) b rest legal = whole_behind records.Commit commit_form commit_exact c b rest legal
-behind (records.Decide start) b rest legal =
+longer_spellings_are_refused (records.Commit c) b rest legal =
+    whole_behind records.Commit commit_form commit_exact c b rest legal
+longer_spellings_are_refused (records.Decide start) b rest legal =
     whole_behind decide_of start_form start_exact (start.epoch, (start.clock, start.lines)) b rest legal
 
-pub no_prefix : (a b : Record) (rest : List ℕ) → is_legal a ≡ true → is_legal b ≡ true → spelled a ++ rest ≡ spelled b
+pub no_spelling_is_a_prefix : (a b : Record) (rest : List ℕ) → is_legal a ≡ true → is_legal b ≡ true
+    → spelled a ++ rest ≡ spelled b
     → a ≡ b
-no_prefix a b [] la lb e = apart a b la lb (sym (append-nil (spelled a)) ∙ e)
-no_prefix a b (c ∷ rest) la lb e =
-    let no : torn (length (spelled a)) ≡ found b = sym (behind a c rest la) ∙ ap record_at e ∙ again b lb in
+no_spelling_is_a_prefix a b [] la lb e = spellings_are_apart a b la lb (sym (append-nil (spelled a)) ∙ e)
+no_spelling_is_a_prefix a b (c ∷ rest) la lb e =
+    let no : torn (length (spelled a)) ≡ found b =
+            sym (longer_spellings_are_refused a c rest la) ∙ ap record_at e ∙ again b lb in
     absurd cc
 
 -- kinds

@@ -216,5 +216,5 @@ of_form (records.Commit c) h =
     (true_both _ _ (in_range 1 greatest_clock c.stamp.clock h.clock) (ops_are c.ops h.ops)))
 of_form (records.Decide start) h = of_start start.epoch start.clock start.lines h
 
-pub legal_is : (rec : Record) → (is_legal rec ≡ true) ↔ IsInForm rec
-legal_is rec = (form_of rec, of_form rec)
+pub legal_records_are_in_form : (rec : Record) → (is_legal rec ≡ true) ↔ IsInForm rec
+legal_records_are_in_form rec = (form_of rec, of_form rec)

@@ -47,8 +47,8 @@ list_long item width n each xs =
     ∙ ap (λ (k : ℕ). width + k) (items_long item n each None xs)
 
 -- a Prepare's spelling is as long as its length says
-pub prepare_long : (p : Prepared) → length (spelled (records.Prepare p)) ≡ prepare_length p
-prepare_long p =
+pub prepares_are_as_long_as_told : (p : Prepared) → length (spelled (records.Prepare p)) ≡ prepare_length p
+prepares_are_as_long_as_told p =
     let locks : length (locks_form.spelled p.locks) ≡ 2 + 2 * length p.locks =
     list_long lock_form 2 2 lock_long p.locks in
     let own : length (owns_form.spelled p.own) ≡ 1 + 3 * length p.own = list_long own_form 1 3 own_long p.own in

@@ -11,7 +11,7 @@ use Rattle.std.specs.declared.cmp.Ordering.{Ordering}
 use Rattle.std.specs.declared.cmp.Ordering.TheVariants.{Less, Equal, Greater}
 use Rattle.qc_entry.specs.declared.line.Line.{Line}
 use Rattle.qc_entry.specs.Vocabulary.{IsAscending, line_cmp, union}
-use Rattle.qc_entry.proofs.Orders.{line_order}
+use Rattle.qc_entry.proofs.Orders.{lines_are_ordered}
 use Rattle.qc_entry.proofs.Union.{union-after}
 use Rattle.qc_list.specs.Vocabulary.{IsBelowAll}
 use Rattle.qc_list.proofs.Order.{below_trans}
@@ -128,7 +128,7 @@ ascends before (x ∷ y ∷ ys) legal =
     let rest = ascends (Some x) (y ∷ ys) l.1 in
     let first : line_cmp x y ≡ Less = above x y (own_of_legal before x l.0) (own_of_legal (Some x) y m.0)
     (both_true _ _ m.0).1 in
-    ((first, below_trans line_cmp line_order.total x y ys first rest.0), rest)
+    ((first, below_trans line_cmp lines_are_ordered.total x y ys first rest.0), rest)
 
 below_at : (x : Line) (xs : List Line) (i : ℕ) (d : Line) → IsBelowAll line_cmp x xs → i < length xs
     → line_cmp x (get_or xs i d) ≡ Less

@@ -7,15 +7,15 @@ use Rattle.std.proofs.lemmas.List.Sorted.{All-permutation, IsPermutation-sym}
 use Rattle.std.proofs.lemmas.List.Sums.{fold-append}
 use Rattle.qc_entry.specs.declared.line.Line.{Line}
 use Rattle.qc_entry.specs.Vocabulary.{IsAscending, IsUnion, union}
-use Rattle.qc_entry.proofs.Orders.{line_order}
-use Rattle.qc_entry.proofs.Union.{union_lem}
+use Rattle.qc_entry.proofs.Orders.{lines_are_ordered}
+use Rattle.qc_entry.proofs.Union.{union_is_a_union}
 use Rattle.qc_list.specs.Vocabulary.{In}
 use Rattle.qc_list.proofs.Members.{every-In, every-from_In}
 use Rattle.qc_recover.specs.Vocabulary.{log_of, with_line}
 use Rattle.qc_site.proofs.Ascending.{same_ascending}
 
 pub one_more : (log : List Line) (line : Line) → IsAscending log → IsUnion log (line ∷ []) (with_line log line)
-one_more log line ascending = union_lem log (line ∷ []) ascending (tt, tt)
+one_more log line ascending = union_is_a_union log (line ∷ []) ascending (tt, tt)
 
 ascends_from : (log lines : List Line) → IsAscending log → IsAscending (fold with_line log lines)
 ascends_from log [] ascending = ascending
@@ -54,7 +54,7 @@ pub log_joined : (lines others : List Line) → IsAscending others
     → log_of (lines ++ others) ≡ union (log_of lines) others
 log_joined lines others ascending =
     fold-append with_line [] lines others
-    ∙ same_ascending line_order (fold with_line log others) (union log others)
+    ∙ same_ascending lines_are_ordered (fold with_line log others) (union log others)
     (ascends_from log others first) whole.ascending
     (λ line member. (whole.members line).1 (from_In line log others first member))
     (λ line member. In_from line log others first ((whole.members line).0 member)) where
@@ -65,12 +65,12 @@ log_joined lines others ascending =
       first = log_ascends lines
 
       whole : IsUnion log others (union log others)
-      whole = union_lem log others first ascending
+      whole = union_is_a_union log others first ascending
 
 -- a line that is there already
 pub log_again : (log : List Line) (line : Line) → IsAscending log → In line log → log ≡ with_line log line
 log_again log line ascending there =
-    same_ascending line_order log (with_line log line) ascending more.ascending
+    same_ascending lines_are_ordered log (with_line log line) ascending more.ascending
     (λ l member. (more.members l).1 (inl member))
     (λ l member. by l ((more.members l).0 member)) where
       more : IsUnion log (line ∷ []) (with_line log line)
@@ -91,7 +91,7 @@ moved_In lines others moves line member =
 
 pub log_moved : (lines others : List Line) → IsPermutation lines others → log_of others ≡ log_of lines
 log_moved lines others moves =
-    same_ascending line_order (log_of others) (log_of lines) (log_ascends others) (log_ascends lines)
+    same_ascending lines_are_ordered (log_of others) (log_of lines) (log_ascends others) (log_ascends lines)
     (λ line member. In_from line [] lines tt (inr (by lines others moves line (from_In line [] others tt member))))
     (λ line member. In_from line [] others tt
     (inr (by others lines (IsPermutation-sym lines others moves) line (from_In line [] lines tt member)))) where

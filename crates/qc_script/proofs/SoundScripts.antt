@@ -113,7 +113,8 @@ lines_more decl number script whole (line ∷ lines) before is =
     by (Ok next) adds is later = later next (line_more decl script next (without_cr line) before adds) is
     by (Err kind) stops is later = absurd (let never : ⊥ = cc in never)
 
-pub script_names : (decl : Declaration) (bytes : List ℕ) (script : Script) → script_of decl bytes ≡ Ok script
+pub scripts_name_what_is_declared : (decl : Declaration) (bytes : List ℕ) (script : Script)
+    → script_of decl bytes ≡ Ok script
     → IsScriptFor decl script
-script_names decl bytes script is = lines_more decl 1 empty_script script (lines_of bytes)
+scripts_name_what_is_declared decl bytes script is = lines_more decl 1 empty_script script (lines_of bytes)
     (record { links = tt; phases = tt }) is

@@ -52,6 +52,6 @@ lines_add decl number script (line ∷ more) few =
     go_on (Err refusal) each = refl
 
 -- a text of lines is read as the lines
-pub texts_read : (decl : Declaration) (lines : List ScriptLine) → AreWritable lines
+pub scripts_are_read_as_written : (decl : Declaration) (lines : List ScriptLine) → AreWritable lines
     → script_of decl (text_of_lines lines) ≡ with_written decl 1 empty_script lines
-texts_read decl lines few = lines_add decl 1 empty_script lines few
+scripts_are_read_as_written decl lines few = lines_add decl 1 empty_script lines few

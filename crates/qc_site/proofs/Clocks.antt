@@ -91,9 +91,9 @@ after_passes clock (messages.Ask tx) stamp member = absurd member
 after_passes clock (messages.Close epoch) stamp member = absurd member
 after_passes clock (messages.Install start) stamp member = latest_passes clock start.lines stamp member
 
-pub never_falls : (decl : Declaration) (s : SiteState) (from number : ℕ) (message : Message)
+pub clocks_never_fall : (decl : Declaration) (s : SiteState) (from number : ℕ) (message : Message)
     → s.clock ≤ (site_on decl s from number message).site.clock
-never_falls decl s from number message =
+clocks_never_fall decl s from number message =
     let on : clock_after s.clock message ≤ (site_on decl s from number message).site.clock =
     clock_on decl s from number message in
     let later : s.clock ≤ clock_after s.clock message = after_later s.clock message in
@@ -111,7 +111,7 @@ passes_stamps decl s from number message stamp member =
 
 takes_later : (decl : Declaration) (s : SiteState) (g : Input) → s.clock ≤ (site_takes decl s g).site.clock
 takes_later decl s (inputs.Called command) = omega arith
-takes_later decl s (inputs.Got e) = never_falls decl s e.from e.number e.message
+takes_later decl s (inputs.Got e) = clocks_never_fall decl s e.from e.number e.message
 takes_later decl s (inputs.Lost number) = omega arith
 
 does_later : (decl : Declaration) (m : SiteMove) (d : Deed) → m.site.clock ≤ (site_does decl m d).site.clock

@@ -9,7 +9,7 @@ use Rattle.qc_lock.specs.declared.clash.Clash.{Clash}
 use Rattle.qc_lock.specs.declared.held.Held.{Held}
 use Rattle.qc_lock.specs.Vocabulary.{In, IsAppendConflict, IsReadConflict, IsSmallest, append_clash, held_of}
 use Rattle.qc_lock.specs.Vocabulary.{read_clash, same_tx, with_entry, with_held, with_locks, with_owns, without_held}
-use Rattle.qc_lock.proofs.Conflicts.{append_smallest, read_smallest}
+use Rattle.qc_lock.proofs.Conflicts.{appends_are_refused_on_conflict, reads_are_refused_on_conflict}
 use Rattle.qc_entry.specs.declared.record.Prepared.{Prepared}
 use Rattle.qc_site.specs.Vocabulary.{AreByClients, AreOfClients, held_by, holds, without_prepared}
 
@@ -99,7 +99,7 @@ pub read_client : (relation : List ℕ) (held : List Held) (tx : TxId) (object i
 read_client relation held tx object inv c clients is =
     let found : IsSmallest (IsReadConflict relation held tx object inv) (Some c) =
     subst (IsSmallest (IsReadConflict relation held tx object inv)) is
-    (read_smallest relation held tx object inv) in
+    (reads_are_refused_on_conflict relation held tx object inv) in
     let conflict : IsReadConflict relation held tx object inv c = found.0 in
     told_client c held conflict.holder inv conflict.line.event conflict.told conflict.holds clients
 
@@ -107,6 +107,7 @@ pub append_client : (relation : List ℕ) (held : List Held) (tx : TxId) (own : 
     → AreOfClients held → append_clash relation held tx own ≡ Some c → c.holder.client < most_clients
 append_client relation held tx own c clients is =
     let found : IsSmallest (IsAppendConflict relation held tx own) (Some c) =
-    subst (IsSmallest (IsAppendConflict relation held tx own)) is (append_smallest relation held tx own) in
+    subst (IsSmallest (IsAppendConflict relation held tx own)) is (appends_are_refused_on_conflict relation held tx own)
+        in
     let conflict : IsAppendConflict relation held tx own c = found.0 in
     told_client c held conflict.holder conflict.lock.inv conflict.line.event conflict.told conflict.holds clients

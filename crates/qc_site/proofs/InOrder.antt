@@ -18,7 +18,7 @@ use Rattle.qc_lock.proofs.NumberedEntries.{tx_same}
 use Rattle.qc_site.specs.Vocabulary.{in_order, is_prepared, prepared_of, promise_cmp, promises_in_order}
 use Rattle.qc_stamp.specs.declared.stamp.TxId.{TxId}
 use Rattle.qc_stamp.specs.Vocabulary.{same_tx, tx_cmp}
-use Rattle.qc_stamp.proofs.Orders.{same_tx_is, same_tx_itself, tx_order}
+use Rattle.qc_stamp.proofs.Orders.{same_tx_is, same_tx_itself, transactions_are_ordered}
 use Rattle.qc_site.proofs.Ascending.{In_inserted, inserted_In, same_ascending}
 use Rattle.qc_site.proofs.Promised.{promiser}
 
@@ -27,15 +27,15 @@ use Rattle.qc_site.proofs.Promised.{promiser}
 ascends_from : (txs more : List TxId) → Ascends tx_cmp txs → Ascends tx_cmp (fold (inserted tx_cmp) txs more)
 ascends_from txs [] ascends = ascends
 ascends_from txs (t ∷ ts) ascends = ascends_from (inserted tx_cmp txs t) ts
-    (ascends-inserted tx_cmp tx_order.total txs t ascends)
+    (ascends-inserted tx_cmp transactions_are_ordered.total txs t ascends)
 
 In_from : (tx : TxId) (txs more : List TxId) → In tx txs ⊎ In tx more → In tx (fold (inserted tx_cmp) txs more)
 In_from tx txs [] (inl member) = member
 In_from tx txs [] (inr never) = absurd never
 In_from tx txs (t ∷ ts) (inl member) = In_from tx (inserted tx_cmp txs t) ts
-    (inl (inserted_In tx_order tx t txs (inr member)))
+    (inl (inserted_In transactions_are_ordered tx t txs (inr member)))
 In_from tx txs (t ∷ ts) (inr (inl same)) =
-    In_from tx (inserted tx_cmp txs t) ts (inl (inserted_In tx_order tx t txs (inl same)))
+    In_from tx (inserted tx_cmp txs t) ts (inl (inserted_In transactions_are_ordered tx t txs (inl same)))
 In_from tx txs (t ∷ ts) (inr (inr later)) = In_from tx (inserted tx_cmp txs t) ts (inr later)
 
 from_In : (tx : TxId) (txs more : List TxId) → In tx (fold (inserted tx_cmp) txs more) → In tx txs ⊎ In tx more
@@ -118,7 +118,7 @@ In_prepared (p ∷ ps) tx member = by (same_tx p.tx tx) refl member (In_prepared
 pub keys_in_order : (keys : List TxId) (ps : List Prepared) → IsStrictlySortedBy tx_cmp keys
     → ((tx : TxId) → is_member (eq_by_cmp tx_cmp) keys tx ≡ is_prepared ps tx) → keys ≡ in_order (map promiser ps)
 keys_in_order keys ps sorted just =
-    same_ascending tx_order keys (in_order (map promiser ps)) (ascends_sorted keys sorted)
+    same_ascending transactions_are_ordered keys (in_order (map promiser ps)) (ascends_sorted keys sorted)
     (ascends_from [] (map promiser ps) tt)
     (λ tx member. In_from tx [] (map promiser ps) (inr (prepared_In ps tx (sym (just tx) ∙ In_member keys tx member))))
     (λ tx member. member_In keys tx (just tx ∙ by tx (from_In tx [] (map promiser ps) member))) where

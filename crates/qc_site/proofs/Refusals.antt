@@ -10,7 +10,8 @@ use Rattle.qc_lock.specs.declared.clash.Clash.{Clash as Conflict}
 use Rattle.qc_lock.specs.declared.held.Held.{Held}
 use Rattle.qc_lock.specs.Vocabulary.{In, IsAppendConflict, IsReadConflict, IsSmallest, append_clash, read_clash}
 use Rattle.qc_lock.specs.Vocabulary.{same_tx}
-use Rattle.qc_lock.proofs.Conflicts.{append_free, append_smallest, read_free, read_smallest}
+use Rattle.qc_lock.proofs.Conflicts.{granted_appends_conflict_with_nothing, appends_are_refused_on_conflict}
+use Rattle.qc_lock.proofs.Conflicts.{granted_reads_conflict_with_nothing, reads_are_refused_on_conflict}
 use Rattle.qc_msg.specs.declared.message.Answer.{Answer}
 use Rattle.qc_msg.specs.declared.message.Answer.TheVariants as says
 use Rattle.qc_msg.specs.declared.message.Message.{Message}
@@ -40,7 +41,8 @@ read_free_at decl s from number tx epoch life object inv holder line holds anoth
     is)
     (λ is. read_cases (λ (m : SiteMove). grants_in m.turn ≡ true
     → depends (relation_at decl object) inv line.event ≡ false) decl s from number tx object inv
-    (λ free yes. read_free (relation_at decl object) s.held tx object inv holder line free holds another own here)
+    (λ free yes. granted_reads_conflict_with_nothing (relation_at decl object) s.held tx object inv holder line free
+        holds another own here)
     (λ c clash. never))
 
 pub read_conflicts_not : (decl : Declaration) (s : SiteState) (from number : ℕ) (tx : TxId) (epoch life object inv : ℕ)
@@ -67,7 +69,8 @@ append_free_at decl s from number tx epoch life object view own line holder lock
     fault is)
     (λ is. append_cases (λ (m : SiteMove). grants_in m.turn ≡ true
     → depends (relation_at decl object) lock.inv line.event ≡ false) decl s from number tx object view own
-    (λ free yes. append_free (relation_at decl object) s.held tx own line holder lock free given holds another locked
+    (λ free yes. granted_appends_conflict_with_nothing (relation_at decl object) s.held tx own line holder lock free
+        given holds another locked
     here)
     (λ c clash. never))
 
@@ -114,11 +117,11 @@ refused_at decl s from number (messages.Install start) =
     install_cases (Unchanged s) s from number start.epoch start.clock start.lines (λ answer yes. (refl, refl))
         (λ later fits. never)
 
-pub refusal_changes_nothing : (decl : Declaration) (s : SiteState) (from number : ℕ) (message : Message)
+pub refusals_change_nothing : (decl : Declaration) (s : SiteState) (from number : ℕ) (message : Message)
     → refuses_in (site_on decl s from number message).turn ≡ true
     → ((site_on decl s from number message).site ≡ passed s message)
     × ((site_on decl s from number message).turn.write ≡ None)
-refusal_changes_nothing decl s from number message = refused_at decl (passed s message) from number message
+refusals_change_nothing decl s from number message = refused_at decl (passed s message) from number message
 
 -- a clash that is told is the smallest conflict, and its holder's client is asked
 
@@ -164,7 +167,7 @@ read_clash_at decl s from number tx epoch life object inv d =
     (λ free is. absurd (let none : ⊥ = cc in none))
     (λ c clash. told_by decl from number (IsReadConflict (relation_at decl object) s.held tx object inv)
     (read_clash (relation_at decl object) s.held tx object inv) c d
-    (read_smallest (relation_at decl object) s.held tx object inv) clash))
+    (reads_are_refused_on_conflict (relation_at decl object) s.held tx object inv) clash))
 
 pub read_clash_is_smallest : (decl : Declaration) (s : SiteState) (from number : ℕ) (tx : TxId)
     (epoch life object inv : ℕ) (d : Conflict)
@@ -196,7 +199,7 @@ append_clash_at decl s from number tx epoch life object view own d =
     (λ free is. absurd (let none : ⊥ = cc in none))
     (λ c clash. told_by decl from number (IsAppendConflict (relation_at decl object) s.held tx own)
     (append_clash (relation_at decl object) s.held tx own) c d
-    (append_smallest (relation_at decl object) s.held tx own) clash))
+    (appends_are_refused_on_conflict (relation_at decl object) s.held tx own) clash))
 
 pub append_clash_is_smallest : (decl : Declaration) (s : SiteState) (from number : ℕ) (tx : TxId)
     (epoch life object : ℕ) (view : List Line) (own : List OwnLine) (d : Conflict)

@@ -110,11 +110,11 @@ backs_at decl s from number tx epoch life want =
     (λ fault is. fault_votes_not (IsBacked s from number tx (moved s (answers from number fault))) s epoch life fault
     is) (λ is. want_backs decl s from number tx want)
 
-pub vote_is_backed : (decl : Declaration) (s : SiteState) (from number : ℕ) (tx : TxId) (epoch life : ℕ) (want : Want)
+pub votes_are_backed : (decl : Declaration) (s : SiteState) (from number : ℕ) (tx : TxId) (epoch life : ℕ) (want : Want)
     → votes_in (site_on decl s from number (messages.Request tx epoch life want)).turn ≡ true
     → IsBacked (passed s (messages.Request tx epoch life want)) from number tx
     (site_on decl s from number (messages.Request tx epoch life want))
-vote_is_backed decl s from number tx epoch life want =
+votes_are_backed decl s from number tx epoch life want =
     backs_at decl (passed s (messages.Request tx epoch life want)) from number tx epoch life want
 
 -- a promise stands
@@ -141,10 +141,10 @@ stands_at decl s from number message tx p is ongoing =
         subst (λ (m : Message). ends m tx ≡ false) same ongoing in
         prepared-without_other s.prepared t tx (not_ended (is_final verdict) (same_tx t tx) unended final) ∙ is
 
-pub promise_stands : (decl : Declaration) (s : SiteState) (from number : ℕ) (message : Message) (tx : TxId)
+pub promises_stand : (decl : Declaration) (s : SiteState) (from number : ℕ) (message : Message) (tx : TxId)
     (p : Prepared)
     → prepared_of s.prepared tx ≡ Some p → ends message tx ≡ false
     → installs_in (site_on decl s from number message).turn ≡ false
     → prepared_of (site_on decl s from number message).site.prepared tx ≡ Some p
-promise_stands decl s from number message tx p is ongoing =
+promises_stand decl s from number message tx p is ongoing =
     stands_at decl (passed s message) from number message tx p is ongoing

@@ -1,27 +1,16 @@
 -- What a turn answers, the answer in its first message, and what it writes of epochs.
-use Rattle.std.specs.Prelude.{[], Bool, true, false, List, ◌∷◌, Option, Some, None, is_some}
+use Rattle.std.specs.Prelude.{[], Bool, true, false, List, ◌∷◌, Option, Some, None, is_some, option_map}
 use Rattle.std.specs.Option.{option_map_or}
 use Rattle.qc_msg.specs.declared.message.Answer.{Answer}
 use Rattle.qc_msg.specs.declared.message.Answer.TheVariants as answers
-use Rattle.qc_msg.specs.declared.message.Message.{Message}
-use Rattle.qc_msg.specs.declared.message.Message.TheVariants as messages
 use Rattle.qc_msg.specs.declared.record.Record.{Record}
 use Rattle.qc_msg.specs.declared.turn.Posting.{Posting}
 use Rattle.qc_msg.specs.declared.turn.Turn.{Turn}
-use Rattle.qc_msg.specs.Vocabulary.{close_in, install_in, Answered, granted_in, promised_in}
-
-abbrev pub answer_in : Message → Option Answer
-answer_in (messages.Request tx epoch life want) = None
-answer_in (messages.Answer to answer) = Some answer
-answer_in (messages.Decision tx verdict) = None
-answer_in (messages.Inquiry tx) = None
-answer_in (messages.Ask tx) = None
-answer_in (messages.Close epoch) = None
-answer_in (messages.Install start) = None
+use Rattle.qc_msg.specs.Vocabulary.{Answered, answer_in, close_in, granted_in, install_in, promised_in}
 
 abbrev pub first_answer : List Posting → Option Answer
 first_answer [] = None
-first_answer (p ∷ ps) = answer_in p.message
+first_answer (p ∷ ps) = option_map (λ (a : Answered). a.answer) (answer_in p.message)
 
 abbrev pub answer_of : Turn → Option Answer
 answer_of turn = first_answer turn.sends

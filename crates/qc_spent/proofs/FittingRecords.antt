@@ -46,5 +46,5 @@ module _ (h : List Entry) (fits : ℕ → List Entry → Bool)
       (fit_kept (fits e.actor before) (own e.actor before) e.step (each before later e is)
       (fitting e.actor before (e ∷ later) is kept)))
 
-  pub fitting_kept : Kept h
-  fitting_kept = go [] h refl kept_none
+  pub fitting_records_are_kept : Kept h
+  fitting_records_are_kept = go [] h refl kept_none

@@ -38,8 +38,8 @@ own_cut : (a : ℕ) (before later : List Entry) (e : Entry) → (e.actor == a) �
 own_cut a before later e this =
     own-append a before (e ∷ later) ∙ ap (λ (l : List Step). own a before ++ l) (rw this refl)
 
-pub kept : (h : List Entry) → ((a : ℕ) → AreKept (own a h)) → Kept h
-kept h each before later e is =
+pub own_steps_make_kept : (h : List Entry) → ((a : ℕ) → AreKept (own a h)) → Kept h
+own_steps_make_kept h each before later e is =
     each e.actor (own e.actor before) (own e.actor later) e.step
     (sym (own_cut e.actor before later e (eq-eqb e.actor e.actor refl)) ∙ ap (own e.actor) is)
 
@@ -52,17 +52,19 @@ none_kept (b ∷ before) later s is = absurd (cc is)
 module _ (h : List Entry) (a : ℕ) (all : Kept h) where
   one_more : (before later : List Entry) (e : Entry) → before ++ e ∷ later ≡ h → AreKept (own a before) → (c : Bool)
       → (e.actor == a) ≡ c → AreKept (own a (before ++ e ∷ []))
-  one_more before later e is kept true this =
+  one_more before later e is own_steps_make_kept true this =
       subst AreKept (sym (own_this a before e this))
-      (kept_more (own a before) e.step kept
+      (kept_more (own a before) e.step own_steps_make_kept
       (subst (λ (k : ℕ). IsKeptAt (own k before) e.step) (eqb-true e.actor a this) (all before later e is)))
-  one_more before later e is kept false other = subst AreKept (sym (own_other a before e other)) kept
+  one_more before later e is own_steps_make_kept false other =
+      subst AreKept (sym (own_other a before e other)) own_steps_make_kept
 
   go : (before later : List Entry) → before ++ later ≡ h → AreKept (own a before) → AreKept (own a h)
-  go before [] is kept = subst (λ (l : List Entry). AreKept (own a l)) (sym (append-nil before) ∙ is) kept
-  go before (e ∷ later) is kept =
+  go before [] is own_steps_make_kept =
+      subst (λ (l : List Entry). AreKept (own a l)) (sym (append-nil before) ∙ is) own_steps_make_kept
+  go before (e ∷ later) is own_steps_make_kept =
       go (before ++ e ∷ []) later (append_assoc before (e ∷ []) later ∙ is)
-      (one_more before later e is kept (e.actor == a) refl)
+      (one_more before later e is own_steps_make_kept (e.actor == a) refl)
 
-  pub own_kept : AreKept (own a h)
-  own_kept = go [] h refl none_kept
+  pub kept_histories_keep_own_steps : AreKept (own a h)
+  kept_histories_keep_own_steps = go [] h refl none_kept

@@ -43,9 +43,10 @@ arm_in_time x None there soon = absurd there
 arm_in_time x (Some w) (inl same) soon = subst (λ (y : Arm). y.calls.fewest < y.at) (sym same) (soon w refl)
 arm_in_time x (Some w) (inr none) soon = absurd none
 
-pub spent : (h : List Entry) (actors n : ℕ) (counts : ℕ → ℕ) → AreFallsBelow actors h → ((a : ℕ) → IsEverInTime a h)
+pub accounts_make_spent : (h : List Entry) (actors n : ℕ) (counts : ℕ → ℕ) → AreFallsBelow actors h
+    → ((a : ℕ) → IsEverInTime a h)
     → ((a : ℕ) → (disk_account a h).unarmed ≤ counts a) → total_below actors counts ≤ n → Spent h n
-spent h actors n counts below times few sum = record {
+accounts_make_spent h actors n counts below times few sum = record {
   falls =
       let each : total_below actors (λ a. (disk_account a h).unarmed) ≤ total_below actors counts =
       total_less actors (λ a. (disk_account a h).unarmed) counts few in

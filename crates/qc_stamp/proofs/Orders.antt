@@ -25,8 +25,8 @@ second_Equal Greater b h = absurd (let never : ⊥ = cc in never)
 pub nat_apart : (a b : ℕ) → nat_cmp a b ≡ Equal → a ≡ b
 nat_apart a b h = grind (arith, nat_tests)
 
-pub stamp_order : IsOrder stamp_cmp
-stamp_order = record {
+pub stamps_are_ordered : IsOrder stamp_cmp
+stamps_are_ordered = record {
   total = then_total (on_total (λ (s : Stamp). s.clock) nat_cmp_total)
       (on_total (λ (s : Stamp). s.client) nat_cmp_total);
   apart = λ a b h.
@@ -35,8 +35,8 @@ stamp_order = record {
       λ i. record { clock = clock i; client = client i };
 }
 
-pub tx_order : IsOrder tx_cmp
-tx_order = record {
+pub transactions_are_ordered : IsOrder tx_cmp
+transactions_are_ordered = record {
   total = then_total (on_total (λ (t : TxId). t.client) nat_cmp_total)
       (then_total (on_total (λ (t : TxId). t.life) nat_cmp_total) (on_total (λ (t : TxId). t.number) nat_cmp_total));
   apart = λ a b h.

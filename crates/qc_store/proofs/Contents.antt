@@ -3,7 +3,7 @@ use Rattle.std.proofs.Common.{◌≡◌, inl, inr, ℕ, ◌≤◌, List, [], ◌
 use Rattle.qc_outside.specs.Vocabulary.{IsImage, Since, Tells, Told, as_read}
 use Rattle.qc_outside.proofs.Kept.{read_is_image}
 use Rattle.qc_journal.specs.Vocabulary.{Holds, HoldsWithOrWithout, IsAtRest, IsLeftAtOpen, IsNoJournal, Rests}
-use Rattle.qc_journal.proofs.Lasting.{rest_is_journal, rest_lasts}
+use Rattle.qc_journal.proofs.Lasting.{rest_is_journal, records_last}
 use Rattle.qc_journal.proofs.Unique.{length_journal, one_list, torn_or_not}
 use Rattle.qc_store.specs.Vocabulary.{AreGiven, DiskHasJournal, DiskHolds, HoldsBodies, IsSettled, StillTells}
 
@@ -21,7 +21,7 @@ pub rested : (a b : Option Told) (end : ℕ) (bodies : List (List ℕ))
 rested None None end bodies fell is = tt
 rested (Some o) None end bodies fell is = absurd fell
 rested None (Some n) end bodies fell is = absurd fell
-rested (Some o) (Some n) end bodies fell is = λ image left. rest_lasts end bodies o is image (fell.now image left)
+rested (Some o) (Some n) end bodies fell is = λ image left. records_last end bodies o is image (fell.now image left)
 
 pub rested_begun : (a b : Option Told) (end : ℕ) (bodies : List (List ℕ))
     → Tells a b (λ old new. Since (IsImage old.now) old new) → Rests a end bodies → DiskHasJournal b bodies

@@ -5,7 +5,7 @@ use Rattle.std.proofs.lemmas.Bool.Decides.{nat_tests}
 use Rattle.qc_msg.specs.Vocabulary.{Entry}
 use Rattle.qc_outside.specs.Vocabulary.{IsKept}
 use Rattle.qc_promise.specs.Vocabulary.{AreFallsBelow, IsEverInTime, Spent, disk_account, total_below}
-use Rattle.qc_spent.proofs.Whole.{spent}
+use Rattle.qc_spent.proofs.Whole.{accounts_make_spent}
 use Rattle.qc_store.specs.Vocabulary.{IsCounted}
 
 settled : (n : ℕ) (disks nows : ℕ → ℕ) → ((k : ℕ) → k < n → IsKept (nows k) (disks k) (nows (suc k)))
@@ -39,15 +39,15 @@ sum_less (suc n) f g less =
 exact : (falls count : ℕ) → IsCounted falls count → count < 2 ^ 64 - 1 → falls ≤ count
 exact falls count counted few = omega (arith, counted, few)
 
-pub counted_spent : (h : List Entry) (actors : ℕ) (disks nows : ℕ → ℕ) → AreFallsBelow actors h
+pub counted_disks_make_spent : (h : List Entry) (actors : ℕ) (disks nows : ℕ → ℕ) → AreFallsBelow actors h
     → ((a : ℕ) → IsEverInTime a h) → ((a : ℕ) → a < actors → IsCounted (disk_account a h).unarmed (disks a))
     → ((a : ℕ) → a < actors → IsKept (nows a) (disks a) (nows (suc a))) → nows actors < 2 ^ 64 - 1
     → Spent h (nows actors - nows 0)
-counted_spent h actors disks nows below times counted kept few =
+counted_disks_make_spent h actors disks nows below times counted kept few =
     let sum : nows 0 + total_below actors disks ≤ nows actors = settled actors disks nows kept few in
     let less : total_below actors (λ a. (disk_account a h).unarmed) ≤ total_below actors disks =
     sum_less actors (λ a. (disk_account a h).unarmed) disks (λ a low.
     exact (disk_account a h).unarmed (disks a) (counted a low)
     (omega (arith, one_of_sum actors a disks low, sum, few))) in
-    spent h actors (nows actors - nows 0) (λ a. (disk_account a h).unarmed) below times (λ a. omega arith)
+    accounts_make_spent h actors (nows actors - nows 0) (λ a. (disk_account a h).unarmed) below times (λ a. omega arith)
     (omega (arith, sum, less))

@@ -134,15 +134,15 @@ pub first_lowest : (rows : List Row) (state inv number : ℕ) → first_of rows 
 first_lowest rows state inv number = first_found rows state inv number (lowest_in rows state inv) refl
 
 -- it is the number of an event
-pub first_within : (rows : List Row) (state inv number : ℕ) → first_of rows state inv ≡ Some number
+pub first_is_an_event : (rows : List Row) (state inv number : ℕ) → first_of rows state inv ≡ Some number
     → number < length (events_of rows)
-first_within rows state inv number found =
+first_is_an_event rows state inv number found =
     let l : IsLowest rows state inv number = first_lowest rows state inv number found in
     slice_get_within (events_of rows) number (event inv l.resp) l.numbered
 
 -- which leads on from that state
-pub first_steps : (rows : List Row) (state inv number : ℕ) → first_of rows state inv ≡ Some number
+pub first_leads_on : (rows : List Row) (state inv number : ℕ) → first_of rows state inv ≡ Some number
     → IsSome (step_of rows state number)
-first_steps rows state inv number found =
+first_leads_on rows state inv number found =
     let l : IsLowest rows state inv number = first_lowest rows state inv number found in
     rw l.numbered l.legal

@@ -8,7 +8,7 @@ reached_none step [] = refl
 reached_none step (number ∷ numbers) = reached_none step numbers
 
 -- a run over two lists, one behind the other
-pub reached-append : (step : ℕ → ℕ → Option ℕ) (state : Option ℕ) (front back : List ℕ)
+pub runs_join : (step : ℕ → ℕ → Option ℕ) (state : Option ℕ) (front back : List ℕ)
     → reached step state (front ++ back) ≡ reached step (reached step state front) back
-reached-append step state [] back = refl
-reached-append step state (number ∷ front) back = reached-append step (next_state step state number) front back
+runs_join step state [] back = refl
+runs_join step state (number ∷ front) back = runs_join step (next_state step state number) front back

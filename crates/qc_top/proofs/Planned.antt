@@ -7,7 +7,7 @@ use Rattle.laws_due.specs.Vocabulary.{AllRisePlanned, IsPlanned, IsRecordPlanned
 use Rattle.laws_bounds.specs.Vocabulary.{AllFit, AllRiseFit, risen_at}
 use Rattle.qc_decl.specs.declared.declaration.Declaration.{Declaration}
 use Rattle.qc_fit.specs.Vocabulary.{HasPlan, IsFit}
-use Rattle.qc_fit.proofs.Words.{as_said}
+use Rattle.qc_fit.proofs.Words.{fits_is_as_said}
 use Rattle.qc_msg.specs.declared.record.Record.{Record}
 use Rattle.qc_msg.specs.declared.record.Record.TheVariants as records
 use Rattle.qc_msg.specs.declared.step.Step.{Step}
@@ -31,7 +31,8 @@ all_planned : (decl : Declaration) (a before : ℕ) (rs : List Record) → AllFi
     → Every (IsRecordPlanned decl) rs
 all_planned decl a before [] all = tt
 all_planned decl a before (r ∷ rs) all =
-    (record_planned decl a before r ((as_said decl a before r).0 all.0), all_planned decl a (before + 1) rs all.1)
+    (record_planned decl a before r ((fits_is_as_said decl a before r).0 all.0),
+        all_planned decl a (before + 1) rs all.1)
 
 step_planned : (decl : Declaration) (a : ℕ) (step : Step) → AllFit decl a 0 (risen_at step) → RisesPlanned decl step
 step_planned decl a (steps.Phase k) fit = tt

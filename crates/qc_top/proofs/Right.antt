@@ -4,7 +4,7 @@ use Rattle.std.proofs.Common.{subst}
 use Rattle.std.specs.Option.{option_map_or}
 use Rattle.std.specs.Prelude.{if◌then◌else◌, codes}
 use Rattle.std.specs.Str.{bytes_eq}
-use Rattle.qc_accept.proofs.Accepting.{accepted_is}
+use Rattle.qc_accept.proofs.Accepting.{accepted_declarations_keep_the_rules}
 use Rattle.qc_accept.specs.Vocabulary.{accepted}
 use Rattle.qc_accept.specs.declared.fault.DeclFault.{DeclFault}
 use Rattle.qc_decl.proofs.BuiltInRules.{one_accepted, three_accepted}
@@ -13,7 +13,7 @@ use Rattle.qc_decl.specs.declared.declaration.Declaration.{Declaration}
 use Rattle.qc_outside.specs.Vocabulary.{Answer}
 use Rattle.qc_outside.specs.declared.shelf.ShelfFault.TheVariants as faults
 use Rattle.qc_report.specs.declared.cause.Cause.TheVariants as causes
-use Rattle.qc_script.proofs.SoundScripts.{script_names}
+use Rattle.qc_script.proofs.SoundScripts.{scripts_name_what_is_declared}
 use Rattle.qc_script.specs.Vocabulary.{IsScriptFor, Refusal, script_of}
 use Rattle.qc_script.specs.declared.script.Script.{Script}
 use Rattle.qc_top.specs.Vocabulary.{Caused, IsRight, accept_work, bytes_of, is_built_in, load_work, run_of, script_work}
@@ -61,7 +61,7 @@ IsRightly (Ok decl) = IsAccepted decl
 IsRightly (Err fault) = Unit {0}
 
 rightly : (bytes : List ℕ) (spelled : Result Declaration DeclFault) → accepted bytes ≡ spelled → IsRightly spelled
-rightly bytes (Ok decl) is = accepted_is bytes decl is
+rightly bytes (Ok decl) is = accepted_declarations_keep_the_rules bytes decl is
 rightly bytes (Err fault) is = tt
 
 spelled_is : (name : List ℕ) (answer : Answer) (spelled : Result Declaration DeclFault)
@@ -102,7 +102,7 @@ run_is : (decl : Declaration) (bytes : List ℕ) (work : Work) → IsAccepted de
 run_is decl bytes work right is =
     let c : Came (unless_a_line_is (script_of decl bytes)) (λ script. Ok (works.Run decl script outputs.Text)) work =
     came (unless_a_line_is (script_of decl bytes)) (λ script. Ok (works.Run decl script outputs.Text)) work is in
-    let sound : IsScriptFor decl c.first = script_names decl bytes c.first
+    let sound : IsScriptFor decl c.first = scripts_name_what_is_declared decl bytes c.first
     (read_is (script_of decl bytes) c.first c.is) in
     subst IsRight (inner (works.Run decl c.first outputs.Text) work c.rest)
     (record { accepted = right; declared = sound })
@@ -128,7 +128,7 @@ script_is answer spelled work right is =
 load_is : (count seed : ℕ) → IsRight (load_work count seed)
 load_is count seed = record {
   accepted = three_accepted;
-  declared = script_names three (load_text count seed) (load_of count seed) (loads_read count seed);
+  declared = scripts_name_what_is_declared three (load_text count seed) (load_of count seed) (loads_read count seed);
 }
 
 pub work_is : (asked : AskedOf) (answers : Answers) (work : Work) → work_of asked answers ≡ Ok work → IsRight work

@@ -251,10 +251,10 @@ module _ (form : Form) where
           (with_words form (reading m.parts m.taken waits) (before ++ (word ∷ option ∷ after))))
           (sym (no_wait (added form w taken) parts m is)) (rest m.parts m.taken)
 
-pub stands_anywhere : (option word : Text) → is_joined option ≡ true → is_whole word ≡ true
+pub options_stand_anywhere : (option word : Text) → is_joined option ≡ true → is_whole word ≡ true
     → (command : Text) (before after : List Text) → list_all is_whole before ≡ true
     → asked (command ∷ (before ++ (option ∷ word ∷ after))) ≡ asked (command ∷ (before ++ (word ∷ option ∷ after)))
-stands_anywhere option word joined whole command before after all =
+options_stand_anywhere option word joined whole command before after all =
     behind_same command (before ++ (option ∷ word ∷ after)) (before ++ (word ∷ option ∷ after))
     (λ form. alike_values form (with_words form nothing_read (before ++ (option ∷ word ∷ after)))
     (with_words form nothing_read (before ++ (word ∷ option ∷ after)))

@@ -163,6 +163,6 @@ behind_askable command words a is = by (bytes_eq command (codes "check")) (bytes
         (λ values _ e. load_askable values a e)
     by false false false e = absurd (none-some a e)
 
-pub asks_askable : (words : List Text) (a : AskedOf) → asked words ≡ Some a → IsAskable a
-asks_askable [] a is = absurd (none-some a is)
-asks_askable (command ∷ words) a is = behind_askable command words a is
+pub words_ask_within_limits : (words : List Text) (a : AskedOf) → asked words ≡ Some a → IsAskable a
+words_ask_within_limits [] a is = absurd (none-some a is)
+words_ask_within_limits (command ∷ words) a is = behind_askable command words a is

@@ -53,9 +53,10 @@ words_known form (word ∷ words) r end e =
     option_and_then_some (λ more. with_words form more words) (with_word form r word) end e
     (λ more first rest. and_from _ _ (word_known form r.waits word r more first) (words_known form words more end rest))
 
-pub all_known : (form : Form) (words : List Text) (values : Values) → values_of form words ≡ Some values
+pub words_are_values_and_options : (form : Form) (words : List Text) (values : Values)
+    → values_of form words ≡ Some values
     → list_all (is_known form) words ≡ true
-all_known form words values e = by (parts_of form words) refl e
+words_are_values_and_options form words values e = by (parts_of form words) refl e
   where
     by : (o : Option (List Part)) → parts_of form words ≡ o → option_map values_in o ≡ Some values
         → list_all (is_known form) words ≡ true
@@ -143,11 +144,11 @@ no_command : (word : Text) (words : List Text) (e : bytes_eq word (codes "check"
     → asked_behind word words ≡ None
 no_command word words check run load = rw (check, run, load) refl
 
-pub apart_as_joined : (name text : Text) → IsOptionName name → (before after : List Text)
+pub options_are_one_word_or_two : (name text : Text) → IsOptionName name → (before after : List Text)
     → asked (before ++ (said_apart name text ++ after)) ≡ asked (before ++ (said_joined name text ++ after))
-apart_as_joined [] text is before after = let none = is.0 in absurd (omega arith)
-apart_as_joined (b ∷ name) text is [] after = no_command (45 ∷ 45 ∷ b ∷ name) (text ∷ after) refl refl refl
+options_are_one_word_or_two [] text is before after = let none = is.0 in absurd (omega arith)
+options_are_one_word_or_two (b ∷ name) text is [] after = no_command (45 ∷ 45 ∷ b ∷ name) (text ∷ after) refl refl refl
     ∙ sym (no_command (45 ∷ 45 ∷ b ∷ (name ++ 61 ∷ text)) after refl refl refl)
-apart_as_joined (b ∷ name) text is (command ∷ before) after =
+options_are_one_word_or_two (b ∷ name) text is (command ∷ before) after =
     behind_same command (before ++ (said_apart (b ∷ name) text ++ after))
     (before ++ (said_joined (b ∷ name) text ++ after)) (λ form. values_apart form b name text is.1 before after)

@@ -102,9 +102,10 @@ module _ (form : Form) (a : App) (fits : Fits form a) where
       (rw (fits.no_subcommands, stopped) at.0, rw fits.no_subcommands at.1)
 
 -- words that have a form are taken with just their values
-pub taken : (form : Form) → IsForm form → (words : List Text) (parts : List Part) → parts_of form words ≡ Some parts
+pub words_of_a_form_are_taken_by_clap : (form : Form) → IsForm form → (words : List Text) (parts : List Part)
+    → parts_of form words ≡ Some parts
     → IsTaken form words parts
-taken form is words parts e =
+words_of_a_form_are_taken_by_clap form is words parts e =
     option_and_then_some (ended form) (with_words form nothing_read words) parts e
     (λ end read ended.
     let fits = form_fits form is in
@@ -125,7 +126,7 @@ pub takes_words : (form : Form) → IsForm form → (words : List Text) → is_s
     → a ≡ command_for form → takes a words ≡ true
 takes_words form is words has a same =
     let parts = have (parts_of form words) has in
-    ap (λ (a : App). takes a words) same ∙ (taken form is words parts.0 parts.1).takes
+    ap (λ (a : App). takes a words) same ∙ (words_of_a_form_are_taken_by_clap form is words parts.0 parts.1).takes
 
 -- and gives their values
 pub gives_values : (form : Form) → IsForm form → (words : List Text) → is_some (parts_of form words) ≡ true → (a : App)
@@ -133,7 +134,7 @@ pub gives_values : (form : Form) → IsForm form → (words : List Text) → is_
     → Some (found_in m) ≡ values_of form words
 gives_values form is words has a same m matches =
     let parts = have (parts_of form words) has in
-    let as_read = taken form is words parts.0 parts.1 in
+    let as_read = words_of_a_form_are_taken_by_clap form is words parts.0 parts.1 in
     let rows : rows_of (found_of m) ≡ matches_of (command_for form) words =
     (matches (ap is_simple same ∙ (form_fits form is).0)).0 ∙ ap (λ a. matches_of a words) same in
     let each : (name : Text) → first_value (found_of m) name ≡ value_of name parts.0 =

@@ -74,7 +74,7 @@ load_read count seed workers is =
       within_is 1 most_workers workers is.are_few.0 is.are_few.1 (omega arith),
     ) refl)
 
-pub read_as_written : (a : AskedOf) → IsAskable a → asked (words_in a) ≡ Some a
-read_as_written (Check decl) is = check_read decl is
-read_as_written (Run decl script workers dir) is = run_read decl script workers dir is
-read_as_written (Load count seed workers) is = load_read count seed workers is
+pub words_are_read_as_written : (a : AskedOf) → IsAskable a → asked (words_in a) ≡ Some a
+words_are_read_as_written (Check decl) is = check_read decl is
+words_are_read_as_written (Run decl script workers dir) is = run_read decl script workers dir is
+words_are_read_as_written (Load count seed workers) is = load_read count seed workers is

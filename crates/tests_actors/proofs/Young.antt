@@ -24,7 +24,7 @@ use Rattle.qc_commit.specs.declared.desk.Voting.{Voting}
 use Rattle.qc_commit.specs.Vocabulary.{AsksFew, DeskMove, Numbers, Prepares, Votes, are_cast, cast, first_against}
 use Rattle.qc_commit.specs.Vocabulary.{participants, vote_of}
 use Rattle.qc_commit.specs.Conduct as desks
-use Rattle.qc_commit.proofs.Aside.{few-after}
+use Rattle.qc_commit.proofs.Aside.{few_sites_are_asked}
 use Rattle.qc_front.specs.declared.doing.Doing.{Doing}
 use Rattle.qc_front.specs.declared.doing.Doing.TheVariants.{Idle, Reading, Appending}
 use Rattle.qc_front.specs.declared.front.Front.{Front}
@@ -34,9 +34,9 @@ use Rattle.qc_front.specs.Vocabulary.{learns, read_by, read_with, round_for, sta
 use Rattle.qc_front.specs.Conduct as fronts
 use Rattle.qc_front.proofs.ClockMoves.{called_clock, called_count}
 use Rattle.qc_front.proofs.Clocks.{takes_count}
-use Rattle.qc_front.proofs.Fitting.{fits}
-use Rattle.qc_front.proofs.CommandsKeep.{called_holds}
-use Rattle.qc_front.proofs.Keeping.{takes_holds, new_holds, ended_holds}
+use Rattle.qc_front.proofs.Fitting.{front_ends_fit}
+use Rattle.qc_front.proofs.CommandsKeep.{commands_keep_hold}
+use Rattle.qc_front.proofs.Keeping.{answers_keep_hold, new_holds, ended_holds}
 use Rattle.qc_front.proofs.Numbering.{sent_holds}
 use Rattle.qc_client.specs.declared.client.Client.{Client}
 use Rattle.qc_client.specs.Vocabulary.{ClientFits, ClientMove, by_desk, by_front, new_client, promise_in}
@@ -200,14 +200,14 @@ older decl c age young = record {
 called-young : (decl : Declaration) (c : Client) (age : ℕ) (command : Command) → IsAccepted decl → IsYoung decl c age → IsYoung decl (clients.called decl c command).client (age + 1)
 called-young decl c age command accepted young = by command where
   front : (command : Command) → IsYoung decl (by_front c (fronts.called decl c.front command)).client (age + 1)
-  front command = front-young decl c age (fronts.called decl c.front command) young (called_holds decl c.front command young.holds) (called_count decl c.front command)
+  front command = front-young decl c age (fronts.called decl c.front command) young (commands_keep_hold decl c.front command young.holds) (called_count decl c.front command)
       (along (fronts.called decl c.front command).front.clock c.front.clock (most_told + age) (called_clock decl c.front command) young.clock)
 
   on : (t : Transaction) (doomed : Bool) → IsYoung decl (cond doomed (by_front c (fronts.called decl c.front commands.Commit)) (by_desk c (desks.prepare decl c.desk t.begun c.front.clock.value))).client (age + 1)
   on t true = front commands.Commit
   on t false = desk-young decl c age (desks.prepare decl c.desk t.begun c.front.clock.value) young
       (prepare-clock decl c.desk t.begun c.front.clock.value (most_told + age) young.desk young.clock)
-      (few-after c.desk (Prepares decl t.begun c.front.clock.value) (accepted.has_site, accepted.sites) young.few)
+      (few_sites_are_asked c.desk (Prepares decl t.begun c.front.clock.value) (accepted.has_site, accepted.sites) young.few)
 
   commit : (o : Option Transaction) → IsYoung decl (clients.commits decl c o).client (age + 1)
   commit None = front commands.Commit
@@ -226,10 +226,10 @@ answered-young decl c age number answer small young = by c.desk.voting where
   low = omega arith
 
   by : (o : Option Voting) → IsYoung decl (clients.answered_by decl c o number answer).client (age + 1)
-  by None = front-young decl c age (fronts.takes decl c.front number answer) young (takes_holds decl c.front number answer young.holds)
+  by None = front-young decl c age (fronts.takes decl c.front number answer) young (answers_keep_hold decl c.front number answer young.holds)
       (let same : (fronts.takes decl c.front number answer).front.count ≡ c.front.count = takes_count decl c.front number answer in omega arith)
       (takes-clock decl c.front number answer (most_told + age) young.clock low)
-  by (Some v) = desk-young decl c age (desks.vote c.desk number answer) young (vote-clock c.desk number answer (most_told + age) young.desk low) (few-after c.desk (Votes number answer) tt young.few)
+  by (Some v) = desk-young decl c age (desks.vote c.desk number answer) young (vote-clock c.desk number answer (most_told + age) young.desk low) (few_sites_are_asked c.desk (Votes number answer) tt young.few)
 
 heard-young : (decl : Declaration) (c : Client) (age from number : ℕ) (message : Message) → told_in message ≤ most_told → IsYoung decl c age → IsYoung decl (clients.heard decl c from number message).client (age + 1)
 heard-young decl c age from number (messages.Request tx epoch life want) small young = older decl c age young
@@ -258,7 +258,7 @@ numbered-young : (decl : Declaration) (c : Client) (age first : ℕ) → IsYoung
 numbered-young decl c age first young = by c.desk.voting refl where
   by : (o : Option Voting) → c.desk.voting ≡ o → IsYoung decl (clients.sent_by c o first) age
   by None is = record { holds = sent_holds decl c.front first young.holds; count = young.count; clock = young.clock; desk = young.desk; few = young.few }
-  by (Some v) is = record { holds = young.holds; count = young.count; clock = young.clock; desk = clock; few = few-after c.desk (Numbers first) tt young.few } where
+  by (Some v) is = record { holds = young.holds; count = young.count; clock = young.clock; desk = clock; few = few_sites_are_asked c.desk (Numbers first) tt young.few } where
     clock : (desks.sent c.desk first).clock.value ≤ most_told + age
     clock = on c.desk.voting where
       on : (p : Option Voting) → (desks.sent_in c.desk p first).clock.value ≤ most_told + age
@@ -275,7 +275,7 @@ new_young decl number = record { holds = new_holds decl number; count = omega ar
 
 pub young_fits : (decl : Declaration) (c : Client) (age : ℕ) → IsAccepted decl → IsYoung decl c age → age < 1000 → ClientFits c
 young_fits decl c age accepted young few = record {
-  front = fits decl c.front accepted young.holds (let count : c.front.count ≤ age = young.count in omega arith);
+  front = front_ends_fit decl c.front accepted young.holds (let count : c.front.count ≤ age = young.count in omega arith);
   clock = let clock : c.front.clock.value ≤ most_told + age = young.clock in omega arith;
   desk = record { clock = (let clock : c.desk.clock.value ≤ most_told + age = young.desk in omega arith); few = young.few };
 }

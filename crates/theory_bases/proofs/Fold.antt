@@ -9,7 +9,7 @@ use Rattle.qc_list.proofs.Members.{every-from_In}
 use Rattle.qc_entry.proofs.Union.{ascending-union, in_either, in_first, in_second, union-after, union-nil}
 use Rattle.qc_entry.proofs.Members.{ascending-same}
 use Rattle.qc_table.specs.Vocabulary.{after, reached}
-use Rattle.qc_table.proofs.Runs.{reached-append}
+use Rattle.qc_table.proofs.Runs.{runs_join}
 use Rattle.theory_bases.specs.Vocabulary.{IsAbove, IsUnionOf, events, state_from}
 
 nat_less : (a b : ℕ) → a < b → nat_cmp a b ≡ Less
@@ -36,9 +36,9 @@ pub folds_split : (step : ℕ → ℕ → Option ℕ) (start : ℕ) (first secon
 folds_split step start first second own above =
     ap (λ (es : List ℕ). after step start (es ++ own))
     (ap events (logs_stand_behind first second above) ∙ events-append first second)
-    ∙ reached-append step (Some start) (events first ++ events second) own
-    ∙ ap (λ (s : Option ℕ). reached step s own) (reached-append step (Some start) (events first) (events second))
-    ∙ sym (reached-append step (reached step (Some start) (events first)) (events second) own)
+    ∙ runs_join step (Some start) (events first ++ events second) own
+    ∙ ap (λ (s : Option ℕ). reached step s own) (runs_join step (Some start) (events first) (events second))
+    ∙ sym (runs_join step (reached step (Some start) (events first)) (events second) own)
 
 -- the views of several sites that began with one log: their lines of the epoch join
 pub views_of_an_epoch_join : (first a b : List Line) → IsAscending first → IsAscending a → IsAscending b

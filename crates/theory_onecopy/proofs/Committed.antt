@@ -8,7 +8,7 @@ use Rattle.std.specs.declared.cmp.Ordering.{Ordering}
 use Rattle.std.specs.declared.cmp.Ordering.TheVariants.{Less, Equal, Greater}
 use Rattle.qc_stamp.specs.declared.stamp.Stamp.{Stamp}
 use Rattle.qc_stamp.specs.Vocabulary.{stamp_cmp}
-use Rattle.qc_stamp.proofs.Orders.{stamp_order, tx_order}
+use Rattle.qc_stamp.proofs.Orders.{stamps_are_ordered, transactions_are_ordered}
 use Rattle.qc_entry.specs.declared.line.Op.{Op}
 use Rattle.qc_entry.specs.declared.record.Commit.{Commit}
 use Rattle.qc_list.specs.Vocabulary.{In, by_order}
@@ -22,7 +22,8 @@ by_stamp c d Equal rest e ne = absurd (ne refl)
 by_stamp c d Greater rest e ne = refl
 
 stamps_decide : (c d : Commit) → (c.stamp ≡ d.stamp → ⊥) → commit_cmp c d ≡ stamp_cmp c.stamp d.stamp
-stamps_decide c d ne = by_stamp c d (stamp_cmp c.stamp d.stamp) _ refl (λ e. ne (stamp_order.apart c.stamp d.stamp e))
+stamps_decide c d ne =
+    by_stamp c d (stamp_cmp c.stamp d.stamp) _ refl (λ e. ne (stamps_are_ordered.apart c.stamp d.stamp e))
 
 -- a record ties with itself
 op_total : IsTotalOrder op_cmp
@@ -31,8 +32,8 @@ op_total = then_total (on_total (λ (o : Op). o.object) nat_cmp_total)
     (on_total (λ (o : Op). o.resp) (options_total nat_cmp_total)))
 
 commit_total : IsTotalOrder commit_cmp
-commit_total = then_total (on_total (λ (c : Commit). c.stamp) stamp_order.total)
-    (then_total (on_total (λ (c : Commit). c.tx) tx_order.total)
+commit_total = then_total (on_total (λ (c : Commit). c.stamp) stamps_are_ordered.total)
+    (then_total (on_total (λ (c : Commit). c.tx) transactions_are_ordered.total)
     (on_total (λ (c : Commit). c.ops) (lists_total op_total)))
 
 tied : (d : Commit) → commit_cmp d d ≡ Equal
@@ -58,7 +59,7 @@ insert (d ∷ ds) c o n = by (stamp_cmp c.stamp d.stamp) refl (insert ds c o.1 (
     by Less e ih =
         let first : commit_cmp c d ≡ Less = stamps_decide c d
         (λ same. let t : stamp_cmp c.stamp d.stamp ≡ Equal =
-        subst (λ (s : Stamp). stamp_cmp c.stamp s ≡ Equal) same (tied_itself stamp_order.total c.stamp) in
+        subst (λ (s : Stamp). stamp_cmp c.stamp s ≡ Equal) same (tied_itself stamps_are_ordered.total c.stamp) in
         let never : ⊥ = cc in never) ∙ e in
         subst (λ (x : Ordering). IsPlaced (d ∷ ds) c (by_order x (c ∷ d ∷ ds) (d ∷ ds) (d ∷ with_commit ds c)))
         (sym first) (record {
@@ -66,7 +67,7 @@ insert (d ∷ ds) c o n = by (stamp_cmp c.stamp d.stamp) refl (insert ds c o.1 (
             λ y h. elim h [
               | inl same ↦ subst (λ (x : Commit). IsStampedBefore c x)
                   (sym same) e
-              | inr there ↦ stamp_order.total.trans c.stamp d.stamp y.stamp e (o.0 y there)
+              | inr there ↦ stamps_are_ordered.total.trans c.stamp d.stamp y.stamp e (o.0 y there)
             ],
             o,
           );
@@ -75,16 +76,16 @@ insert (d ∷ ds) c o n = by (stamp_cmp c.stamp d.stamp) refl (insert ds c o.1 (
           new = inl refl;
         })
     by Equal e ih =
-        let same : c ≡ d = n d (inl refl) (stamp_order.apart c.stamp d.stamp e) in
+        let same : c ≡ d = n d (inl refl) (stamps_are_ordered.apart c.stamp d.stamp e) in
         subst (λ (x : Commit). IsPlaced (d ∷ ds) x (with_commit (d ∷ ds) x)) (sym same)
         (subst (λ (x : Ordering). IsPlaced (d ∷ ds) d (by_order x (d ∷ d ∷ ds) (d ∷ ds) (d ∷ with_commit ds d)))
         (sym (tied d)) (record { ordered = o; listed = λ y h. inr h; old = λ y h. h; new = inl refl }))
     by Greater e ih =
         let last : commit_cmp c d ≡ Greater = stamps_decide c d
         (λ same. let t : stamp_cmp c.stamp d.stamp ≡ Equal =
-        subst (λ (s : Stamp). stamp_cmp c.stamp s ≡ Equal) same (tied_itself stamp_order.total c.stamp) in
+        subst (λ (s : Stamp). stamp_cmp c.stamp s ≡ Equal) same (tied_itself stamps_are_ordered.total c.stamp) in
         let never : ⊥ = cc in never) ∙ e in
-        let back : stamp_cmp d.stamp c.stamp ≡ Less = stamp_order.total.antisymm d.stamp c.stamp
+        let back : stamp_cmp d.stamp c.stamp ≡ Less = stamps_are_ordered.total.antisymm d.stamp c.stamp
         ∙ ap ordering_reverse e in
         subst (λ (x : Ordering). IsPlaced (d ∷ ds) c (by_order x (c ∷ d ∷ ds) (d ∷ ds) (d ∷ with_commit ds c)))
         (sym last) (record {

@@ -8,9 +8,9 @@ use Rattle.std.specs.declared.cmp.Ordering.TheVariants.{Less, Equal, Greater}
 use Rattle.qc_stamp.specs.declared.stamp.Stamp.{Stamp}
 use Rattle.qc_stamp.specs.declared.stamp.TxId.{TxId}
 use Rattle.qc_stamp.specs.Vocabulary.{stamp_cmp, tx_cmp}
-use Rattle.qc_stamp.proofs.Orders.{nat_apart, stamp_order, tx_order}
+use Rattle.qc_stamp.proofs.Orders.{nat_apart, stamps_are_ordered, transactions_are_ordered}
 use Rattle.qc_entry.specs.declared.line.Line.{Line}
-use Rattle.qc_entry.proofs.Orders.{line_order}
+use Rattle.qc_entry.proofs.Orders.{lines_are_ordered}
 use Rattle.theory_onecopy.specs.Vocabulary.{IsEarlier, IsLineBefore, Placed, line_of}
 
 nat_less : (a b : ℕ) → a < b → nat_cmp a b ≡ Less
@@ -43,11 +43,13 @@ stamp_clocks a b h = by (then_less (nat_cmp a.clock b.clock) (nat_cmp a.client b
     by (inr e) = let x : a.clock ≡ b.clock = nat_apart a.clock b.clock e.0 in omega arith
 
 pub not_stamp_less : (a : Stamp) → stamp_cmp a a ≡ Less → ⊥
-not_stamp_less a h = let t : stamp_cmp a a ≡ Equal = tied_itself stamp_order.total a in let never : ⊥ = cc (h, t) in
+not_stamp_less a h =
+    let t : stamp_cmp a a ≡ Equal = tied_itself stamps_are_ordered.total a in
+    let never : ⊥ = cc (h, t) in
     never
 
 pub line_trans : (l m n : Line) → IsLineBefore l m → IsLineBefore m n → IsLineBefore l n
-line_trans = line_order.total.trans
+line_trans = lines_are_ordered.total.trans
 
 pub stamp_first : (l m : Line) → stamp_cmp l.stamp m.stamp ≡ Less → IsLineBefore l m
 stamp_first l m h = first_less (stamp_cmp l.stamp m.stamp) _ h
@@ -59,14 +61,15 @@ line_clocks l m h = by _ (then_less (stamp_cmp l.stamp m.stamp) _ h)
         ⊎ ((stamp_cmp l.stamp m.stamp ≡ Equal) × (rest ≡ Less))) → l.stamp.clock ≤ m.stamp.clock
     by rest (inl s) = stamp_clocks l.stamp m.stamp s
     by rest (inr e) = let x : l.stamp.clock ≡ m.stamp.clock =
-        ap (λ (s : Stamp). s.clock) (stamp_order.apart l.stamp m.stamp e.0) in omega arith
+        ap (λ (s : Stamp). s.clock) (stamps_are_ordered.apart l.stamp m.stamp e.0) in omega arith
 
 -- in one transaction, by operation
 pub op_first : (l m : Line) → l.stamp ≡ m.stamp → l.tx ≡ m.tx → l.op < m.op → IsLineBefore l m
 op_first l m s t o =
     second_less (stamp_cmp l.stamp m.stamp) _
-    (subst (λ (x : Stamp). stamp_cmp l.stamp x ≡ Equal) s (tied_itself stamp_order.total l.stamp))
-    (second_less (tx_cmp l.tx m.tx) _ (subst (λ (x : TxId). tx_cmp l.tx x ≡ Equal) t (tied_itself tx_order.total l.tx))
+    (subst (λ (x : Stamp). stamp_cmp l.stamp x ≡ Equal) s (tied_itself stamps_are_ordered.total l.stamp))
+    (second_less (tx_cmp l.tx m.tx) _
+        (subst (λ (x : TxId). tx_cmp l.tx x ≡ Equal) t (tied_itself transactions_are_ordered.total l.tx))
     (first_less (nat_cmp l.op m.op) _ (nat_less l.op m.op o)))
 
 pub earlier_line : (a b : Placed) → IsEarlier a b → IsLineBefore (line_of a) (line_of b)

@@ -4,7 +4,7 @@ use Rattle.std.specs.Prelude.{option_and_then, option_map, is_some}
 use Rattle.qc_table.specs.declared.kind.Kind.{Kind}
 use Rattle.qc_table.specs.declared.row.Event.{Event}
 use Rattle.qc_table.specs.Vocabulary.{Rules, event, event_number, events_of, next_in, next_state, step_of}
-use Rattle.qc_table.proofs.Runs.{reached-append}
+use Rattle.qc_table.proofs.Runs.{runs_join}
 use Rattle.qc_table.proofs.Numbered.{number_is}
 use Rattle.qc_cert.specs.Vocabulary.{allows, inv_of, state_after}
 use Rattle.qc_decl.specs.declared.declaration.Declaration.{Declaration}
@@ -47,7 +47,7 @@ pub state_more : (kind : Kind) (history : List ℕ) (state inv resp number next 
     → next_in kind.table.rows state (event inv resp) ≡ Some next
     → state_after kind (history ++ number ∷ []) ≡ Some next
 state_more kind history state inv resp number next run numbered goes =
-    reached-append (step_of kind.table.rows) (Some kind.table.start) history (number ∷ [])
+    runs_join (step_of kind.table.rows) (Some kind.table.start) history (number ∷ [])
     ∙ ap (λ (o : Option ℕ). next_state (step_of kind.table.rows) o number) run
     ∙ ap (option_and_then (next_in kind.table.rows state))
     (number_is (events_of kind.table.rows) (event inv resp) number numbered)

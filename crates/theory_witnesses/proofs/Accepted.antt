@@ -1,8 +1,8 @@
 -- The declarations of the runs keep the rules: their relations are exact by certificates, and their quorums meet.
 use Rattle.std.proofs.Common.{[], ◌≡◌, ◌<◌, ◌≤◌, ℕ, zero, suc, List, ◌∷◌, length, Option, Some, None, option_map, refl}
 use Rattle.std.proofs.Common.{subst, arith, slice_get}
-use Rattle.qc_cert.proofs.Faultless.{inductive}
-use Rattle.qc_cert.proofs.Walk.{exact}
+use Rattle.qc_cert.proofs.Faultless.{no_fault_is_inductive}
+use Rattle.qc_cert.proofs.Walk.{inductive_lists_make_relations_exact}
 use Rattle.qc_cert.specs.Vocabulary.{triple}
 use Rattle.qc_cert.specs.declared.triple.Triple.{Triple}
 use Rattle.qc_decl.specs.Vocabulary.{AreNames, AreThresholds, HasNames, HasThresholds, IsAccepted, IsGood, IsRight}
@@ -197,7 +197,9 @@ unfolding register_triples
 extra_right =
     record {
       sound = register_right.sound;
-      exact = exact extra_kind register_triples (inductive extra_kind register_triples register_right.sound refl);
+      exact =
+          inductive_lists_make_relations_exact extra_kind register_triples
+          (no_fault_is_inductive extra_kind register_triples register_right.sound refl);
     }
 
 pub extra_store_accepted : IsAccepted extra_store

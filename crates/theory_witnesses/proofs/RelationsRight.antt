@@ -1,8 +1,8 @@
 -- The relations of the runs' declarations are exact by certificates, and their plans are good.
 use Rattle.std.proofs.Common.{[], true, ◌≡◌, ◌≤◌, ℕ, zero, suc, List, ◌∷◌, length, Option, Some, None, option_map, refl}
 use Rattle.std.proofs.Common.{subst, arith, slice_get}
-use Rattle.qc_cert.proofs.Faultless.{inductive}
-use Rattle.qc_cert.proofs.Walk.{exact}
+use Rattle.qc_cert.proofs.Faultless.{no_fault_is_inductive}
+use Rattle.qc_cert.proofs.Walk.{inductive_lists_make_relations_exact}
 use Rattle.qc_cert.specs.Vocabulary.{triple}
 use Rattle.qc_cert.specs.declared.triple.Triple.{Triple}
 use Rattle.qc_decl.proofs.BuiltInRules.{three_accepted}
@@ -49,7 +49,9 @@ unfolding latch_triples
 latch_right =
     record {
       sound = latch_sound;
-      exact = exact latch_kind latch_triples (inductive latch_kind latch_triples latch_sound refl);
+      exact =
+          inductive_lists_make_relations_exact latch_kind latch_triples
+          (no_fault_is_inductive latch_kind latch_triples latch_sound refl);
     }
 
 ticket_sound : IsSound ticket
@@ -73,7 +75,9 @@ unfolding ticket_triples
 ticket_right =
     record {
       sound = ticket_sound;
-      exact = exact ticket_kind ticket_triples (inductive ticket_kind ticket_triples ticket_sound refl);
+      exact =
+          inductive_lists_make_relations_exact ticket_kind ticket_triples
+          (no_fault_is_inductive ticket_kind ticket_triples ticket_sound refl);
     }
 
 abbrev pub no_fault : (o : Option PlanFault) → Option (o ≡ None)

@@ -3,7 +3,7 @@ use Rattle.std.proofs.lemmas.Result.{err_from_is_err_and}
 use Rattle.toml.specs.View.{table_view}
 use Rattle.qc_accept.specs.Vocabulary.{accepted, all_admitted, all_certified, declared, document_of, draft_in, draft_of}
 use Rattle.qc_accept.proofs.CheckedDrafts.{draft_checked, draft_is, draft_planned}
-use Rattle.qc_accept.proofs.Accepting.{accepted_is, accepted_named}
+use Rattle.qc_accept.proofs.Accepting.{accepted_declarations_keep_the_rules, accepted_declarations_are_named}
 use Rattle.qc_accept.proofs.Told.{then_ok, then_err}
 use Rattle.qc_accept.proofs.acceptance.accept.Goals as goal
 
@@ -62,6 +62,6 @@ returns c =
     refl))) in
     record {
       exact = whole;
-      accepted = accepted_is c.args.bytes.now c.in_ok-draft.draft.decl whole;
-      named = accepted_named c.args.bytes.now c.in_ok-draft.draft.decl whole;
+      accepted = accepted_declarations_keep_the_rules c.args.bytes.now c.in_ok-draft.draft.decl whole;
+      named = accepted_declarations_are_named c.args.bytes.now c.in_ok-draft.draft.decl whole;
     }

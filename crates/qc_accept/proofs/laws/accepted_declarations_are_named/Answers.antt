@@ -1,5 +1,5 @@
-use Rattle.qc_accept.proofs.Accepting.{accepted_named}
+use Rattle.qc_accept.proofs.Accepting.{accepted_declarations_are_named}
 use Rattle.qc_accept.proofs.laws.accepted_declarations_are_named.Goals as goal
 
 pub returns : goal.returns
-returns c = accepted_named
+returns c = accepted_declarations_are_named

@@ -1,5 +1,5 @@
-use Rattle.qc_accept.proofs.Declaring.{accepted_declared}
+use Rattle.qc_accept.proofs.Declaring.{accepted_declarations_are_their_documents}
 use Rattle.qc_accept.proofs.laws.accepted_declarations_are_their_documents.Goals as goal
 
 pub returns : goal.returns
-returns c = accepted_declared
+returns c = accepted_declarations_are_their_documents

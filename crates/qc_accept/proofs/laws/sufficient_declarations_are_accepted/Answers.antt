@@ -1,5 +1,5 @@
-use Rattle.qc_accept.proofs.Sufficing.{sufficient}
+use Rattle.qc_accept.proofs.Sufficing.{sufficient_declarations_are_accepted}
 use Rattle.qc_accept.proofs.laws.sufficient_declarations_are_accepted.Goals as goal
 
 pub returns : goal.returns
-returns c = sufficient
+returns c = sufficient_declarations_are_accepted

@@ -1,5 +1,5 @@
-use Rattle.qc_cert.proofs.Faultless.{faultless}
+use Rattle.qc_cert.proofs.Faultless.{inductive_lists_have_no_fault}
 use Rattle.qc_cert.proofs.laws.inductive_lists_have_no_fault.Goals as goal
 
 pub returns : goal.returns
-returns c = faultless
+returns c = inductive_lists_have_no_fault

@@ -1,5 +1,5 @@
-use Rattle.qc_fit.proofs.Words.{as_said}
+use Rattle.qc_fit.proofs.Words.{fits_is_as_said}
 use Rattle.qc_fit.proofs.laws.fits_is_as_said.Goals as goal
 
 pub returns : goal.returns
-returns c = as_said
+returns c = fits_is_as_said

@@ -1,5 +1,5 @@
-use Rattle.qc_front.proofs.Keeping.{takes_holds}
+use Rattle.qc_front.proofs.Keeping.{answers_keep_hold}
 use Rattle.qc_front.proofs.laws.answers_keep_hold.Goals as goal
 
 pub returns : goal.returns
-returns c = takes_holds
+returns c = answers_keep_hold

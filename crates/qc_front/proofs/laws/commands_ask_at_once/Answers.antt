@@ -1,5 +1,5 @@
-use Rattle.qc_front.proofs.AtOnce.{called_at_once}
+use Rattle.qc_front.proofs.AtOnce.{commands_ask_at_once}
 use Rattle.qc_front.proofs.laws.commands_ask_at_once.Goals as goal
 
 pub returns : goal.returns
-returns c = called_at_once
+returns c = commands_ask_at_once

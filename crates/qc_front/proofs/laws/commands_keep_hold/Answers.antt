@@ -1,5 +1,5 @@
-use Rattle.qc_front.proofs.CommandsKeep.{called_holds}
+use Rattle.qc_front.proofs.CommandsKeep.{commands_keep_hold}
 use Rattle.qc_front.proofs.laws.commands_keep_hold.Goals as goal
 
 pub returns : goal.returns
-returns c = called_holds
+returns c = commands_keep_hold

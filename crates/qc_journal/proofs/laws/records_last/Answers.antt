@@ -1,5 +1,5 @@
-use Rattle.qc_journal.proofs.Lasting.{rest_lasts}
+use Rattle.qc_journal.proofs.Lasting.{records_last}
 use Rattle.qc_journal.proofs.laws.records_last.Goals as goal
 
 pub returns : goal.returns
-returns c = rest_lasts
+returns c = records_last

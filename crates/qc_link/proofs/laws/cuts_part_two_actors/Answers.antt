@@ -1,5 +1,5 @@
-use Rattle.qc_link.proofs.Pairs.{cut_parts}
+use Rattle.qc_link.proofs.Pairs.{cuts_part_two_actors}
 use Rattle.qc_link.proofs.laws.cuts_part_two_actors.Goals as goal
 
 pub returns : goal.returns
-returns c = cut_parts
+returns c = cuts_part_two_actors

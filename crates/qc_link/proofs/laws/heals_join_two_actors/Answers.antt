@@ -1,5 +1,5 @@
-use Rattle.qc_link.proofs.Pairs.{heal_joins}
+use Rattle.qc_link.proofs.Pairs.{heals_join_two_actors}
 use Rattle.qc_link.proofs.laws.heals_join_two_actors.Goals as goal
 
 pub returns : goal.returns
-returns c = heal_joins
+returns c = heals_join_two_actors

@@ -1,5 +1,5 @@
-use Rattle.qc_lock.proofs.Conflicts.{append_smallest}
+use Rattle.qc_lock.proofs.Conflicts.{appends_are_refused_on_conflict}
 use Rattle.qc_lock.proofs.laws.appends_are_refused_on_conflict.Goals as goal
 
 pub returns : goal.returns
-returns c = append_smallest
+returns c = appends_are_refused_on_conflict

@@ -1,5 +1,5 @@
-use Rattle.qc_mailbox.proofs.Acting.{kept_take}
+use Rattle.qc_mailbox.proofs.Acting.{inputs_keep_trays}
 use Rattle.qc_mailbox.proofs.laws.inputs_keep_trays.Goals as goal
 
 pub returns : goal.returns
-returns c = kept_take
+returns c = inputs_keep_trays

@@ -1,5 +1,5 @@
-use Rattle.qc_mailbox.proofs.Keeping.{kept_begins}
+use Rattle.qc_mailbox.proofs.Keeping.{new_trays_are_kept}
 use Rattle.qc_mailbox.proofs.laws.new_trays_are_kept.Goals as goal
 
 pub returns : goal.returns
-returns c = kept_begins
+returns c = new_trays_are_kept

@@ -1,5 +1,5 @@
-use Rattle.qc_record.proofs.Lengths.{prepare_long}
+use Rattle.qc_record.proofs.Lengths.{prepares_are_as_long_as_told}
 use Rattle.qc_record.proofs.laws.prepares_are_as_long_as_told.Goals as goal
 
 pub returns : goal.returns
-returns c = prepare_long
+returns c = prepares_are_as_long_as_told

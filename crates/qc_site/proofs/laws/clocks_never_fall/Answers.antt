@@ -1,5 +1,5 @@
-use Rattle.qc_site.proofs.Clocks.{never_falls}
+use Rattle.qc_site.proofs.Clocks.{clocks_never_fall}
 use Rattle.qc_site.proofs.laws.clocks_never_fall.Goals as goal
 
 pub returns : goal.returns
-returns c = never_falls
+returns c = clocks_never_fall

@@ -1,5 +1,5 @@
-use Rattle.qc_spent.proofs.OwnRecords.{kept}
+use Rattle.qc_spent.proofs.OwnRecords.{own_steps_make_kept}
 use Rattle.qc_spent.proofs.laws.own_steps_make_kept.Goals as goal
 
 pub returns : goal.returns
-returns c = kept
+returns c = own_steps_make_kept

@@ -1,5 +1,5 @@
-use Rattle.qc_table.proofs.Runs.{reached-append}
+use Rattle.qc_table.proofs.Runs.{runs_join}
 use Rattle.qc_table.proofs.laws.runs_join.Goals as goal
 
 pub returns : goal.returns
-returns c = reached-append
+returns c = runs_join

@@ -7,14 +7,14 @@ use Rattle.qc_top.proofs.Idle.{begun_kept, begun_spent}
 use Rattle.qc_top.proofs.Runs.{begun_below}
 use Rattle.qc_top.proofs.Takes.{answers_short}
 use Rattle.qc_top.specs.Vocabulary.{IsRackBlamed, folder_of}
-use Rattle.qc_words.proofs.Askable.{asks_askable}
+use Rattle.qc_words.proofs.Askable.{words_ask_within_limits}
 use Rattle.qc_words.specs.Vocabulary.{AskedOf, asked, asked_in, texts_of}
 use Rattle.qc_top.proofs.top.quorum_words.Goals as goal
 
 -- words that were read
 
 pub perform-requires-clause-askable : goal.perform-requires-clause-askable
-perform-requires-clause-askable g c = λ _ _. asks_askable (texts_of c.args.words.now)
+perform-requires-clause-askable g c = λ _ _. words_ask_within_limits (texts_of c.args.words.now)
     (asked_in c.in-Ok.asked) c.in-Ok.ensures
 
 pub perform-requires-clause-short : goal.perform-requires-clause-short

@@ -1,5 +1,5 @@
-use Rattle.qc_words.proofs.Askable.{asks_askable}
+use Rattle.qc_words.proofs.Askable.{words_ask_within_limits}
 use Rattle.qc_words.proofs.laws.words_ask_within_limits.Goals as goal
 
 pub returns : goal.returns
-returns c = asks_askable
+returns c = words_ask_within_limits

@@ -1,5 +1,5 @@
-use Rattle.qc_words.proofs.Walks.{taken}
+use Rattle.qc_words.proofs.Walks.{words_of_a_form_are_taken_by_clap}
 use Rattle.qc_words.proofs.laws.words_of_a_form_are_taken_by_clap.Goals as goal
 
 pub returns : goal.returns
-returns c = taken
+returns c = words_of_a_form_are_taken_by_clap

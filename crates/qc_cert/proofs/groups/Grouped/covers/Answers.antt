@@ -2,7 +2,7 @@ use Rattle.std.proofs.Common.{ℕ, List, ◌≤◌, ◌<◌, ◌⊎◌, length, 
 use Rattle.std.proofs.lemmas.List.{get_or_read}
 use Rattle.qc_cert.specs.Vocabulary.{AreStates, any_within, distinct, is_covered, outs_at, parts_within, place_of}
 use Rattle.qc_cert.proofs.Grouped.{covered_in, uncovered_past}
-use Rattle.qc_cert.proofs.MarkedTriples.{All-distinct, covered_once}
+use Rattle.qc_cert.proofs.MarkedTriples.{All-distinct, distinct_triples_cover_alike}
 use Rattle.qc_cert.proofs.groups.Grouped.covers.Goals as goal
 use Rattle.qc_cert.proofs.groups.Grouped.covers.Goals.{then-triple-ge-MOST_STATES-via-then-triple-ge-MOST_STATES}
 use Rattle.qc_cert.proofs.groups.Grouped.covers.Goals.{then-triple-ge-MOST_STATES-via-else-triple-ge-MOST_STATES+then-triple-ge-MOST_STATES-2}
@@ -33,5 +33,5 @@ returns c =
     c.covers.ensures ∙ group
     ∙ covered_in (distinct c.self.inside.list.now) c.args.triple.now
     (All-distinct AreStates c.self.inside.list.now c.self.invariant.states) c.if-triple-ge-MOST_STATES-2.false
-    ∙ covered_once c.self.inside.list.now c.args.triple.now
+    ∙ distinct_triples_cover_alike c.self.inside.list.now c.args.triple.now
     ∙ ap (λ ts. is_covered ts c.args.triple.now) c.self.view_is
