@@ -243,5 +243,5 @@ passes n d life clock log o asks = by (find (is_open n) d.requests) refl
     by (Some q) is =
         let f : IsFound n d.requests q = found n d.requests q is in
         granted_passes (record d
-            { requests = taken_for n (Some (answers.Granted (grant_with life clock log))) d.requests }) q.site
+        { requests = taken_for n (Some (answers.Granted (grant_with life clock log))) d.requests }) q.site
         life clock log q.want (asks q f.among f.number_is (taken_is q.taken f.open_still))

@@ -57,7 +57,7 @@ module _ (decl : Declaration) (script : Script) (h : List Entry) (open_inputs : 
 
   line_up : (a : ℕ) (e : Envelope) → In (Takes (inputs.Got e)) (deeds a [] h) → (to life clock : ℕ) (log : List Line)
       → e.message ≡ Answer to (Granted (grant_with life clock log)) → (l : Line) → In l log
-          → IsUpTo (committed decl h) l.tx clock
+      → IsUpTo (committed decl h) l.tx clock
   line_up a e among to life clock log is l in_log =
       let k : IsLogged decl (written h) l = runs.message_lines decl script h open_inputs accepted sound run e l
       (took_sent a [] h e among) (subst (λ (m : Message). In l (lines_in m)) (sym is) in_log) in

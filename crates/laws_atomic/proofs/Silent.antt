@@ -39,7 +39,7 @@ grants_silent : (decl : Declaration) (s : SiteState) (from number : ℕ) (tx : T
     → Silent (grants decl s from number tx want)
 grants_silent decl s from number tx (Read read) =
     reads_silent decl s from number tx read.object read.inv
-        (read_clash (relation_at decl read.object) s.held tx read.object read.inv)
+    (read_clash (relation_at decl read.object) s.held tx read.object read.inv)
 grants_silent decl s from number tx (Append object view own) = by (append_clash (relation_at decl object) s.held tx own)
   where
     by : (o : Option Conflict) → Silent (appends_by decl s from number tx view own o)

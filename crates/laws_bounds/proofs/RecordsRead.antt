@@ -66,7 +66,7 @@ record_read (records.Decide start) is =
 pub legal_read : (rs : List Record) → Every (λ (r : Record). is_legal r ≡ true) rs → Every RecordInForm rs
 legal_read rs all =
     every-weaker (λ (r : Record). is_legal r ≡ true) RecordInForm
-        (λ r is. record_read r ((legal_records_are_in_form r).0 is)) rs all
+    (λ r is. record_read r ((legal_records_are_in_form r).0 is)) rs all
 
 -- what is written
 

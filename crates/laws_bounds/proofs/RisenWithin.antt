@@ -21,7 +21,6 @@ use Rattle.qc_recover.specs.Clients as by_client_records
 use Rattle.qc_recover.specs.Vocabulary.{Kept, done_lines, done_stamp, inquiry, keeps, kept_by, most_inquiries}
 use Rattle.qc_recover.specs.Vocabulary.{nothing_kept}
 use Rattle.qc_site.specs.Vocabulary.{in_order, latest, lines_of, prepared_of, stamped, with_stamped, without_prepared}
-
 use Rattle.qc_recover.specs.Admins as admins
 use Rattle.qc_stamp.specs.Vocabulary.{same_tx}
 use Rattle.qc_stamp.specs.declared.stamp.Stamp.{Stamp}

@@ -143,18 +143,20 @@ module _ (fits : ℕ → List Record → Type 0) (decl : Declaration) (script : 
       → AreShown h
   runs_with_falls_have_trays h inputs begins fit = (empty_inboxes script, new_trays_are_kept script)
   runs_with_falls_have_trays h inputs (takes a g slots older run free rdy) fit =
-      let old : AreShown older = runs_with_falls_have_trays older slots run (every_left _ older _ fit) in
-      (after_take old.0 a,
-          inputs_keep_trays decl script older old.0 a g old.1 (slot_within older slots run a false free) rdy)
+      let old : AreShown older = runs_with_falls_have_trays older slots run (every_left _ older _ fit) in (
+        after_take old.0 a,
+        inputs_keep_trays decl script older old.0 a g old.1 (slot_within older slots run a false free) rdy,
+      )
   runs_with_falls_have_trays h inputs (posts a turn slots older run slot law) fit =
       taken older slots run (every_left _ older _ fit)
       (runs_with_falls_have_trays older slots run (every_left _ older _ fit)) a turn slot law
   runs_with_falls_have_trays h inputs (phase slots older run idle done quiet more) fit =
       let old : AreShown older = runs_with_falls_have_trays older slots run (every_left _ older _ fit) in
       let next : (lines : PhaseLines) × (slice_get script.phases (phase_of older) ≡ Some lines) =
-      slice_get-within script.phases (phase_of older) more in
-      (after_phase old.0 next.0,
-          phases_keep_trays script older old.0 (phase_of older) next.0 (controller decl) old.1 next.1)
+      slice_get-within script.phases (phase_of older) more in (
+        after_phase old.0 next.0,
+        phases_keep_trays script older old.0 (phase_of older) next.0 (controller decl) old.1 next.1,
+      )
   runs_with_falls_have_trays h inputs (control line lines step slots older run left acts) fit =
       let old : AreShown older = runs_with_falls_have_trays older slots run (every_left _ older _ fit) in
       (after_control old.0 line, controls_keep_trays script older old.0 line step (controller decl) old.1 acts)

@@ -88,7 +88,7 @@ module _ (decl : Declaration) where
                 log = w.log;
                 held =
                     held_named decl s.held tx (record { object = read.object; inv = read.inv } ∷ []) [] w.held low
-                        (here, tt) tt;
+                    (here, tt) tt;
                 prepared = w.prepared;
               };
           sends = (every-filter (LineNamed decl) (λ (l : Line). l.object == read.object) (known s) all_known, tt);

@@ -233,7 +233,7 @@ answered_holds decl n c number answer h = by c.desk.voting
     by : (o : Option Voting) → HoldsAfter decl n (answered_by decl c o number answer)
     by None = front_holds decl n c (fronts.takes decl c.front number answer)
         (answers_keep_hold decl c.front number answer h.front)
-            (answers_ask_at_once decl c.front number answer h.front h.numbered)
+        (answers_ask_at_once decl c.front number answer h.front h.numbered)
     by (Some v) = desk_holds decl n c (desks.vote c.desk number answer) (tx_of c.desk.voting)
         (vote-moves c.desk number answer) h
 

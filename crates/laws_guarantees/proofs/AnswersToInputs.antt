@@ -87,7 +87,7 @@ request_says decl s from number tx epoch life want =
         (λ c clash. says_clash Anything decl (moved s (clashing decl from number c)) from number c refl tt)
     by (Append object view own) = append_cases (Says number Anything) decl s from number tx object view own
         (λ free. says_one Anything (appends s from number tx view own) from number
-            (answers.Granted (grant_with s.life s.clock []))
+        (answers.Granted (grant_with s.life s.clock []))
         refl tt) (λ c clash. says_clash Anything decl (moved s (clashing decl from number c)) from number c refl tt)
     by Prepare =
         prepare_cases (Says number Anything) s from number tx
@@ -112,7 +112,7 @@ install_says s from number k clock lines =
     (λ answer. says_one Anything (moved s (answering_turn from number answer)) from number answer refl tt)
     (λ later fits. says_one Anything
     (moved (installed s k clock lines)
-        (recording from number (records.Install (start_with k clock lines)) answers.Installed))
+    (recording from number (records.Install (start_with k clock lines)) answers.Installed))
     from number answers.Installed refl tt)
 
 -- what is answered under a number was taken under it

@@ -56,7 +56,7 @@ module _ (decl : Declaration) (script : Script) (accepted : IsAccepted decl) (so
           record { epoch = epoch; life = named; is = (request, found, refl, asked) } in
           let one : (answer.from ≡ request.to) × (b.tx ≡ tx)
           × (b.want ≡ Read (read_of object inv)) =
-              one_request decl script accepted sound h open_inputs run number answer.from
+          one_request decl script accepted sound h open_inputs run number answer.from
           request.to b.tx tx b.want (Read (read_of object inv))
           (subst (λ (ms : List Envelope). IsRequest ms number answer.from b.tx b.want)
           (stood decl script accepted sound h open_inputs run).mail_is

@@ -199,7 +199,7 @@ pub append_way : (relation : List ℕ) (ms : List Envelope) (held : List Held) (
 append_way relation ms held tx own c all is =
     let found : IsSmallest (IsAppendConflict relation held tx own) (Some c) =
     subst (IsSmallest (IsAppendConflict relation held tx own)) is (appends_are_refused_on_conflict relation held tx own)
-        in
+    in
     let conflict : IsAppendConflict relation held tx own c = found.0 in
     record {
       is_open = ap (λ (d : Clash). is_open d.holder ms) conflict.told

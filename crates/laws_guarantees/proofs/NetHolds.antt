@@ -47,9 +47,11 @@ module _ (decl : Declaration) (accepted : IsAccepted decl) where
   client_step before a ps r client site tx is older k =
       elim (in_split k.answer before.mail (envelopes a (length before.mail) ps) k.sent) [
         | inl old ↦
-            elim (older (granted_before decl accepted before (envelopes a (length before.mail) ps) site tx r k old))
-            [ inl held ↦ inl held | inr ended ↦ inr
-              (ended_more before.mail (envelopes a (length before.mail) ps) tx ended) ]
+            elim (older (granted_before decl accepted before (envelopes a (length before.mail) ps) site tx r k old)) [
+              | inl held ↦ inl held
+              | inr ended ↦ inr
+                  (ended_more before.mail (envelopes a (length before.mail) ps) tx ended)
+            ]
         | inr new ↦ (let p : Place a ps (before.mail ++ envelopes a (length before.mail) ps) k.answer = placed before.mail a (length before.mail) ps k.answer refl new in
             absurd (both decl site is (subst (λ (n : ℕ). is_client decl n ≡ true) (sym (sym k.from ∙ p.from)) client)))
       ]
@@ -64,7 +66,7 @@ module _ (decl : Declaration) (accepted : IsAccepted decl) where
       (In-first e before.mail
       (envelopes a (length before.mail) (site_takes decl (before.sites a) input).turn.sends) among)) in
       site_step decl accepted before a input r served came same site tx less (granted_or_ended before r less site tx is)
-          g
+      g
   granted_or_ended net (calm.takes a input before r client came ready) full site tx is g =
       client_step before a (client_takes decl (before.clients a) input).turn.sends r client site tx is
       (granted_or_ended before r

@@ -69,7 +69,7 @@ module _ (decl : Declaration) where
                 c.1,
                 subst
                     (λ (y : ClientRequest). WasSent (ds ++ Sends n to (messages.Request tx epoch life want) ∷ []) y
-                        c.0.tx)
+                    c.0.tx)
                     (sym new)
                     (record {
                       epoch = epoch;

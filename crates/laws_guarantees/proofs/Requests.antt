@@ -66,13 +66,13 @@ module _ (decl : Declaration) where
   asks_right d t site want (Some commands.Begin) named is = absurd (let never : ⊥ = cc in never)
   asks_right d t site (Read read) (Some (commands.Do object inv)) named is =
       let both : ((read.object == object) && (read.inv == inv)) ≡ true =
-              and_first ((read.object == object) && (read.inv == inv)) _ is in
+      and_first ((read.object == object) && (read.inv == inv)) _ is in
       let same : read.object ≡ object =
-              eqb-true read.object object (and_first (read.object == object) (read.inv == inv) both) in
+      eqb-true read.object object (and_first (read.object == object) (read.inv == inv) both) in
       let kin : read.inv ≡ inv = eqb-true read.inv inv (and_second (read.object == object) (read.inv == inv) both) in (
         subst (λ (x : ℕ). IsNamedWant decl (Read (read_of x read.inv))) (sym same)
             (subst (λ (x : ℕ). IsNamedWant decl (Read (read_of object x))) (sym kin)
-                (named (commands.Do object inv) refl)),
+            (named (commands.Do object inv) refl)),
         tt,
       )
   asks_right d t site (Append o view own) (Some (commands.Do object inv)) named is = (

@@ -121,7 +121,7 @@ granted_is_held decl s from number tx epoch life want full =
     by : (w : Want) → IsFull w → HoldsGranted tx (grants decl s from number tx w)
     by (Read read) full = read_cases (HoldsGranted tx) decl s from number tx read.object read.inv
         (λ free p k life clock log among is. given_now s.held tx (record { object = read.object; inv = read.inv } ∷ [])
-            [] refl)
+        [] refl)
         (λ c clash. no_grant tx number (moved s (clashing decl from number c))
         (says_clash IsNoGrant decl (moved s (clashing decl from number c)) from number c refl tt))
     by (Append object view own) full = append_cases (HoldsGranted tx) decl s from number tx object view own

@@ -146,7 +146,7 @@ holding_keeps : (held : List Held) (u : TxId) (w : Want) (tx : TxId) (x : Item)
     → IsHeld (held_of (holding held u w) tx) x
 holding_keeps held u (Read read) tx x agree h =
     given_keeps held u tx (record { object = read.object; inv = read.inv } ∷ []) [] x
-        (λ o l is same never. absurd never) h
+    (λ o l is same never. absurd never) h
 holding_keeps held u (Append object view own) tx x agree h = given_keeps held u tx [] own x agree h
 holding_keeps held u Prepare tx x agree h = h
 
@@ -167,7 +167,7 @@ holding_has : (held : List Held) (tx : TxId) (w : Want) (x : Item)
     → IsHeld (held_of (holding held tx w) tx) x
 holding_has held tx (Read read) x agree is =
     subst (λ (y : Item). IsHeld (held_of (with_held held tx (record { object = read.object; inv = read.inv } ∷ []) [])
-        tx) y)
+    tx) y)
     (sym is) (lock_given_here held tx (record { object = read.object; inv = read.inv }))
 holding_has held tx (Append object view own) x agree is =
     subst (λ (y : Item). IsHeld (held_of (with_held held tx [] own) tx) y) (sym is.1)

@@ -100,7 +100,7 @@ module _ (fits : ℕ → List Record → Type 0) (decl : Declaration) (script : 
 
   line_up : (a : ℕ) (e : Envelope) → In (Takes (inputs.Got e)) (deeds a [] h) → (to life clock : ℕ) (log : List Line)
       → e.message ≡ Answer to (Granted (grant_with life clock log)) → (l : Line) → In l log
-          → IsUpTo (committed decl h) l.tx clock
+      → IsUpTo (committed decl h) l.tx clock
   line_up a e among to life clock log is l in_log =
       let k : IsLogged decl (records decl h) l =
       reached.message_lines fits decl script h open_inputs accepted sound run kept (records decl h) stand e l

@@ -133,7 +133,7 @@ module _ (decl : Declaration) (a : ℕ) (client : is_client decl a ≡ true) whe
                   (subst (Every (IsUpTo one.commit.stamp.clock))
                   (sym (commits_more (journal_after ds).records (records.Commit one.commit ∷ [])))
                   (every-append (IsUpTo one.commit.stamp.clock) (commits_of (journal_after ds).records)
-                      (one.commit ∷ [])
+                  (one.commit ∷ [])
                   (low_later t.state.desk.clock.value one.commit.stamp.clock
                   (let l : t.state.desk.clock.value < one.commit.stamp.clock = one.above in omega arith)
                   (commits_of (journal_after ds).records) now.passed)

@@ -79,7 +79,7 @@ module _ (decl : Declaration) (script : Script) (fits : ℕ → List Record → 
   declares h open_inputs run kept a =
       run_declares decl script fits accepted (scripts_ask_what_is_declared decl script accepted sound) h open_inputs run
       (kept_planned decl script fits accepted (scripts_ask_what_is_declared decl script accepted sound) h open_inputs
-          run kept) a
+      run kept) a
 
   record Lived (h : List Entry) (open_inputs : List Bool) (a : ℕ) : Type 0 where
     is_open : Bool

@@ -170,8 +170,8 @@ module _ (decl : Declaration) (acts : List Act) (net : Net) (run : IsRun decl ac
   again_case None is = ended (replies.Order net.admin.epoch) (λ is. absurd (let never : ⊥ = cc in never))
   again_case (Some d) is =
       let h : DecidedMirrors decl (state acts) net.admin.epoch (Some d) =
-              subst (λ (o : Option EpochStart). DecidedMirrors decl (state acts) net.admin.epoch o) is
-                (m.admin up).decided in
+      subst (λ (o : Option EpochStart). DecidedMirrors decl (state acts) net.admin.epoch o) is
+      (m.admin up).decided in
       rests (again decl net.admin (Some d)) refl refl (installs_backed (state acts) d h.1)
       (installs_sent (state acts) (net.mail ++ more_of (again decl net.admin (Some d))) net.admin d [] (all_sites decl)
       [] [] (length net.mail) (all_sites decl) (m.admin up).planned (m.admin up).decided)

@@ -143,7 +143,7 @@ insert_found p (x ∷ xs) t a = by (tx_cmp p.tx x.tx) refl (insert_found p xs t 
     by Less is rest = here (same_tx p.tx t) refl
     by Equal is rest = absurd (let same : same_tx x.tx p.tx ≡ true =
         tx_test x.tx p.tx (sym (transactions_are_ordered.apart p.tx x.tx is)) in let other : same_tx x.tx p.tx ≡ false =
-            a.0 in
+        a.0 in
         let never : ⊥ = cc in never)
     by Greater is rest = ap (λ (o : Option Prepared). cond (same_tx x.tx t) (Some x) o) rest
         ∙ sym (either_first x (same_tx x.tx t) (prepared_of xs t) (cond (same_tx p.tx t) (Some p) None))

@@ -99,7 +99,7 @@ module _ (decl : Declaration) where
               | inl old ↦
                   In-first x c.desk.commits (r ∷ [])
                   (m.commits x
-                      (In-unfiltered (λ (y : CommitRecord). not (same_tx y.tx r.tx)) x (kept_by rs).commits old))
+                  (In-unfiltered (λ (y : CommitRecord). not (same_tx y.tx r.tx)) x (kept_by rs).commits old))
               | inr new ↦ In-second x c.desk.commits (r ∷ []) new
             ]);
             none = λ t none. (let f : (record_of (kept_by rs).commits t ≡ None) × (same_tx r.tx t ≡ false) = found_with (kept_by rs).commits r t none in

@@ -69,7 +69,7 @@ module _ (decl : Declaration) where
       → c.front.transaction ≡ Some next
       → t.begun.tx ≡ next.begun.tx → t.begun.epoch ≡ next.begun.epoch → t.begun.lives ≡ next.begun.lives
       → ((site : ℕ) → IsWantOf decl c next site (want site)) → (p : Posting)
-          → In p (map (request_of t.begun want) sites)
+      → In p (map (request_of t.begun want) sites)
       → IsAsking decl c p.to p.message
   requests_asking c t next want [] is its epochs lives for p among = absurd among
   requests_asking c t next want (site ∷ sites) is its epochs lives for p (inl same) =
@@ -136,7 +136,7 @@ module _ (decl : Declaration) where
         (λ site. (sent, core.begun.sorted object, appended_on decl t object event)))
         (requests_asking (by_front c (append_by decl c.front t object inv event calls round verdicts.Waiting)).client t
         (with_asked t (wanted round)) (append_want decl t object event) (wanted round) refl refl refl refl
-            (λ site. refl))
+        (λ site. refl))
     appending acts c t object inv event calls round its m records core chosen sent is counted asked verdicts.Met e =
         let met : HasQuorum decl t.begun.epoch (state acts).counted t.begun.tx (Own (next_own t object event))
         (append_need_of decl t.begun.epoch object event) =

@@ -190,7 +190,7 @@ module _ (decl : Declaration) (accepted : IsAccepted decl) (acts : List Act) (ne
                 subst (λ (n : ℕ). KeptMirrors decl (kept_by (net.records a ++ records.Close k ∷ [])) (state acts).status n
                 (v.deeds a)) (sym (put_here (state acts).life a (suc ((state acts).life a))))
                 (subst (λ (ds : List Deed). KeptMirrors decl (kept_by (net.records a ++ records.Close k ∷ []))
-                    (state acts).status (suc ((state acts).life a)) ds) (sym (put_here (state acts).deeds a more))
+                (state acts).status (suc ((state acts).life a)) ds) (sym (put_here (state acts).deeds a more))
                 (subst (λ (x : Kept). KeptMirrors decl x (state acts).status (suc ((state acts).life a)) ((state acts).deeds a ++ Closes ∷ [])) (sym (kept_more (net.records a) (records.Close k)))
                 (kept_closes decl (kept_by (net.records a)) (state acts).status ((state acts).life a) ((state acts).deeds a) k (m.kept a site) (next ∙ ap (λ (n : ℕ). suc n) (epoch_kept a site up), planned))));
             alike = subst (λ (x : Kept). IsKeptBy (closed (net.sites a) k) x) (sym (kept_more (net.records a) (records.Close k))) (record { began = (m.alike a site up).began; recorded = (m.alike a site up).recorded; promises = (m.alike a site up).promises });

@@ -30,7 +30,7 @@ pub read_counted : (decl : Declaration) (w : State) (a : ℕ) (c : Client) (t : 
     → Core decl (after_act w (Count k.grant)) a (learned c clock) (with_granted (lived t site life) object log)
 read_counted decl w a c t site life clock object inv log k lives v is core =
     counted_core decl w a c t (with_granted (lived t site life) object log) site life clock log
-        (Read (read_of object inv)) k
+    (Read (read_of object inv)) k
     lives core (granted_given t site life object log) sorted shown whole
   where
     here : view_log (with_granted (lived t site life) object log) object ≡ union (view_log t object) log

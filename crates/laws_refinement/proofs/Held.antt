@@ -211,7 +211,7 @@ read_is_free relation held tx t object inv line free other among here =
     let l : In (held_of held t) held × (same_tx (held_of held t).tx t ≡ true) =
     listed (λ (h : Held). In line h.own) held t among (λ n. n) in
     granted_reads_conflict_with_nothing relation held tx object inv (held_of held t) line free
-        (to_among (held_of held t) held l.0)
+    (to_among (held_of held t) held l.0)
     (other_by (held_of held t).tx t tx l.1 other) (to_among line (held_of held t).own among) here
 
 pub append_is_free : (relation : List ℕ) (held : List Held) (tx t : TxId) (own : List OwnLine) (line : OwnLine)
@@ -241,7 +241,7 @@ pub append_holder : (relation : List ℕ) (held : List Held) (tx : TxId) (own : 
 append_holder relation held tx own c e =
     let s : IsSmallest (IsAppendConflict relation held tx own) (Some c) =
     subst (IsSmallest (IsAppendConflict relation held tx own)) e
-        (conflicts.appends_are_refused_on_conflict relation held tx own) in
+    (conflicts.appends_are_refused_on_conflict relation held tx own) in
     subst (λ (t : TxId). is_held held t ≡ true) (sym (ap (λ (x : Clash). x.holder) s.0.told))
     (entry_held held s.0.holder (from_among s.0.holder held s.0.holds))
 

@@ -162,7 +162,7 @@ kept_closes decl k status life ds epoch m closing = record {
 pub kept_installs : (decl : Declaration) (k : Kept) (status : TxId → Status) (life : ℕ) (ds : List Deed)
     (epoch clock : ℕ) (log : List Line) → KeptMirrors decl k status life ds → IsPlanned decl epoch → IsAscending log
     → KeptMirrors decl (keeps k (records.Install (start_with epoch clock log))) status life
-        (ds ++ Installs epoch clock log ∷ [])
+    (ds ++ Installs epoch clock log ∷ [])
 kept_installs decl k status life ds epoch clock log m planned ascends = record {
   life_is = m.life_is;
   epoch = epoch_after ds (Installs epoch clock log ∷ []) 1;

@@ -54,7 +54,7 @@ module _ (decl : Declaration) (accepted : IsAccepted decl) where
   nets_refine net (nets.takes a given before r client up came ready) =
       let h : Refines decl before = nets_refine before r in
       take_case decl accepted h.acts before a h.run h.agrees client up (front_ends_stand decl before r a) given came
-          ready
+      ready
   nets_refine net (nets.site_falls a before r site up) =
       site_falls decl accepted before (nets_refine before r) a site None [] tt (λ p never. absurd never)
   nets_refine net (nets.client_falls a before r client up) =

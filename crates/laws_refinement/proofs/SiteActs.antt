@@ -201,7 +201,7 @@ module _ (decl : Declaration) (acts : List Act) (net : Net) (a : ℕ) (run : IsR
                 (without_owns (net.sites a) tx (w.deeds a) u o ms.owned
                 (subst (λ (h : List Held). In o (held_of h u).own) held among)))
                 (λ x is. (let c : move.site.clock ≡ clock = at in
-                          let k : x.stamp.clock ≤ clock = done x is in omega arith))
+                let k : x.stamp.clock ≤ clock = done x is in omega arith))
                 (λ l among. (let c : move.site.clock ≡ clock = at in
                 let k : l.stamp.clock ≤ clock = passed l among in omega arith)) log logged sorted promised
                 apart lined);

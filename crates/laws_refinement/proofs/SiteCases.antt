@@ -99,7 +99,7 @@ module _ (decl : Declaration) (accepted : IsAccepted decl) (acts : List Act) (ne
           → Continues decl acts (after_site net a (grants decl (passed (net.sites a) (messages.Request tx epoch life w)) from number tx w))
       looked_at (Read read) b r p =
           read_case decl accepted acts net a run m site up (net.sites a).clock from number tx epoch life read.object
-              read.inv
+          read.inv
           (p.epoch_is ∙ b.2) p.unshut p.lived (omega arith) r b.1
       looked_at (Append object view own) b r p =
           append_case decl accepted acts net a run m site up (latest (net.sites a).clock view) from number tx epoch life

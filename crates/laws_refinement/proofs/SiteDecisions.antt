@@ -222,7 +222,7 @@ module _ (decl : Declaration) (accepted : IsAccepted decl) (acts : List Act) (ne
               recorded =
                   ap (λ (ls : List Line). union ls (without (lines_of stamp tx q.own) (net.sites a).began)) al.recorded
                   ∙ ap
-                      (λ (ls : List Line). union (kept_by (net.records a)).lines (without (lines_of stamp tx q.own) ls))
+                  (λ (ls : List Line). union (kept_by (net.records a)).lines (without (lines_of stamp tx q.own) ls))
                   al.began
                   ∙ ap (λ (ls : List Line). union (kept_by (net.records a)).lines (without ls (kept_by (net.records a)).began)) (ap (λ (y : Stamp). lines_of y tx q.own) stamp_is
                   ∙ sym

@@ -149,7 +149,7 @@ module _ (decl : Declaration) (acts : List Act) (net : Net) (a : ℕ) (run : IsR
       → l.object ≡ object → In l log)
       → Continues decl acts
       (after_site net a
-          (moved now (answers_with from number (answers.Granted (grant_with (net.sites a).life clock log)))))
+      (moved now (answers_with from number (answers.Granted (grant_with (net.sites a).life clock log)))))
   grants_it clock from number tx epoch named want asks log now alike going born request lived here holders sorted lines
       shown whole = record {
         more = Grant g ∷ [];
@@ -157,7 +157,7 @@ module _ (decl : Declaration) (acts : List Act) (net : Net) (a : ℕ) (run : IsR
           run = going;
           agrees =
               site_goes decl w v net a
-                  (moved now (answers_with from number (answers.Granted (grant_with (net.sites a).life clock log))))
+              (moved now (answers_with from number (answers.Granted (grant_with (net.sites a).life clock log))))
               m site up (record {
                 later =
                     record {
@@ -200,7 +200,7 @@ module _ (decl : Declaration) (acts : List Act) (net : Net) (a : ℕ) (run : IsR
                     (kept_same decl (kept_by (net.records a)) w.status (w.life a) (w.deeds a)
                     (Grants tx (items_wanted want) (view_in want))
                     (leaves_epoch (w.deeds a) (Grants tx (items_wanted want) (view_in want)) tt) (m.kept a site) refl
-                        refl
+                    refl
                     (λ x never. absurd never)));
                 alike =
                     subst (λ (rs : List Record). IsKeptBy now (kept_by rs)) (sym (append-nil (net.records a))) alike;
@@ -212,32 +212,32 @@ module _ (decl : Declaration) (acts : List Act) (net : Net) (a : ℕ) (run : IsR
                 holders = holders;
                 turn = one_answer decl v net.mail a from number
                     (answers.Granted (grant_with (net.sites a).life clock log)) (record {
-                  tx = tx;
-                  want = want;
-                  begun = born;
-                  epoch = epoch;
-                  named = named;
-                  request = request;
-                  lived = lived;
-                  grant =
-                      record {
-                        grant = g;
-                        given = inl refl;
-                        its = refl;
-                        by = refl;
-                        place = site;
-                        epoch_is = refl;
-                        life_is = sym (m.sites a site up).life;
-                        some = (m.sites a site up).some;
-                        clock_is = refl;
-                        asks = asks;
-                        items_are = refl;
-                        sorted = sorted;
-                        lines = lines;
-                        shown = shown;
-                        whole = whole;
-                      };
-                });
+                      tx = tx;
+                      want = want;
+                      begun = born;
+                      epoch = epoch;
+                      named = named;
+                      request = request;
+                      lived = lived;
+                      grant =
+                          record {
+                            grant = g;
+                            given = inl refl;
+                            its = refl;
+                            by = refl;
+                            place = site;
+                            epoch_is = refl;
+                            life_is = sym (m.sites a site up).life;
+                            some = (m.sites a site up).some;
+                            clock_is = refl;
+                            asks = asks;
+                            items_are = refl;
+                            sorted = sorted;
+                            lines = lines;
+                            shown = shown;
+                            whole = whole;
+                          };
+                    });
               });
         };
       }

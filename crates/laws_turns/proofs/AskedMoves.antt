@@ -181,7 +181,7 @@ shorten decl front m accepted sites holds asks =
       short (inl low) = let few : count_in m.front.doing ≤ 16 = few_in m.front.doing asks_few in omega arith
       short (inr low) =
           let few : length (asked_by front.transaction) ≤ decl.sites =
-                  few_sites decl (asked_by front.transaction) before in
+          few_sites decl (asked_by front.transaction) before in
           let most : decl.sites ≤ 16 = accepted.sites in
           omega arith
 
@@ -195,5 +195,5 @@ pub takes_short : (decl : Declaration) (front : Front) (number : ℕ) (answer : 
     → AskedSites decl front.transaction → FrontHolds decl front → IsShort decl (takes decl front number answer)
 takes_short decl front number answer accepted sites holds =
     shorten decl front (takes decl front number answer) accepted sites
-        (answers_keep_hold decl front number answer holds)
+    (answers_keep_hold decl front number answer holds)
     (takes_in-asks decl front front.doing front.transaction number answer refl)

@@ -71,7 +71,7 @@ module _ (k : ℕ) (tx : TxId) (clock : ℕ) (records : List Commit) (d : Dealin
         by (Some site) =
             read_by-after k tx clock records d decl (learns front answer) t.begun
             (learned front answer t.begun (stands k tx clock records d decl front own book w t is))
-                (read_with t site object answer) object
+            (read_with t site object answer) object
             inv (without_call calls number) (note round site (standing_of answer))
             (verdict (note round site (standing_of answer)))
             (read_like t site object answer) asked
@@ -79,13 +79,13 @@ module _ (k : ℕ) (tx : TxId) (clock : ℕ) (records : List Commit) (d : Dealin
       by (site_called calls number) where
         by : (s : Option ℕ)
             → FrontAfter k tx clock records d
-                (appending_takes decl front t object inv event calls round number answer s)
+            (appending_takes decl front t object inv event calls round number answer s)
         by None =
             still k tx clock records d decl front own book w quiet refl refl (subst (AskedFor d.asked) (sym does) asked)
         by (Some site) =
             append_by-after k tx clock records d decl (learns front answer) t.begun
             (learned front answer t.begun (stands k tx clock records d decl front own book w t is))
-                (appended_with t site answer) object inv
+            (appended_with t site answer) object inv
             event (without_call calls number) (note round site (standing_of answer))
             (verdict (note round site (standing_of answer)))
             (appended_like t site answer) asked

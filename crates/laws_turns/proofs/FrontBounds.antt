@@ -178,10 +178,10 @@ module _ (bound : ℕ) where
         by t.begun.doomed (nat_le most_transaction_operations (length t.begun.ops)) where
           by : (doomed long : Bool)
               → FrontWithin bound
-                (cond doomed (moved front (telling replies.Doomed))
-                  (cond long (moved front (telling replies.TooLong))
-                    (reads decl front t object inv []
-                      (round_for decl front t (read_need_of decl t.begun.epoch object inv))))).front
+              (cond doomed (moved front (telling replies.Doomed))
+              (cond long (moved front (telling replies.TooLong))
+              (reads decl front t object inv []
+              (round_for decl front t (read_need_of decl t.begun.epoch object inv))))).front
           by true long = w
           by false true = w
           by false false =
@@ -212,7 +212,7 @@ module _ (bound : ℕ) where
         by None = w
         by (Some site) =
             read_by-within decl (learns front answer) (learned-within front answer w here)
-                (read_with t site object answer)
+            (read_with t site object answer)
             object inv (without_call calls number) (note round site (standing_of answer))
             (verdict (note round site (standing_of answer)))
             (read-within t site object answer views here)
@@ -223,7 +223,7 @@ module _ (bound : ℕ) where
         by None = w
         by (Some site) =
             append_by-within decl (learns front answer) (learned-within front answer w here)
-                (appended_with t site answer)
+            (appended_with t site answer)
             object inv event (without_call calls number) (note round site (standing_of answer))
             (verdict (note round site (standing_of answer)))
             (appended_within t site answer views)

@@ -104,7 +104,7 @@ module _ (decl : Declaration) (accepted : IsAccepted decl) (k : ℕ) (within : k
 
   requests_proper : (b : Begun) (want : ℕ → Want) (sites : List ℕ)
       → ((site : ℕ) → names_declared decl b.tx (want site) ≡ true) → AreSites decl sites
-          → AreProper decl (map (request_of b want) sites)
+      → AreProper decl (map (request_of b want) sites)
   requests_proper b want [] names all = tt
   requests_proper b want (s ∷ sites) names all = ((all.0, names s), requests_proper b want sites names all.1)
 

@@ -92,7 +92,7 @@ grants_reply : (decl : Declaration) (s : SiteState) (from number : ℕ) (tx : Tx
     → IsReply from number (grants decl s from number tx want)
 grants_reply decl s from number tx (Read read) =
     reads_reply decl s from number tx read.object read.inv
-        (read_clash (relation_at decl read.object) s.held tx read.object read.inv)
+    (read_clash (relation_at decl read.object) s.held tx read.object read.inv)
 grants_reply decl s from number tx (Append object view own) =
     appends_reply decl s from number tx view own (append_clash (relation_at decl object) s.held tx own)
 grants_reply decl s from number tx Prepare = prepares_reply s from number tx

@@ -94,7 +94,7 @@ module _ (decl : Declaration) (B : TxId → Type 0) where
   append_holder relation held tx own c all is =
       let found : IsSmallest (IsAppendConflict relation held tx own) (Some c) =
       subst (IsSmallest (IsAppendConflict relation held tx own)) is
-          (appends_are_refused_on_conflict relation held tx own) in
+      (appends_are_refused_on_conflict relation held tx own) in
       let conflict : IsAppendConflict relation held tx own c = found.0 in
       subst (λ (d : Clash). B d.holder) (sym conflict.told)
       (every-In (λ (h : Held). B h.tx) conflict.holder held all conflict.holds)

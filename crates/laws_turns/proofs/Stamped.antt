@@ -74,7 +74,7 @@ grants_answer : (decl : Declaration) (s : SiteState) (from number : ℕ) (tx : T
     → IsAnswering (grants decl s from number tx want)
 grants_answer decl s from number tx (Read read) =
     reads_answer decl s from number tx read.object read.inv
-        (read_clash (relation_at decl read.object) s.held tx read.object read.inv)
+    (read_clash (relation_at decl read.object) s.held tx read.object read.inv)
 grants_answer decl s from number tx (Append object view own) =
     appends_answer decl s from number tx view own (append_clash (relation_at decl object) s.held tx own)
 grants_answer decl s from number tx Prepare = prepares_answer s from number tx

@@ -52,7 +52,7 @@ module _ (fits : ℕ → List Record → Type 0) (decl : Declaration) (script : 
           record { epoch = epoch; life = named; is = (request, found, refl, asked) } in
           let one : (answer.from ≡ request.to) × (b.tx ≡ tx)
           × (b.want ≡ Read (read_of object inv)) =
-              one_request fits decl script h open_inputs accepted sound run kept number
+          one_request fits decl script h open_inputs accepted sound run kept number
           answer.from request.to b.tx tx b.want (Read (read_of object inv))
           (subst (λ (ms : List Envelope). IsRequest ms number answer.from b.tx b.want)
           (reached fits decl script h open_inputs accepted sound run kept).mail_is

@@ -226,11 +226,11 @@ module _ (fits : ℕ → List Record → Type 0) (decl : Declaration) (script : 
                 | First rest s ↦ absurd (never_between p.before p.step rest s p.writing)
                 | Second first is s ↦
                     elim (split (by k.actor k.steps) k.after first (marked w.actor p.step) p.after s) [
-                  | First rest own_step ↦ absurd (other (ap (λ (x : CommitRecord). x.tx)
-                      (own_record k.steps c k.actor first w.actor p.step rest d.logged.commit k.writing own_step
+                      | First rest own_step ↦ absurd (other (ap (λ (x : CommitRecord). x.tx)
+                          (own_record k.steps c k.actor first w.actor p.step rest d.logged.commit k.writing own_step
                           p.writing)))
-                  | Second later is_later s_later ↦ came_later later p.step p.after s_later p.writing
-                ]
+                      | Second later is_later s_later ↦ came_later later p.step p.after s_later p.writing
+                    ]
               ]
         ]
 

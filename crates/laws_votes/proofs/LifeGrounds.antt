@@ -158,7 +158,7 @@ module _ (decl : Declaration) where
               | inr new ↦
                   subst (HasParticipant d.current) (sym new)
                   (asked_participant d n to tx epoch life want (sym (ap (λ (y : ClientRequest). y.want) new) ∙ prepare)
-                      is)
+                  is)
             ];
         full =
             λ q among. elim (In-more q (record { number = n; site = to; life = life; want = want; taken = None })

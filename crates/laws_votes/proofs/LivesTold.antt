@@ -65,11 +65,11 @@ told_changed d p (Some (answers.Granted grant)) t is = by p.want is
         → IsChangedBy d.current p.site (Some (answers.Granted grant)) t
     by (Read read) e =
         one_changed d.current p.site grant.life grant.clock grant.log
-            (λ (x : Current). with_read (lived x p.site grant.life) read.object grant.log)
+        (λ (x : Current). with_read (lived x p.site grant.life) read.object grant.log)
         (λ x. (refl, refl)) t e
     by (Append object view own) e =
         one_changed d.current p.site grant.life grant.clock grant.log (λ (x : Current). lived x p.site grant.life)
-            (λ x. (refl, refl)) t e
+        (λ x. (refl, refl)) t e
     by Prepare e = same_changed d.current p.site (Some (answers.Granted grant)) t e
 told_changed d p (Some (answers.Clash holder inv event)) t is =
     same_changed d.current p.site (Some (answers.Clash holder inv event)) t is
@@ -101,10 +101,10 @@ told_forward d p (Some (answers.Granted grant)) t was = by p.want
   where
     by : (w : Want)
         → (u : Current) × ((granted d p.site grant.life grant.clock grant.log w).current ≡ Some u)
-            × KeepsLives t.lives u.lives
+        × KeepsLives t.lives u.lives
     by (Read read) =
         granted_on d.current t p.site grant.life
-            (λ (x : Current). with_read (lived x p.site grant.life) read.object grant.log) (λ x. refl) was
+        (λ (x : Current). with_read (lived x p.site grant.life) read.object grant.log) (λ x. refl) was
     by (Append object view own) =
         granted_on d.current t p.site grant.life (λ (x : Current). lived x p.site grant.life) (λ x. refl) was
     by Prepare = (t, was, same_lives t.lives)

@@ -94,7 +94,7 @@ at_never decl s from number (messages.Close epoch) =
     (λ near later. at_fault from number)
 at_never decl s from number (messages.Install start) =
     install_cases NeverForgets s from number start.epoch start.clock start.lines
-        (λ answer p n x among is forgets. among)
+    (λ answer p n x among is forgets. among)
     (λ later fits. at_fault from number)
 
 pub fails_never : (decl : Declaration) (s : SiteState) (g : Input) → NeverForgets (site_takes decl s g)

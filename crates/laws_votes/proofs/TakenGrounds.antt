@@ -104,7 +104,7 @@ module _ (ds : List Deed) (x : Deed) (d : Account) (n : ℕ) (answer : Option An
             log = log;
             taken =
                 subst (λ (number : ℕ). WasTaken (ds ++ x ∷ []) number (answers.Granted (grant_with life clock log)))
-                    (sym number)
+                (sym number)
                 (now_taken (answers.Granted (grant_with life clock log)) is);
           })
 

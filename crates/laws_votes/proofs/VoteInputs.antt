@@ -61,7 +61,7 @@ heard_life decl s from number (messages.Close k) stays =
     (λ near later none. absurd (let clash : ⊥ = cc in clash)) stays
 heard_life decl s from number (messages.Install start) stays =
     install_cases (λ m. m.site.life ≡ s.life) s from number start.epoch start.clock start.lines (λ answer. refl)
-        (λ later fits. refl)
+    (λ later fits. refl)
 
 pub takes_life : (decl : Declaration) (s : SiteState) (g : Input) → closes_in (site_takes decl s g).turn ≡ false
     → (site_takes decl s g).site.life ≡ s.life
@@ -84,7 +84,7 @@ wanted_none : (decl : Declaration) (s : SiteState) (from number : ℕ) (tx : TxI
     → TellsNone (grants decl s from number tx want)
 wanted_none decl s from number tx (Read read) =
     read_cases TellsNone decl s from number tx read.object read.inv
-        (λ free closes p among to v. let never : ⊥ = cc in never)
+    (λ free closes p among to v. let never : ⊥ = cc in never)
     (λ c clash closes p among to v. let never : ⊥ = cc in never)
 wanted_none decl s from number tx (Append object view own) =
     append_cases TellsNone decl s from number tx object view own
@@ -119,7 +119,7 @@ heard_none decl s from number (messages.Close k) =
     ])
 heard_none decl s from number (messages.Install start) =
     install_cases TellsNone s from number start.epoch start.clock start.lines
-        (λ answer closes p among to v. let never : ⊥ = cc in never)
+    (λ answer closes p among to v. let never : ⊥ = cc in never)
     (λ later fits closes p among to v. let never : ⊥ = cc in never)
 
 pub takes_none : (decl : Declaration) (s : SiteState) (g : Input) → TellsNone (site_takes decl s g)

@@ -114,8 +114,7 @@ pub use asked_votes::{
 };
 pub use clocks::{
     shuts_pass_their_lines_through_falls, sites_clocks_pass_their_dones_through_falls,
-    sites_clocks_pass_their_lines_through_falls,
-    stamps_pass_what_was_counted_in_their_lives,
+    sites_clocks_pass_their_lines_through_falls, stamps_pass_what_was_counted_in_their_lives,
 };
 pub use count_laws::{committed_operations_are_counted, records_that_rise_are_counted};
 pub use counted_votes::{

@@ -76,10 +76,10 @@ module _ (sites clients : ℕ) (types : TypesOf) (objects : ObjectsOf) (plans : 
       (map (λ (t : TypeOf). t.triples) ts) long shown number kind p.type.triples at list_at in
       let sound : IsSound kind.table = subst (λ (k : Kind). IsSound k.table) p.is kept.table in
       record {
-            sound = sound;
-            inductive_lists_make_relations_exact = inductive_lists_make_relations_exact kind p.type.triples
-                (no_fault_is_inductive kind p.type.triples sound none)
-          }
+        sound = sound;
+        inductive_lists_make_relations_exact = inductive_lists_make_relations_exact kind p.type.triples
+            (no_fault_is_inductive kind p.type.triples sound none);
+      }
 
   good_at : all_admitted (draft sites clients types objects plans).decl 1 plans ≡ Ok tt → (place : ℕ) (p : Plan)
       → slice_get plans place ≡ Some p

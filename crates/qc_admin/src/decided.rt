@@ -19,7 +19,11 @@ pub(crate) fn fits_record(start: &EpochStart) -> bool
 }
 
 /// The Installs to these sites.
-pub(crate) fn installs(alloc: Global, start: &EpochStart, sites: &Sites) -> Result<Sends, OutOfMemory>
+pub(crate) fn installs(
+    alloc: Global,
+    start: &EpochStart,
+    sites: &Sites,
+) -> Result<Sends, OutOfMemory>
     ensures { IfOk result (λ sends. sends ≡ map (install_of start.now) sites.now) }
 {
     let mut sends = List::new(alloc);

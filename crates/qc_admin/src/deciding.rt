@@ -10,9 +10,9 @@ use crate::shut::{ShutSite, Shuts};
 use crate::stamps::Stamps;
 use qc_entry::{Log, Prepared};
 use qc_list::OutOfMemory;
+use qc_msg::EpochStart;
 use qc_recover::LineSet;
 use qc_site::lines_of;
-use qc_msg::EpochStart;
 use std::alloc::Global;
 
 /// The epoch as what these sites told and these verdicts decide it.

@@ -12,8 +12,8 @@ ghost use Rattle.qc_admin.specs.Next.{becomes};
 ghost use Rattle.qc_admin.specs.Sent.{numbered};
 ghost use Rattle.qc_admin.specs.Shown.{installing_of};
 
-use crate::decided::{fits_record, installs};
 use crate::answers::is_installed;
+use crate::decided::{fits_record, installs};
 use crate::doing::Doing;
 use crate::next::Next;
 use qc_decl::Declaration;

@@ -240,7 +240,7 @@ front_command decl c first command st =
     front_lands decl true c first (fronts.called decl c.front command) (st.free refl).voting
     (called_sent decl c.front command) (commands_keep_hold decl c.front command st.front)
     (commands_ask_at_once decl c.front command st.front st.numbered)
-        (command_idle decl c.front command (st.free refl).doing)
+    (command_idle decl c.front command (st.free refl).doing)
 
 commits_lands : (decl : Declaration) (c : Client) (first : ℕ) → 0 < decl.sites → decl.sites ≤ most_sites
     → Stands decl false c → (o : Option Transaction) → Lands decl true first (commits decl c o)

@@ -244,7 +244,7 @@ module _ (decl : Declaration) (site : ℕ) (ds : List Deed) where
         (turn_due decl (after (messages.Install (start_with k clock lines)))
         (letter number from to (messages.Install (start_with k clock lines)))))
         (sym (still site ds 0 number from to (messages.Install (start_with k clock lines)) [] None
-            (λ t. refl, λ t. refl) refl refl))
+        (λ t. refl, λ t. refl) refl refl))
         (by (nat_le k s.epoch) (nat_le (epoch_length lines) most_record_bytes))
       where
         s : SiteState

@@ -104,7 +104,7 @@ module _ (site : ℕ) (ds : List Deed) (n number from to : ℕ) where
     granted want l c log r is =
         is ∙ sym (shown-more site ds (asking want) n (answered from number (answers.Granted (grant_with l c log)))
         ∙ talks site ds (asking want) n (answering from number (answers.Granted (grant_with l c log)) ∷ []) None
-            (nothing want)
+        (nothing want)
         (record { tx = tx; want = want } ∷ []) (view_in want)
         (ap (λ (b : Bool). cond ((b && true || false) && true) (record { tx = tx; want = want } ∷ []) [])
         (eq-eqb number number refl))

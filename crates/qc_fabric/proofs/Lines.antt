@@ -159,7 +159,7 @@ module _ {L : ℕ → List Deed → Turn → Type 0} {F : ℕ → List Record �
         let kept : IsKept S (lg.history ++ arming) mb'.inboxes =
         subst (λ (i : Inboxes). IsKept S (lg.history ++ arming) i) (sym after)
         (controls_keep_trays S lg.history mb.inboxes (controls.Armed (number p) kind at)
-            (steps.Armed (number p) kind at)
+        (steps.Armed (number p) kind at)
         (number c) s.kept refl) in
         record {
           script_is = s.script_is;

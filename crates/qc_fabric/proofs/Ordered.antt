@@ -111,7 +111,7 @@ module _ {L : ℕ → List Deed → Turn → Type 0} {F : ℕ → List Record �
   acts_on s r e p q t line step at first under said m a lg1 lg' mb' hs lr bd g mr is =
       let lines : Lines (controls_left S lg.history) line = lines_of (controls_left S lg.history) line first in
       let shown : mb.inboxes.controls ≡ line ∷ lines.rest =
-              trays_show_controls S lg.history mb.inboxes s.kept ∙ lines.are in
+      trays_show_controls S lg.history mb.inboxes s.kept ∙ lines.are in
       let after : mb'.inboxes ≡ after_control mb.inboxes line = is
       ∙ ap (λ (cs : List Control). after_first mb.inboxes cs) shown in
       let run : RunsWithFalls L F D S (lg.history ++ marked (number p) step ∷ []) op =

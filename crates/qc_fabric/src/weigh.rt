@@ -144,8 +144,9 @@ fn lines_answered(answer: &Answer) -> u32
 {
     match answer {
         Answer::Granted(grant) => saturated(grant.log.lines().len()),
-        Answer::Shut(snapshot) => saturated(snapshot.log.lines().len())
-            .saturating_add(lines_promised(snapshot.prepared.items())),
+        Answer::Shut(snapshot) => saturated(snapshot.log.lines().len()).saturating_add(
+            lines_promised(snapshot.prepared.items()),
+        ),
         _ => 0,
     }
 }

@@ -263,7 +263,7 @@ pub commands_ask_at_once : (decl : Declaration) (front : Front) (command : Comma
     → IsNumbered front.doing → AsksAtOnce decl (called decl front command)
 commands_ask_at_once decl front command h full =
     at_once decl (called decl front command) (commands_keep_hold decl front command h)
-        (called_asks decl front command h full)
+    (called_asks decl front command h full)
 
 pub answers_ask_at_once : (decl : Declaration) (front : Front) (number : ℕ) (answer : Option Answer)
     → FrontHolds decl front

@@ -104,7 +104,7 @@ pub want_drafted : (decl : Declaration) (views : List View) (d : Draft) (event :
     → append_want decl (drafted views d) d.object event ≡ append_want_of decl d event
 want_drafted decl views d event has =
     let want_by : Option View → ℕ → Want = λ o site.
-      Append d.object (option_map_or (λ (v : View). v.log) o []) (own_appended decl (drafted [] d) d.object event) in
+    Append d.object (option_map_or (λ (v : View). v.log) o []) (own_appended decl (drafted [] d) d.object event) in
     ap want_by (view_is views d.object d.view has)
 
 -- what came of a request to a site
@@ -158,10 +158,10 @@ pub read_is_draft : (t : Transaction) (object site : ℕ) (answer : Option Answe
 read_is_draft t object site None = record { object_is = refl; view = refl; ops = refl }
 read_is_draft t object site (Some (answers.Granted grant)) =
     record {
-          object_is = refl;
-          view = same_some (slice_get t.views object) (λ (v : View). with_log v grant.log);
-          ops = refl
-        }
+      object_is = refl;
+      view = same_some (slice_get t.views object) (λ (v : View). with_log v grant.log);
+      ops = refl;
+    }
 read_is_draft t object site (Some (answers.Clash holder inv event)) =
     record { object_is = refl; view = refl; ops = refl }
 read_is_draft t object site (Some (answers.Closed epoch)) = record { object_is = refl; view = refl; ops = refl }

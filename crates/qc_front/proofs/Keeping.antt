@@ -55,8 +55,8 @@ pub read_keeps : (t : Transaction) (site object : ℕ) (answer : Option Answer)
 read_keeps t site object None = record { ops = refl; epoch = refl }
 read_keeps t site object (Some (answers.Granted grant)) =
     let same : (with_granted (lived t site grant.life) object grant.log).begun ≡ (lived t site grant.life).begun =
-            view_keeps (lived t site grant.life) object
-              (option_map (λ (v : View). with_log v grant.log) (slice_get t.views object)) in
+    view_keeps (lived t site grant.life) object
+    (option_map (λ (v : View). with_log v grant.log) (slice_get t.views object)) in
     record { ops = ap (λ (b : Begun). b.ops) same; epoch = ap (λ (b : Begun). b.epoch) same }
 read_keeps t site object (Some (answers.Clash holder inv event)) = record { ops = refl; epoch = refl }
 read_keeps t site object (Some (answers.Closed epoch)) = record { ops = refl; epoch = refl }

@@ -164,7 +164,7 @@ with_keeps : (lives : List LifeAt) (site : ℕ) (answer : Option Answer)
     → KeepsLives lives (lives_with lives site answer) (Some site) answer
 with_keeps lives site None = no_grant lives (Some site) None
     (λ s life g. (let is : None ≡ Some (answers.Granted (grant_with life g.clock g.log)) = g.is in
-                  let never : ⊥ = cc in never))
+    let never : ⊥ = cc in never))
 with_keeps lives site (Some (answers.Granted grant)) = record {
   kept = λ s has. kept_by lives site grant.life s has (has_granted lives site);
   gained = λ s none has.

@@ -170,7 +170,7 @@ nobody_asked front first (p ∷ ps) none =
 all_asked : (make : List Call → Doing) →
     ((cs : List Call) (number site : ℕ) → requested_in (make cs) number site ≡ make (with_call cs number site))
     → (b : Begun) (want : ℕ → Want) (front : Front) (first : ℕ) (calls : List Call) (xs : List ℕ)
-        → front.doing ≡ make calls
+    → front.doing ≡ make calls
     → numbered_all front first (map (request_of b want) xs)
     ≡ record front { doing = make (calls ++ calls_from first xs) }
 all_asked make more b want front first calls [] is =

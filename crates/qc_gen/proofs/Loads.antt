@@ -10,4 +10,4 @@ use Rattle.qc_script.specs.Vocabulary.{script_of}
 pub loads_read : (count seed : ℕ) → script_of three (load_text count seed) ≡ Ok (load_of count seed)
 loads_read count seed =
     scripts_are_read_as_written three (lines_from count 0 seed) (are_writable count 0 seed)
-        ∙ load_read count 0 seed 1 []
+    ∙ load_read count 0 seed 1 []

@@ -148,7 +148,7 @@ granted_reads_conflict_with_nothing relation held tx object inv holder line free
     is_false (depends relation inv line.event) (λ depended.
     none_of (IsReadConflict relation held tx object inv) (read_clash relation held tx object inv)
     (record { holder = holder.tx; inv = inv; event = line.event })
-        (reads_are_refused_on_conflict relation held tx object inv) free
+    (reads_are_refused_on_conflict relation held tx object inv) free
     (record {
       holder = holder;
       line = line;
@@ -170,7 +170,7 @@ granted_appends_conflict_with_nothing relation held tx own line holder lock free
     is_false (depends relation lock.inv line.event) (λ depended.
     none_of (IsAppendConflict relation held tx own) (append_clash relation held tx own)
     (record { holder = holder.tx; inv = lock.inv; event = line.event })
-        (appends_are_refused_on_conflict relation held tx own) free
+    (appends_are_refused_on_conflict relation held tx own) free
     (record {
       line = line;
       holder = holder;

@@ -140,12 +140,12 @@ values_known tx_of (e ∷ es) h n rises is =
           → values_of (insert_entry nat_cmp es n h) ≡ put_one tx_of (values_of es) h)
           → cond t (Some e.0) (number_of tx_of es (tx_of h)) ≡ Some n
           → values_of
-              (match_ordering (nat_cmp n e.0) ((n, h) ∷ e ∷ es) ((e.0, h) ∷ es) (e ∷ insert_entry nat_cmp es n h))
+          (match_ordering (nat_cmp n e.0) ((n, h) ∷ e ∷ es) ((e.0, h) ∷ es) (e ∷ insert_entry nat_cmp es n h))
           ≡ cond t (h ∷ values_of es) (e.1 ∷ put_one tx_of (values_of es) h)
       by true rest is =
           let here : nat_cmp n e.0 ≡ Equal = subst (λ m. nat_cmp m e.0 ≡ Equal) (some_is 0 e.0 n is) (nat_self e.0) in
           ap (λ o. values_of (match_ordering o ((n, h) ∷ e ∷ es) ((e.0, h) ∷ es) (e ∷ insert_entry nat_cmp es n h)))
-              here
+          here
       by false rest is =
           ap (λ o. values_of (match_ordering o ((n, h) ∷ e ∷ es) ((e.0, h) ∷ es) (e ∷ insert_entry nat_cmp es n h)))
           (later tx_of e es (tx_of h) n rises is) ∙ ap (λ hs. e.1 ∷ hs) (rest is)
@@ -172,5 +172,5 @@ number_known tx_of (e ∷ es) h n tx rises is =
       by false same rest is =
           ap
           (λ o. number_of tx_of (match_ordering o ((n, h) ∷ e ∷ es) ((e.0, h) ∷ es) (e ∷ insert_entry nat_cmp es n h))
-              tx)
+          tx)
           (later tx_of e es (tx_of h) n rises is) ∙ ap (cond (same_tx (tx_of e.1) tx) (Some e.0)) (rest is)

@@ -118,7 +118,7 @@ values_taken tx_of (e ∷ es) tx n rises single is =
           ∙ sym (without_none tx_of (values_of es) tx (apart_none tx_of (values_of es) tx apart))
       by false same rest is =
           ap (λ o. values_of (cond (is_eq o) es (e ∷ remove_entry (is_at (nat_cmp n)) es)))
-              (later tx_of e es tx n rises is)
+          (later tx_of e es tx n rises is)
           ∙ ap (λ hs. e.1 ∷ hs) (rest is)
 
 pub number_taken : {A : Type 0} (tx_of : A → TxId) (es : List (ℕ × A)) (tx : TxId) (n : ℕ) (other : TxId) → Rises es

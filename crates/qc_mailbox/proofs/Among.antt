@@ -189,5 +189,5 @@ pub ready_messages_have_senders : (decl : Declaration) (script : Script) (h : Li
     → e.from < most_actors
 ready_messages_have_senders decl script h kept a e is ready_ =
     let at : WasSentTo a (mail h) (inputs.Got e) =
-            ready_messages_were_sent decl script h kept a (inputs.Got e) is ready_ in
+    ready_messages_were_sent decl script h kept a (inputs.Got e) is ready_ in
     (every-at (λ (x : Envelope). (x.from < most_actors) × (x.to < most_actors)) (mail h) e.number e is.ends at.0).0

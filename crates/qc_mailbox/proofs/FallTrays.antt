@@ -188,7 +188,7 @@ module _ (script : Script) (h : List Entry) (old : Inboxes) (a : ℕ) (turn : Tu
       subst (λ (x : List Entry). IsKept script x (after_fall_by_line (after_said old a ps reply) a))
       (ends_with h a (sents old.counts.all ps) (told reply) (cause_of end) turn.write)
       (falls_by_lines_keep_trays script (h ++ by a (sents old.counts.all ps ++ told reply)) (after_said old a ps reply)
-          a
+      a
       (cause_of end) turn.write (said script h old a ps reply kept within receivers) within
       (is_line end (is_up (after_said old a ps reply).up a) (here ps reply false down)))
 

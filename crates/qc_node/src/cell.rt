@@ -94,7 +94,12 @@ impl<D: Disk, N: RunName> Cell<D, N> {
         ensures ok { IfOk result (λ end. IsTurn N.declaration N.script self.old self.new end) }
     {
         let Worker {
-            rt, alloc, decl, fabric, gate, ..
+            rt,
+            alloc,
+            decl,
+            fabric,
+            gate,
+            ..
         } = *worker;
         let Some(Taken { given, steps }) = fabric.take(rt, alloc, decl, &mut self.pass)? else {
             return Ok(TurnEnd::NothingReady);

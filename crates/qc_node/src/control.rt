@@ -39,7 +39,8 @@ impl<D: Disk, N: RunName> Cell<D, N> {
         ensures number { self.new.number ≡ self.old.number }
     {
         let mut held = worker.fabric.hold(worker.rt);
-        let Some(Control::Armed { actor, kind, at }) = held.state.next_order(worker.decl, last) else {
+        let Some(Control::Armed { actor, kind, at }) = held.state.next_order(worker.decl, last)
+        else {
             return Ok(true);
         };
         if actor != self.pass.number() {
@@ -102,7 +103,12 @@ impl<D: Disk, N: RunName> Cell<D, N> {
         held.state.look(&mut self.pass);
         held.state.room(&Rising::Damaged { offset: 0 })?;
         self.given_up = true;
-        let rising = open(worker.alloc, worker.decl, &mut self.process, &mut held.state)?;
+        let rising = open(
+            worker.alloc,
+            worker.decl,
+            &mut self.process,
+            &mut held.state,
+        )?;
         let rising = with_record(&mut self.process, rising);
         let first = held.state.rise(&mut self.pass, rising);
         self.process.sent(first);

@@ -175,7 +175,7 @@ module _ {E : Type 0} where
         ∙ own_other n 0 [] d (λ q. omega (arith, le, q))
 
     pub two_entries_stand : IsOneHistory (word_of 2 views)
-    stands = record {
+    two_entries_stand = record {
       history = both;
       rooms = 3 ∷ 0 ∷ [];
       ends = 1 ∷ 2 ∷ [];

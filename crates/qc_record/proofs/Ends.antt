@@ -58,7 +58,7 @@ cut_spellings_are_refused (records.Close epoch) (suc n) legal inside =
     whole_cut records.Close epoch_form epoch_exact epoch n legal (omega (arith, inside))
 cut_spellings_are_refused (records.Install start) (suc n) legal inside =
     whole_cut install_of start_form start_exact (start.epoch, (start.clock, start.lines)) n legal
-        (omega (arith, inside))
+    (omega (arith, inside))
 cut_spellings_are_refused (records.Commit c) (suc n) legal inside =
     whole_cut records.Commit commit_form commit_exact c n legal (omega (arith, inside))
 cut_spellings_are_refused (records.Decide start) (suc n) legal inside =
@@ -87,7 +87,7 @@ pub no_spelling_is_a_prefix : (a b : Record) (rest : List ℕ) → is_legal a �
 no_spelling_is_a_prefix a b [] la lb e = spellings_are_apart a b la lb (sym (append-nil (spelled a)) ∙ e)
 no_spelling_is_a_prefix a b (c ∷ rest) la lb e =
     let no : torn (length (spelled a)) ≡ found b =
-            sym (longer_spellings_are_refused a c rest la) ∙ ap record_at e ∙ again b lb in
+    sym (longer_spellings_are_refused a c rest la) ∙ ap record_at e ∙ again b lb in
     absurd cc
 
 -- kinds

@@ -29,8 +29,8 @@ pub install_cases : (P : SiteMove → Type 0) (s : SiteState) (from number k clo
     → ((answer : Answer) → P (moved s (answers from number answer)))
     → (nat_le k s.epoch ≡ false → nat_le (epoch_length lines) most_record_bytes ≡ true
     → P
-        (moved (installed s k clock lines)
-          (recording from number (records.Install (start_with k clock lines)) says.Installed)))
+    (moved (installed s k clock lines)
+    (recording from number (records.Install (start_with k clock lines)) says.Installed)))
     → P (installs s from number k clock lines)
 install_cases P s from number k clock lines told made =
     choose P (nat_le k s.epoch) _ _ (λ is. told says.Installed)
@@ -59,7 +59,7 @@ state_cases P decl s from number (messages.Request tx epoch life (Read read_here
     close install =
     request_cases (λ m. P m.site) decl s from number tx epoch life (Read read_here) same (λ fault is. same)
     (λ is. read_cases (λ m. P m.site) decl s from number tx read_here.object read_here.inv
-        (λ free. read tx epoch life read_here.object read_here.inv refl)
+    (λ free. read tx epoch life read_here.object read_here.inv refl)
     (λ c clash. same))
 state_cases P decl s from number (messages.Request tx epoch life (Append object view own)) same read append promise drop
     join close install =
@@ -126,7 +126,7 @@ lasting_cases P decl s from number message same read append promise drop join cl
     by (messages.Close k) is lasts = others (messages.Close k) is (λ n clock lines this. let none : ⊥ = cc in none)
     by (messages.Install start) is lasts =
         install_cases (λ m. installs_in m.turn ≡ false → P m.site) s from number start.epoch start.clock start.lines
-            (λ answer none. same)
+        (λ answer none. same)
         (λ later fits none. absurd (let clash : ⊥ = cc in clash)) lasts
 
 -- and where it closes none either

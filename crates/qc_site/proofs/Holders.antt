@@ -108,6 +108,6 @@ pub append_client : (relation : List ℕ) (held : List Held) (tx : TxId) (own : 
 append_client relation held tx own c clients is =
     let found : IsSmallest (IsAppendConflict relation held tx own) (Some c) =
     subst (IsSmallest (IsAppendConflict relation held tx own)) is (appends_are_refused_on_conflict relation held tx own)
-        in
+    in
     let conflict : IsAppendConflict relation held tx own c = found.0 in
     told_client c held conflict.holder conflict.lock.inv conflict.line.event conflict.told conflict.holds clients

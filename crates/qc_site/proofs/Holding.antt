@@ -161,7 +161,7 @@ pub read_holds : (decl : Declaration) (s : SiteState) (from number : ℕ) (tx : 
     (site_on decl s from number (messages.Request tx epoch life (Read (read_of object inv))))
 read_holds decl s from number tx epoch life object inv =
     read_holds_at decl (passed s (messages.Request tx epoch life (Read (read_of object inv)))) from number tx epoch life
-        object
+    object
     inv
 
 abbrev Owns : SiteState → TxId → List OwnLine → SiteMove → Type 0

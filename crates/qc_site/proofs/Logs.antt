@@ -61,7 +61,7 @@ gains_at decl s from number (messages.Close k) stays =
     (λ near later. nothing s)
 gains_at decl s from number (messages.Install start) stays =
     install_cases (λ (m : SiteMove). installs_in m.turn ≡ false → m.site.log ≡ learned s []) s from number start.epoch
-        start.clock start.lines
+    start.clock start.lines
     (λ answer none. nothing s)
     (λ later fits none. absurd (let clash : ⊥ = cc in clash)) stays
 

@@ -42,7 +42,7 @@ read_free_at decl s from number tx epoch life object inv holder line holds anoth
     (λ is. read_cases (λ (m : SiteMove). grants_in m.turn ≡ true
     → depends (relation_at decl object) inv line.event ≡ false) decl s from number tx object inv
     (λ free yes. granted_reads_conflict_with_nothing (relation_at decl object) s.held tx object inv holder line free
-        holds another own here)
+    holds another own here)
     (λ c clash. never))
 
 pub read_conflicts_not : (decl : Declaration) (s : SiteState) (from number : ℕ) (tx : TxId) (epoch life object inv : ℕ)
@@ -52,7 +52,7 @@ pub read_conflicts_not : (decl : Declaration) (s : SiteState) (from number : ℕ
     → depends (relation_at decl object) inv line.event ≡ false
 read_conflicts_not decl s from number tx epoch life object inv holder line granted holds another own here =
     read_free_at decl (passed s (messages.Request tx epoch life (Read (read_of object inv)))) from number tx epoch life
-        object inv
+    object inv
     holder line holds another own here granted
 
 append_free_at : (decl : Declaration) (s : SiteState) (from number : ℕ) (tx : TxId) (epoch life object : ℕ)
@@ -70,7 +70,7 @@ append_free_at decl s from number tx epoch life object view own line holder lock
     (λ is. append_cases (λ (m : SiteMove). grants_in m.turn ≡ true
     → depends (relation_at decl object) lock.inv line.event ≡ false) decl s from number tx object view own
     (λ free yes. granted_appends_conflict_with_nothing (relation_at decl object) s.held tx own line holder lock free
-        given holds another locked
+    given holds another locked
     here)
     (λ c clash. never))
 
@@ -115,7 +115,7 @@ refused_at decl s from number (messages.Close k) =
     close_cases (Unchanged s) s from number k (λ answer yes. (refl, refl)) (λ near later. never)
 refused_at decl s from number (messages.Install start) =
     install_cases (Unchanged s) s from number start.epoch start.clock start.lines (λ answer yes. (refl, refl))
-        (λ later fits. never)
+    (λ later fits. never)
 
 pub refusals_change_nothing : (decl : Declaration) (s : SiteState) (from number : ℕ) (message : Message)
     → refuses_in (site_on decl s from number message).turn ≡ true
@@ -175,7 +175,7 @@ pub read_clash_is_smallest : (decl : Declaration) (s : SiteState) (from number :
     (site_on decl s from number (messages.Request tx epoch life (Read (read_of object inv)))).turn
 read_clash_is_smallest decl s from number tx epoch life object inv d =
     read_clash_at decl (passed s (messages.Request tx epoch life (Read (read_of object inv)))) from number tx epoch life
-        object
+    object
     inv d
 
 abbrev ToldAppend : Declaration → SiteState → ℕ → ℕ → TxId → ℕ → List OwnLine → Conflict → Turn → Type 0

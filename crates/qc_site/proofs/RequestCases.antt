@@ -150,8 +150,8 @@ pub install_rows : (P : SiteMove → Type 0) (s : SiteState) (from number k cloc
     → P (moved s (answers from number says.Installed))
     → P (moved s (answers from number (says.Behind s.epoch)))
     → P
-        (moved (installed s k clock lines)
-          (recording from number (records.Install (start_with k clock lines)) says.Installed))
+    (moved (installed s k clock lines)
+    (recording from number (records.Install (start_with k clock lines)) says.Installed))
     → P (installs s from number k clock lines)
 install_rows P s from number k clock lines known long made =
     choose P (nat_le k s.epoch) _ _ (λ is. known)

@@ -174,13 +174,13 @@ module _ (decl : Declaration) (s : SiteState) (from number k : ℕ) where
 module _ (decl : Declaration) (s : SiteState) (from number k clock : ℕ) (lines : List Line) where
   pub install_known : k ≤ s.epoch
       → site_on decl s from number (messages.Install (start_with k clock lines))
-          ≡ moved (passed s (messages.Install (start_with k clock lines)))
+      ≡ moved (passed s (messages.Install (start_with k clock lines)))
       (answers from number says.Installed)
   install_known low = rw (le-leb k s.epoch low) refl
 
   pub install_long : s.epoch < k → most_record_bytes < epoch_length lines
       → site_on decl s from number (messages.Install (start_with k clock lines))
-          ≡ moved (passed s (messages.Install (start_with k clock lines)))
+      ≡ moved (passed s (messages.Install (start_with k clock lines)))
       (answers from number (says.Behind s.epoch))
   install_long later long = rw (later_not s.epoch k later, later_not most_record_bytes (epoch_length lines) long) refl
 

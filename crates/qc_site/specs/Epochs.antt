@@ -74,5 +74,5 @@ installs s from number k clock lines =
     if nat_le k s.epoch then moved s (answers from number Installed)
     else (if nat_le (epoch_length lines) most_record_bytes
     then moved (installed s k clock lines)
-        (recording from number (records.Install (start_with k clock lines)) Installed)
+    (recording from number (records.Install (start_with k clock lines)) Installed)
     else moved s (answers from number (Behind s.epoch)))

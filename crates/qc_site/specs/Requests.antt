@@ -71,7 +71,7 @@ appends_by decl s from number tx view own (Some c) = moved s (clashing decl from
 abbrev pub grants : Declaration → SiteState → ℕ → ℕ → TxId → Want → SiteMove
 grants decl s from number tx (Read read) =
     reads_by decl s from number tx read.object read.inv
-        (read_clash (relation_at decl read.object) s.held tx read.object read.inv)
+    (read_clash (relation_at decl read.object) s.held tx read.object read.inv)
 grants decl s from number tx (Append object view own) =
     appends_by decl s from number tx view own (append_clash (relation_at decl object) s.held tx own)
 grants decl s from number tx Prepare = prepares s from number tx

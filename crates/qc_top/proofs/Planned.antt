@@ -30,9 +30,10 @@ record_planned decl a before (records.Decide start) fit = planned decl start.epo
 all_planned : (decl : Declaration) (a before : ℕ) (rs : List Record) → AllFit decl a before rs
     → Every (IsRecordPlanned decl) rs
 all_planned decl a before [] all = tt
-all_planned decl a before (r ∷ rs) all =
-    (record_planned decl a before r ((fits_is_as_said decl a before r).0 all.0),
-        all_planned decl a (before + 1) rs all.1)
+all_planned decl a before (r ∷ rs) all = (
+  record_planned decl a before r ((fits_is_as_said decl a before r).0 all.0),
+  all_planned decl a (before + 1) rs all.1,
+)
 
 step_planned : (decl : Declaration) (a : ℕ) (step : Step) → AllFit decl a 0 (risen_at step) → RisesPlanned decl step
 step_planned decl a (steps.Phase k) fit = tt

@@ -25,7 +25,7 @@ pub answers_lead_on : (rules : Rules) (view : View) (inv event : ℕ) → answer
     → IsSome (state_in rules (with_own view event))
 answers_lead_on rules view inv event is =
     subst (λ (o : Option ℕ). IsSome o) (sym (own_events_come_last rules view event))
-        (led rules (state_in rules view) inv event is)
+    (led rules (state_in rules view) inv event is)
 
 -- the state after lines, and then after own events
 pub state_joined : (rules : Rules) (view : View)

@@ -42,9 +42,9 @@ counts_answers_to_what_it_asked_since =
     Sends 4 0 (messages.Request (tx 0 2 1) 1 0 (wants.Read (read_of 0 0))) ∷
     Sends 5 1 (messages.Request (tx 0 2 1) 1 0 (wants.Read (read_of 0 0))) ∷
     got 2 0 (messages.Answer 0 (answers.Granted (grant_with 1 0 [])))
-        ∷ got 3 1 (messages.Answer 1 (answers.Granted (grant_with 1 0 []))) ∷
+    ∷ got 3 1 (messages.Answer 1 (answers.Granted (grant_with 1 0 []))) ∷
     got 6 0 (messages.Answer 4 (answers.Granted (grant_with 1 0 [])))
-        ∷ got 7 1 (messages.Answer 5 (answers.Granted (grant_with 1 0 []))) ∷
+    ∷ got 7 1 (messages.Answer 5 (answers.Granted (grant_with 1 0 []))) ∷
     Tells (replies.Response 0) ∷ []
     )
 
@@ -167,7 +167,7 @@ what_was_shown_in_a_former_life_is_not_seen =
     Sends 11 1 (messages.Request (tx 0 1 1) 1 0 (wants.Read (read_of 0 0))) ∷
     got 12 0 (messages.Answer 10 (answers.Granted (grant_with 1 0 []))) ∷
     got 13 1 (messages.Answer 11 (answers.Granted (grant_with 1 1 ((line 1 1 1 1 1 0 3) ∷ []))))
-        ∷ Tells (replies.Response 1) ∷
+    ∷ Tells (replies.Response 1) ∷
     Falls falls.Script None ∷ Rises [] ∷ Writes records.Life ∷ called commands.Begin ∷
     Tells (replies.Began (tx 0 2 1)) ∷ called commands.Commit ∷ Writes (commit (stamp 1 0) (tx 0 2 1) []) ∷
     Tells (replies.Committed (stamp 1 0)) ∷ []

@@ -63,7 +63,7 @@ committing =
     Sends 0 0 (messages.Request (tx 0 1 1) 1 0 (wants.Append 0 [] ((own_line 1 0 3) ∷ []))) ∷
     Sends 1 1 (messages.Request (tx 0 1 1) 1 0 (wants.Append 0 [] ((own_line 1 0 3) ∷ []))) ∷
     got 2 0 (messages.Answer 0 (answers.Granted (grant_with 1 0 [])))
-        ∷ got 3 1 (messages.Answer 1 (answers.Granted (grant_with 1 0 []))) ∷
+    ∷ got 3 1 (messages.Answer 1 (answers.Granted (grant_with 1 0 []))) ∷
     Tells (replies.Response 2) ∷ got 7 1 (messages.Inquiry (tx 0 1 1)) ∷
     Sends 9 1 (messages.Decision (tx 0 1 1) outcomes.Active) ∷ called commands.Commit ∷
     Sends 10 0 (messages.Request (tx 0 1 1) 1 1 wants.Prepare) ∷

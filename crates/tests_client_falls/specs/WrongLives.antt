@@ -29,7 +29,7 @@ is_told_response_of_a_do_that_it_called_before_its_fall =
     take 5 committing
     ++ (
     Falls falls.Script None ∷ Rises [] ∷ Writes records.Life
-        ∷ got 2 0 (messages.Answer 0 (answers.Granted (grant_with 1 0 []))) ∷
+    ∷ got 2 0 (messages.Answer 0 (answers.Granted (grant_with 1 0 []))) ∷
     got 3 1 (messages.Answer 1 (answers.Granted (grant_with 1 0 []))) ∷ Tells (replies.Response 2) ∷ []
     )
 
@@ -98,7 +98,7 @@ asks_in_epoch_2_after_its_rise_and_is_told_quorum =
     Tells (replies.Began (tx 0 2 1)) ∷ called (commands.Do 0 0) ∷
     Sends 4 0 (messages.Request (tx 0 2 1) 2 0 (wants.Read (read_of 0 0))) ∷
     Sends 5 1 (messages.Request (tx 0 2 1) 2 0 (wants.Read (read_of 0 0)))
-        ∷ got 6 0 (messages.Answer 4 (answers.Behind 1)) ∷
+    ∷ got 6 0 (messages.Answer 4 (answers.Behind 1)) ∷
     got 7 1 (messages.Answer 5 (answers.Behind 1)) ∷ Tells (replies.Quorum halves.Read 0 2) ∷ []
     )
 
@@ -113,7 +113,7 @@ counts_answers_to_what_it_asked_before_its_fall =
     Sends 4 0 (messages.Request (tx 0 2 1) 1 0 (wants.Read (read_of 0 0))) ∷
     Sends 5 1 (messages.Request (tx 0 2 1) 1 0 (wants.Read (read_of 0 0))) ∷
     got 2 0 (messages.Answer 0 (answers.Granted (grant_with 1 0 [])))
-        ∷ got 3 1 (messages.Answer 1 (answers.Granted (grant_with 1 0 []))) ∷
+    ∷ got 3 1 (messages.Answer 1 (answers.Granted (grant_with 1 0 []))) ∷
     Tells (replies.Response 0) ∷ []
     )
 

@@ -37,9 +37,9 @@ abbrev pub one_grant : List Entry
 one_grant =
     marked 7 (Phase 1) ∷ marked 3 (Called commands.Begin) ∷ marked 3 (Told (replies.Began (tx 0 1))) ∷
     marked 3 (Called (commands.Do 0 0)) ∷ marked 3 (Sent 0 0 (messages.Request (tx 0 1) 1 0 (wants.Read (read_of 0 0))))
-        ∷
+    ∷
     marked 0 (Got 0) ∷ marked 0 (Sent 1 3 (messages.Answer 0 (answers.Granted (grant_with 1 0 [])))) ∷ marked 3 (Got 1)
-        ∷
+    ∷
     marked 3 (Told (replies.Response 0)) ∷ []
 
 -- Two grants of one site are counted for two sites.
@@ -47,11 +47,11 @@ abbrev pub one_site_twice : List Entry
 one_site_twice =
     marked 7 (Phase 1) ∷ marked 3 (Called commands.Begin) ∷ marked 3 (Told (replies.Began (tx 0 1))) ∷
     marked 3 (Called (commands.Do 0 0)) ∷ marked 3 (Sent 0 0 (messages.Request (tx 0 1) 1 0 (wants.Read (read_of 0 0))))
-        ∷
+    ∷
     marked 3 (Sent 1 0 (messages.Request (tx 0 1) 1 0 (wants.Read (read_of 0 0)))) ∷ marked 0 (Got 0) ∷
     marked 0 (Sent 2 3 (messages.Answer 0 (answers.Granted (grant_with 1 0 [])))) ∷ marked 0 (Got 1) ∷
     marked 0 (Sent 3 3 (messages.Answer 1 (answers.Granted (grant_with 1 0 [])))) ∷ marked 3 (Got 2) ∷ marked 3 (Got 3)
-        ∷
+    ∷
     marked 3 (Told (replies.Response 0)) ∷ []
 
 -- Another invocation was read for.
@@ -59,11 +59,11 @@ abbrev pub another_invocation : List Entry
 another_invocation =
     marked 7 (Phase 1) ∷ marked 3 (Called commands.Begin) ∷ marked 3 (Told (replies.Began (tx 0 1))) ∷
     marked 3 (Called (commands.Do 0 0)) ∷ marked 3 (Sent 0 0 (messages.Request (tx 0 1) 1 0 (wants.Read (read_of 0 1))))
-        ∷
+    ∷
     marked 3 (Sent 1 1 (messages.Request (tx 0 1) 1 0 (wants.Read (read_of 0 1)))) ∷ marked 0 (Got 0) ∷
     marked 0 (Sent 2 3 (messages.Answer 0 (answers.Granted (grant_with 1 0 [])))) ∷ marked 1 (Got 1) ∷
     marked 1 (Sent 3 3 (messages.Answer 1 (answers.Granted (grant_with 1 0 [])))) ∷ marked 3 (Got 2) ∷ marked 3 (Got 3)
-        ∷
+    ∷
     marked 3 (Told (replies.Response 0)) ∷ []
 
 -- Sites were asked for another epoch.
@@ -71,11 +71,11 @@ abbrev pub another_epoch : List Entry
 another_epoch =
     marked 7 (Phase 1) ∷ marked 3 (Called commands.Begin) ∷ marked 3 (Told (replies.Began (tx 0 1))) ∷
     marked 3 (Called (commands.Do 0 0)) ∷ marked 3 (Sent 0 0 (messages.Request (tx 0 1) 2 0 (wants.Read (read_of 0 0))))
-        ∷
+    ∷
     marked 3 (Sent 1 1 (messages.Request (tx 0 1) 2 0 (wants.Read (read_of 0 0)))) ∷ marked 0 (Got 0) ∷
     marked 0 (Sent 2 3 (messages.Answer 0 (answers.Granted (grant_with 1 0 [])))) ∷ marked 1 (Got 1) ∷
     marked 1 (Sent 3 3 (messages.Answer 1 (answers.Granted (grant_with 1 0 [])))) ∷ marked 3 (Got 2) ∷ marked 3 (Got 3)
-        ∷
+    ∷
     marked 3 (Told (replies.Response 0)) ∷ []
 
 -- Answers to an earlier command's requests are counted.
@@ -83,15 +83,15 @@ abbrev pub earlier_answers : List Entry
 earlier_answers =
     marked 7 (Phase 1) ∷ marked 3 (Called commands.Begin) ∷ marked 3 (Told (replies.Began (tx 0 1))) ∷
     marked 3 (Called (commands.Do 0 0)) ∷ marked 3 (Sent 0 0 (messages.Request (tx 0 1) 1 0 (wants.Read (read_of 0 0))))
-        ∷
+    ∷
     marked 3 (Sent 1 1 (messages.Request (tx 0 1) 1 0 (wants.Read (read_of 0 0)))) ∷ marked 0 (Got 0) ∷
     marked 0 (Sent 2 3 (messages.Answer 0 (answers.Granted (grant_with 1 0 [])))) ∷ marked 1 (Got 1) ∷
     marked 1 (Sent 3 3 (messages.Answer 1 (answers.Granted (grant_with 1 0 [])))) ∷ marked 3 (Got 2) ∷ marked 3 (Got 3)
-        ∷
+    ∷
     marked 3 (Told (replies.Response 0)) ∷ marked 3 (Called (commands.Do 0 0)) ∷
     marked 3 (Sent 4 0 (messages.Request (tx 0 1) 1 1 (wants.Read (read_of 0 0)))) ∷
     marked 3 (Sent 5 1 (messages.Request (tx 0 1) 1 1 (wants.Read (read_of 0 0)))) ∷ marked 3 (Got 2) ∷ marked 3 (Got 3)
-        ∷
+    ∷
     marked 3 (Told (replies.Response 0)) ∷ []
 
 -- A late answer is counted after its request was lost.
@@ -99,11 +99,11 @@ abbrev pub late_answer : List Entry
 late_answer =
     marked 7 (Phase 1) ∷ marked 3 (Called commands.Begin) ∷ marked 3 (Told (replies.Began (tx 0 1))) ∷
     marked 3 (Called (commands.Do 0 0)) ∷ marked 3 (Sent 0 0 (messages.Request (tx 0 1) 1 0 (wants.Read (read_of 0 0))))
-        ∷
+    ∷
     marked 3 (Sent 1 1 (messages.Request (tx 0 1) 1 0 (wants.Read (read_of 0 0)))) ∷ marked 0 (Got 0) ∷
     marked 0 (Sent 2 3 (messages.Answer 0 (answers.Granted (grant_with 1 0 [])))) ∷ marked 1 (Got 1) ∷
     marked 1 (Sent 3 3 (messages.Answer 1 (answers.Granted (grant_with 1 0 [])))) ∷ marked 3 (Got 3) ∷ marked 3 (Lost 0)
-        ∷
+    ∷
     marked 3 (Sent 4 2 (messages.Request (tx 0 1) 1 0 (wants.Read (read_of 0 0)))) ∷ marked 3 (Got 2) ∷
     marked 3 (Told (replies.Response 0)) ∷ []
 
@@ -115,7 +115,7 @@ short_too_early =
     marked 4 (Sent 0 1 (messages.Request (tx 1 1) 1 0 (wants.Read (read_of 0 0)))) ∷
     marked 4 (Sent 1 2 (messages.Request (tx 1 1) 1 0 (wants.Read (read_of 0 0)))) ∷ marked 2 (Got 1) ∷
     marked 2 (Sent 2 4 (messages.Answer 1 (answers.Granted (grant_with 1 0 [])))) ∷ marked 4 (Got 2) ∷ marked 4 (Lost 0)
-        ∷
+    ∷
     marked 4 (Told (replies.Quorum halves.Read 1 2)) ∷ []
 
 -- Quorum is told while a request is open.
@@ -126,7 +126,7 @@ short_of_open_requests =
     marked 4 (Sent 0 1 (messages.Request (tx 1 1) 1 0 (wants.Read (read_of 0 0)))) ∷
     marked 4 (Sent 1 2 (messages.Request (tx 1 1) 1 0 (wants.Read (read_of 0 0)))) ∷ marked 2 (Got 1) ∷
     marked 2 (Sent 2 4 (messages.Answer 1 (answers.Granted (grant_with 1 0 [])))) ∷ marked 4 (Got 2) ∷ marked 4 (Lost 0)
-        ∷
+    ∷
     marked 4 (Sent 3 0 (messages.Request (tx 1 1) 1 0 (wants.Read (read_of 0 0)))) ∷
     marked 4 (Told (replies.Quorum halves.Read 1 2)) ∷ []
 
@@ -138,7 +138,7 @@ short_of_less =
     marked 4 (Sent 0 1 (messages.Request (tx 1 1) 1 0 (wants.Read (read_of 0 0)))) ∷
     marked 4 (Sent 1 2 (messages.Request (tx 1 1) 1 0 (wants.Read (read_of 0 0)))) ∷ marked 2 (Got 1) ∷
     marked 2 (Sent 2 4 (messages.Answer 1 (answers.Granted (grant_with 1 0 [])))) ∷ marked 4 (Got 2) ∷ marked 4 (Lost 0)
-        ∷
+    ∷
     marked 4 (Sent 3 0 (messages.Request (tx 1 1) 1 0 (wants.Read (read_of 0 0)))) ∷ marked 4 (Lost 3) ∷
     marked 4 (Told (replies.Quorum halves.Read 0 2)) ∷ []
 
@@ -151,7 +151,7 @@ conflict_with_another =
     marked 3 (Sent 1 1 (messages.Request (tx 0 1) 1 0 (wants.Append 0 [] (own_line 1 0 3 ∷ [])))) ∷ marked 0 (Got 0) ∷
     marked 0 (Sent 2 3 (messages.Answer 0 (answers.Granted (grant_with 1 0 [])))) ∷ marked 1 (Got 1) ∷
     marked 1 (Sent 3 3 (messages.Answer 1 (answers.Granted (grant_with 1 0 [])))) ∷ marked 3 (Got 2) ∷ marked 3 (Got 3)
-        ∷
+    ∷
     marked 3 (Told (replies.Response 2)) ∷ marked 7 (Phase 2) ∷ marked 4 (Called commands.Begin) ∷
     marked 4 (Told (replies.Began (tx 1 1))) ∷ marked 4 (Called (commands.Do 0 0)) ∷
     marked 4 (Sent 4 1 (messages.Request (tx 1 1) 1 0 (wants.Read (read_of 0 0)))) ∷
@@ -159,7 +159,7 @@ conflict_with_another =
     marked 1 (Sent 6 4 (messages.Answer 4 (answers.Clash (tx 0 1) 0 3))) ∷
     marked 1 (Sent 7 3 (messages.Inquiry (tx 0 1))) ∷ marked 2 (Got 5) ∷
     marked 2 (Sent 8 4 (messages.Answer 5 (answers.Granted (grant_with 1 0 [])))) ∷ marked 4 (Got 6) ∷ marked 3 (Got 7)
-        ∷
+    ∷
     marked 3 (Sent 9 1 (messages.Decision (tx 0 1) outcomes.Active)) ∷ marked 4 (Got 8) ∷
     marked 4 (Told (replies.Conflict (tx 2 1) 1)) ∷ []
 
@@ -172,7 +172,7 @@ granted_despite_a_clash =
     marked 3 (Sent 1 1 (messages.Request (tx 0 1) 1 0 (wants.Append 0 [] (own_line 1 0 3 ∷ [])))) ∷ marked 0 (Got 0) ∷
     marked 0 (Sent 2 3 (messages.Answer 0 (answers.Granted (grant_with 1 0 [])))) ∷ marked 1 (Got 1) ∷
     marked 1 (Sent 3 3 (messages.Answer 1 (answers.Granted (grant_with 1 0 [])))) ∷ marked 3 (Got 2) ∷ marked 3 (Got 3)
-        ∷
+    ∷
     marked 3 (Told (replies.Response 2)) ∷ marked 7 (Phase 2) ∷ marked 4 (Called commands.Begin) ∷
     marked 4 (Told (replies.Began (tx 1 1))) ∷ marked 4 (Called (commands.Do 0 0)) ∷
     marked 4 (Sent 4 1 (messages.Request (tx 1 1) 1 0 (wants.Read (read_of 0 0)))) ∷
@@ -180,6 +180,6 @@ granted_despite_a_clash =
     marked 1 (Sent 6 4 (messages.Answer 4 (answers.Clash (tx 0 1) 0 3))) ∷
     marked 1 (Sent 7 3 (messages.Inquiry (tx 0 1))) ∷ marked 2 (Got 5) ∷
     marked 2 (Sent 8 4 (messages.Answer 5 (answers.Granted (grant_with 1 0 [])))) ∷ marked 4 (Got 6) ∷ marked 3 (Got 7)
-        ∷
+    ∷
     marked 3 (Sent 9 1 (messages.Decision (tx 0 1) outcomes.Active)) ∷ marked 4 (Got 8) ∷
     marked 4 (Told (replies.Response 0)) ∷ []

@@ -21,7 +21,7 @@ votes_for_another =
     marked 3 (Sent 1 1 (messages.Request (tx 0 1) 1 0 (wants.Append 0 [] (own_line 1 0 3 ∷ [])))) ∷ marked 0 (Got 0) ∷
     marked 0 (Sent 2 3 (messages.Answer 0 (answers.Granted (grant_with 1 0 [])))) ∷ marked 1 (Got 1) ∷
     marked 1 (Sent 3 3 (messages.Answer 1 (answers.Granted (grant_with 1 0 [])))) ∷ marked 3 (Got 2) ∷ marked 3 (Got 3)
-        ∷
+    ∷
     marked 3 (Told (replies.Response 2)) ∷ marked 3 (Called commands.Abort) ∷
     marked 3 (Sent 4 0 (messages.Decision (tx 0 1) outcomes.Aborted)) ∷
     marked 3 (Sent 5 1 (messages.Decision (tx 0 1) outcomes.Aborted)) ∷ marked 3 (Told replies.Dropped) ∷
@@ -31,7 +31,7 @@ votes_for_another =
     marked 3 (Sent 7 1 (messages.Request (tx 0 2) 1 0 (wants.Append 0 [] (own_line 1 0 3 ∷ [])))) ∷ marked 0 (Got 6) ∷
     marked 0 (Sent 8 3 (messages.Answer 6 (answers.Granted (grant_with 1 0 [])))) ∷ marked 1 (Got 7) ∷
     marked 1 (Sent 9 3 (messages.Answer 7 (answers.Granted (grant_with 1 0 [])))) ∷ marked 3 (Got 8) ∷ marked 3 (Got 9)
-        ∷
+    ∷
     marked 3 (Told (replies.Response 2)) ∷ marked 3 (Called commands.Commit) ∷
     marked 3 (Sent 10 0 (messages.Request (tx 0 1) 1 1 wants.Prepare)) ∷
     marked 3 (Sent 11 1 (messages.Request (tx 0 1) 1 1 wants.Prepare)) ∷ marked 0 (Got 10) ∷
@@ -50,7 +50,7 @@ unvoted =
     marked 3 (Sent 1 1 (messages.Request (tx 0 1) 1 0 (wants.Append 0 [] (own_line 1 0 3 ∷ [])))) ∷ marked 0 (Got 0) ∷
     marked 0 (Sent 2 3 (messages.Answer 0 (answers.Granted (grant_with 1 0 [])))) ∷ marked 1 (Got 1) ∷
     marked 1 (Sent 3 3 (messages.Answer 1 (answers.Granted (grant_with 1 0 [])))) ∷ marked 3 (Got 2) ∷ marked 3 (Got 3)
-        ∷
+    ∷
     marked 3 (Told (replies.Response 2)) ∷ marked 3 (Called commands.Commit) ∷
     marked 3 (Wrote (commit (stamp 1 0) (tx 0 1) (operation 0 2 (Some 2) ∷ []))) ∷ []
 
@@ -63,7 +63,7 @@ one_vote =
     marked 3 (Sent 1 1 (messages.Request (tx 0 1) 1 0 (wants.Append 0 [] (own_line 1 0 3 ∷ [])))) ∷ marked 0 (Got 0) ∷
     marked 0 (Sent 2 3 (messages.Answer 0 (answers.Granted (grant_with 1 0 [])))) ∷ marked 1 (Got 1) ∷
     marked 1 (Sent 3 3 (messages.Answer 1 (answers.Granted (grant_with 1 0 [])))) ∷ marked 3 (Got 2) ∷ marked 3 (Got 3)
-        ∷
+    ∷
     marked 3 (Told (replies.Response 2)) ∷ marked 3 (Called commands.Commit) ∷
     marked 3 (Sent 4 0 (messages.Request (tx 0 1) 1 1 wants.Prepare)) ∷ marked 0 (Got 4) ∷
     marked 0 (Wrote (prepare (tx 0 1) 1 [] (own_line 1 0 3 ∷ []) [])) ∷
@@ -79,7 +79,7 @@ one_vote_open =
     marked 3 (Sent 1 1 (messages.Request (tx 0 1) 1 0 (wants.Append 0 [] (own_line 1 0 3 ∷ [])))) ∷ marked 0 (Got 0) ∷
     marked 0 (Sent 2 3 (messages.Answer 0 (answers.Granted (grant_with 1 0 [])))) ∷ marked 1 (Got 1) ∷
     marked 1 (Sent 3 3 (messages.Answer 1 (answers.Granted (grant_with 1 0 [])))) ∷ marked 3 (Got 2) ∷ marked 3 (Got 3)
-        ∷
+    ∷
     marked 3 (Told (replies.Response 2)) ∷ marked 3 (Called commands.Commit) ∷
     marked 3 (Sent 4 0 (messages.Request (tx 0 1) 1 1 wants.Prepare)) ∷
     marked 3 (Sent 5 1 (messages.Request (tx 0 1) 1 1 wants.Prepare)) ∷ marked 0 (Got 4) ∷
@@ -98,7 +98,7 @@ recorded_without_a_vote =
     marked 3 (Sent 1 1 (messages.Request (tx 0 1) 1 0 (wants.Append 0 [] (own_line 1 0 3 ∷ [])))) ∷ marked 0 (Got 0) ∷
     marked 0 (Sent 2 3 (messages.Answer 0 (answers.Granted (grant_with 1 0 [])))) ∷ marked 1 (Got 1) ∷
     marked 1 (Sent 3 3 (messages.Answer 1 (answers.Granted (grant_with 1 0 [])))) ∷ marked 3 (Got 2) ∷ marked 3 (Got 3)
-        ∷
+    ∷
     marked 3 (Told (replies.Response 2)) ∷ marked 3 (Called commands.Commit) ∷
     marked 3 (Sent 4 0 (messages.Request (tx 0 1) 1 1 wants.Prepare)) ∷
     marked 3 (Sent 5 1 (messages.Request (tx 0 1) 1 1 wants.Prepare)) ∷ marked 0 (Got 4) ∷
@@ -119,7 +119,7 @@ no_answer_though_answered =
     marked 3 (Sent 1 1 (messages.Request (tx 0 1) 1 0 (wants.Append 0 [] (own_line 1 0 3 ∷ [])))) ∷ marked 0 (Got 0) ∷
     marked 0 (Sent 2 3 (messages.Answer 0 (answers.Granted (grant_with 1 0 [])))) ∷ marked 1 (Got 1) ∷
     marked 1 (Sent 3 3 (messages.Answer 1 (answers.Granted (grant_with 1 0 [])))) ∷ marked 3 (Got 2) ∷ marked 3 (Got 3)
-        ∷
+    ∷
     marked 3 (Told (replies.Response 2)) ∷ marked 3 (Called commands.Commit) ∷
     marked 3 (Sent 4 0 (messages.Request (tx 0 1) 1 1 wants.Prepare)) ∷
     marked 3 (Sent 5 1 (messages.Request (tx 0 1) 1 1 wants.Prepare)) ∷ marked 0 (Got 4) ∷
@@ -138,7 +138,7 @@ stranger_votes =
     marked 3 (Sent 1 1 (messages.Request (tx 0 1) 1 0 (wants.Append 0 [] (own_line 1 0 3 ∷ [])))) ∷ marked 0 (Got 0) ∷
     marked 0 (Sent 2 3 (messages.Answer 0 (answers.Granted (grant_with 1 0 [])))) ∷ marked 1 (Got 1) ∷
     marked 1 (Sent 3 3 (messages.Answer 1 (answers.Granted (grant_with 1 0 [])))) ∷ marked 3 (Got 2) ∷ marked 3 (Got 3)
-        ∷
+    ∷
     marked 3 (Told (replies.Response 2)) ∷ marked 3 (Called commands.Commit) ∷
     marked 3 (Sent 4 2 (messages.Request (tx 0 1) 1 1 wants.Prepare)) ∷ marked 3 (Lost 4) ∷
     marked 3 (Told (replies.Aborted (causes.NoAnswer 2))) ∷ []
@@ -148,11 +148,11 @@ abbrev pub committed_though_doomed : List Entry
 committed_though_doomed =
     marked 7 (Phase 1) ∷ marked 3 (Called commands.Begin) ∷ marked 3 (Told (replies.Began (tx 0 1))) ∷
     marked 3 (Called (commands.Do 0 0)) ∷ marked 3 (Sent 0 0 (messages.Request (tx 0 1) 1 0 (wants.Read (read_of 0 0))))
-        ∷
+    ∷
     marked 3 (Sent 1 1 (messages.Request (tx 0 1) 1 0 (wants.Read (read_of 0 0)))) ∷ marked 0 (Got 0) ∷
     marked 0 (Sent 2 3 (messages.Answer 0 (answers.Granted (grant_with 1 0 [])))) ∷ marked 1 (Got 1) ∷
     marked 1 (Sent 3 3 (messages.Answer 1 (answers.Granted (grant_with 1 0 [])))) ∷ marked 3 (Got 2) ∷ marked 3 (Got 3)
-        ∷
+    ∷
     marked 3 (Told (replies.Response 0)) ∷ marked 7 (Phase 2) ∷ marked 4 (Called commands.Begin) ∷
     marked 4 (Told (replies.Began (tx 1 1))) ∷ marked 4 (Called (commands.Do 0 2)) ∷
     marked 4 (Sent 4 1 (messages.Request (tx 1 1) 1 0 (wants.Append 0 [] (own_line 1 0 3 ∷ [])))) ∷
@@ -160,7 +160,7 @@ committed_though_doomed =
     marked 1 (Sent 6 4 (messages.Answer 4 (answers.Clash (tx 0 1) 0 3))) ∷
     marked 1 (Sent 7 3 (messages.Inquiry (tx 0 1))) ∷ marked 2 (Got 5) ∷
     marked 2 (Sent 8 4 (messages.Answer 5 (answers.Granted (grant_with 1 0 [])))) ∷ marked 4 (Got 6) ∷ marked 3 (Got 7)
-        ∷
+    ∷
     marked 3 (Sent 9 1 (messages.Decision (tx 0 1) outcomes.Active)) ∷ marked 4 (Got 8) ∷
     marked 4 (Told (replies.Conflict (tx 0 1) 1)) ∷ marked 1 (Got 9) ∷ marked 4 (Called commands.Commit) ∷
     marked 4 (Sent 10 1 (messages.Decision (tx 1 1) outcomes.Aborted)) ∷

@@ -16,12 +16,12 @@ history =
     marked 6 (Sent 1 1 (messages.Close 2)) ∷ marked 0 (Got 0) ∷ marked 0 (Wrote (records.Close 2)) ∷
     marked 0 (Sent 2 6 (messages.Answer 0 (answers.Shut (snapshot_with 0 [] [])))) ∷ marked 1 (Got 1) ∷
     marked 1 (Wrote (records.Close 2)) ∷ marked 1 (Sent 3 6 (messages.Answer 1 (answers.Shut (snapshot_with 0 [] []))))
-        ∷
+    ∷
     marked 6 (Got 2) ∷ marked 6 (Got 3) ∷ marked 6 (Wrote (records.Decide (start_with 2 0 []))) ∷
     marked 6 (Sent 4 0 (messages.Install (start_with 2 0 [])))
-        ∷ marked 6 (Sent 5 1 (messages.Install (start_with 2 0 []))) ∷
+    ∷ marked 6 (Sent 5 1 (messages.Install (start_with 2 0 []))) ∷
     marked 6 (Sent 6 2 (messages.Install (start_with 2 0 []))) ∷ marked 0 (Got 4)
-        ∷ marked 0 (Wrote (records.Install (start_with 2 0 []))) ∷
+    ∷ marked 0 (Wrote (records.Install (start_with 2 0 []))) ∷
     marked 0 (Sent 7 6 (messages.Answer 4 answers.Installed)) ∷ marked 1 (Got 5) ∷
     marked 1 (Wrote (records.Install (start_with 2 0 []))) ∷ marked 1 (Sent 8 6 (messages.Answer 5 answers.Installed)) ∷
     marked 2 (Got 6) ∷ marked 2 (Wrote (records.Install (start_with 2 0 []))) ∷
@@ -32,19 +32,19 @@ history =
     marked 6 (Called (commands.Epoch 3)) ∷ marked 6 (Sent 10 0 (messages.Close 3)) ∷
     marked 6 (Sent 11 1 (messages.Close 3)) ∷ marked 6 (Sent 12 2 (messages.Close 3)) ∷ marked 0 (Got 10) ∷
     marked 0 (Wrote (records.Close 3))
-        ∷ marked 0 (Sent 13 6 (messages.Answer 10 (answers.Shut (snapshot_with 0 [] [])))) ∷
+    ∷ marked 0 (Sent 13 6 (messages.Answer 10 (answers.Shut (snapshot_with 0 [] [])))) ∷
     marked 1 (Got 11) ∷ marked 1 (Wrote (records.Close 3)) ∷
     marked 1 (Sent 14 6 (messages.Answer 11 (answers.Shut (snapshot_with 0 [] [])))) ∷ marked 2 (Got 12) ∷
     marked 2 (Wrote (records.Close 3))
-        ∷ marked 2 (Sent 15 6 (messages.Answer 12 (answers.Shut (snapshot_with 0 [] [])))) ∷
+    ∷ marked 2 (Sent 15 6 (messages.Answer 12 (answers.Shut (snapshot_with 0 [] [])))) ∷
     marked 6 (Got 13) ∷ marked 6 (Got 14) ∷ marked 6 (Got 15) ∷ marked 6 (Wrote (records.Decide (start_with 3 0 []))) ∷
     marked 6 (Sent 16 0 (messages.Install (start_with 3 0 [])))
-        ∷ marked 6 (Sent 17 1 (messages.Install (start_with 3 0 []))) ∷
+    ∷ marked 6 (Sent 17 1 (messages.Install (start_with 3 0 []))) ∷
     marked 6 (Sent 18 2 (messages.Install (start_with 3 0 []))) ∷ marked 0 (Got 16)
-        ∷ marked 0 (Wrote (records.Install (start_with 3 0 []))) ∷
+    ∷ marked 0 (Wrote (records.Install (start_with 3 0 []))) ∷
     marked 0 (Sent 19 6 (messages.Answer 16 answers.Installed)) ∷ marked 1 (Got 17) ∷
     marked 1 (Wrote (records.Install (start_with 3 0 []))) ∷ marked 1 (Sent 20 6 (messages.Answer 17 answers.Installed))
-        ∷
+    ∷
     marked 2 (Got 18) ∷ marked 2 (Wrote (records.Install (start_with 3 0 []))) ∷
     marked 2 (Sent 21 6 (messages.Answer 18 answers.Installed)) ∷ marked 6 (Got 19) ∷ marked 6 (Got 20) ∷
     marked 6 (Got 21) ∷ marked 6 (Told (replies.Moved 7 7)) ∷ []

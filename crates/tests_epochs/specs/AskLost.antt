@@ -21,7 +21,7 @@ history =
     marked 3 (Sent 1 1 (messages.Request (tx 0 1) 1 0 (wants.Append 0 [] (own_line 1 0 3 ∷ [])))) ∷ marked 0 (Got 0) ∷
     marked 0 (Sent 2 3 (messages.Answer 0 (answers.Granted (grant_with 1 0 [])))) ∷ marked 1 (Got 1) ∷
     marked 1 (Sent 3 3 (messages.Answer 1 (answers.Granted (grant_with 1 0 [])))) ∷ marked 3 (Got 2) ∷ marked 3 (Got 3)
-        ∷
+    ∷
     marked 3 (Told (replies.Response 2)) ∷ marked 3 (Called commands.Commit) ∷
     marked 3 (Sent 4 0 (messages.Request (tx 0 1) 1 1 wants.Prepare)) ∷
     marked 3 (Sent 5 1 (messages.Request (tx 0 1) 1 1 wants.Prepare)) ∷ marked 0 (Got 4) ∷
@@ -73,7 +73,7 @@ history =
     marked 4 (Told (replies.Began (tx 1 2))) ∷ marked 4 (Called (commands.Do 0 0)) ∷
     marked 4 (Sent 33 1 (messages.Request (tx 1 2) 2 0 (wants.Read (read_of 0 0)))) ∷ marked 1 (Got 33) ∷
     marked 1 (Sent 34 4 (messages.Answer 33 (answers.Granted (grant_with 2 1 (line 1 0 1 1 0 3 ∷ [])))))
-        ∷ marked 4 (Got 34) ∷
+    ∷ marked 4 (Got 34) ∷
     marked 4 (Told (replies.Response 1)) ∷ marked 4 (Called commands.Commit) ∷
     marked 4 (Sent 35 1 (messages.Request (tx 1 2) 2 2 wants.Prepare)) ∷ marked 1 (Got 35) ∷
     marked 1 (Wrote (prepare (tx 1 2) 2 (read_lock 0 0 ∷ []) [] [])) ∷

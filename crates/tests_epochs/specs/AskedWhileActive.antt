@@ -22,7 +22,7 @@ history =
     marked 3 (Sent 0 0 (messages.Request (tx 0 1) 1 0 (wants.Append 0 [] (own_line 1 0 3 ∷ [])))) ∷
     marked 3 (Sent 1 1 (messages.Request (tx 0 1) 1 0 (wants.Append 0 [] (own_line 1 0 3 ∷ [])))) ∷ marked 1 (Got 1) ∷
     marked 0 (Got 0) ∷ marked 0 (Sent 2 3 (messages.Answer 0 (answers.Granted (grant_with 1 0 [])))) ∷ marked 3 (Got 2)
-        ∷
+    ∷
     marked 1 (Sent 3 3 (messages.Answer 1 (answers.Granted (grant_with 1 0 [])))) ∷ marked 3 (Got 3) ∷
     marked 3 (Told (replies.Response 2)) ∷ marked 7 (Phase 2) ∷ marked 3 (Called commands.Commit) ∷
     marked 3 (Sent 4 0 (messages.Request (tx 0 1) 1 1 wants.Prepare)) ∷
@@ -35,7 +35,7 @@ history =
     marked 0 (Fell falls.Stop (Some (prepare (tx 0 1) 1 [] (own_line 1 0 3 ∷ []) []))) ∷ marked 6 (Lost 6) ∷
     marked 6 (Sent 10 2 (messages.Close 2)) ∷ marked 2 (Got 10) ∷ marked 3 (Got 8) ∷
     marked 2 (Wrote (records.Close 2))
-        ∷ marked 2 (Sent 11 6 (messages.Answer 10 (answers.Shut (snapshot_with 0 [] [])))) ∷
+    ∷ marked 2 (Sent 11 6 (messages.Answer 10 (answers.Shut (snapshot_with 0 [] [])))) ∷
     marked 6 (Got 11) ∷ marked 6 (Sent 12 3 (messages.Ask (tx 0 1))) ∷ marked 3 (Got 12) ∷
     marked 3 (Sent 13 6 (messages.Answer 12 (answers.Answered outcomes.Active))) ∷ marked 6 (Got 13) ∷
     marked 6 (Told (replies.InDoubt (tx 0 1) 1)) ∷ marked 3 (Lost 4) ∷
@@ -48,11 +48,11 @@ history =
     marked 6 (Sent 19 2 (messages.Close 2)) ∷ marked 2 (Got 19) ∷
     marked 2 (Sent 20 6 (messages.Answer 19 (answers.Shut (snapshot_with 0 [] [])))) ∷ marked 6 (Got 20) ∷
     marked 6 (Wrote (records.Decide (start_with 2 0 []))) ∷ marked 6 (Sent 21 0 (messages.Install (start_with 2 0 [])))
-        ∷
+    ∷
     marked 6 (Sent 22 1 (messages.Install (start_with 2 0 [])))
-        ∷ marked 6 (Sent 23 2 (messages.Install (start_with 2 0 []))) ∷
+    ∷ marked 6 (Sent 23 2 (messages.Install (start_with 2 0 []))) ∷
     marked 2 (Got 23) ∷ marked 2 (Wrote (records.Install (start_with 2 0 []))) ∷
     marked 2 (Sent 24 6 (messages.Answer 23 answers.Installed)) ∷ marked 1 (Got 22) ∷ marked 6 (Got 24) ∷
     marked 1 (Wrote (records.Install (start_with 2 0 []))) ∷ marked 1 (Sent 25 6 (messages.Answer 22 answers.Installed))
-        ∷
+    ∷
     marked 6 (Got 25) ∷ marked 6 (Lost 21) ∷ marked 6 (Told (replies.Moved 6 6)) ∷ []

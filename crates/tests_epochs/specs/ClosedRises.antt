@@ -22,7 +22,7 @@ history =
     marked 3 (Sent 1 1 (messages.Request (tx 0 1) 1 0 (wants.Append 0 [] (own_line 1 0 3 ∷ [])))) ∷ marked 0 (Got 0) ∷
     marked 0 (Sent 2 3 (messages.Answer 0 (answers.Granted (grant_with 1 0 [])))) ∷ marked 1 (Got 1) ∷
     marked 1 (Sent 3 3 (messages.Answer 1 (answers.Granted (grant_with 1 0 [])))) ∷ marked 3 (Got 2) ∷ marked 3 (Got 3)
-        ∷
+    ∷
     marked 3 (Told (replies.Response 2)) ∷ marked 3 (Called commands.Commit) ∷
     marked 3 (Sent 4 0 (messages.Request (tx 0 1) 1 1 wants.Prepare)) ∷
     marked 3 (Sent 5 1 (messages.Request (tx 0 1) 1 1 wants.Prepare)) ∷ marked 0 (Got 4) ∷
@@ -38,10 +38,10 @@ history =
     marked 6 (Called (commands.Epoch 2)) ∷ marked 6 (Sent 10 0 (messages.Close 2)) ∷
     marked 6 (Sent 11 1 (messages.Close 2)) ∷ marked 0 (Got 10) ∷ marked 0 (Wrote (records.Close 2)) ∷
     marked 0 (Sent 12 6 (messages.Answer 10 (answers.Shut (snapshot_with 1 (line 1 0 1 1 0 3 ∷ []) []))))
-        ∷ marked 6 (Got 12) ∷
+    ∷ marked 6 (Got 12) ∷
     marked 6 (Lost 11) ∷ marked 6 (Sent 13 2 (messages.Close 2)) ∷ marked 2 (Got 13) ∷
     marked 2 (Wrote (records.Close 2))
-        ∷ marked 2 (Sent 14 6 (messages.Answer 13 (answers.Shut (snapshot_with 0 [] [])))) ∷
+    ∷ marked 2 (Sent 14 6 (messages.Answer 13 (answers.Shut (snapshot_with 0 [] [])))) ∷
     marked 6 (Got 14) ∷ marked 6 (Wrote (records.Decide (start_with 2 1 (line 1 0 1 1 0 3 ∷ [])))) ∷
     marked 6 (Sent 15 0 (messages.Install (start_with 2 1 (line 1 0 1 1 0 3 ∷ [])))) ∷
     marked 6 (Sent 16 1 (messages.Install (start_with 2 1 (line 1 0 1 1 0 3 ∷ [])))) ∷
@@ -66,11 +66,11 @@ history =
     marked 2 (Sent 25 6 (messages.Answer 22 answers.Installed)) ∷ marked 6 (Got 23) ∷ marked 6 (Got 24) ∷
     marked 6 (Got 25) ∷ marked 6 (Told (replies.Moved 0 7)) ∷ marked 7 (Phase 4) ∷ marked 1 (Fell falls.Script None) ∷
     marked 1
-        (Rose ((prepare (tx 0 1) 1 [] (own_line 1 0 3 ∷ []) []) ∷ (records.Done (tx 0 1) 1)
-          ∷ (records.Install (start_with 2 1 (line 1 0 1 1 0 3 ∷ []))) ∷ [])) ∷
+    (Rose ((prepare (tx 0 1) 1 [] (own_line 1 0 3 ∷ []) []) ∷ (records.Done (tx 0 1) 1)
+    ∷ (records.Install (start_with 2 1 (line 1 0 1 1 0 3 ∷ []))) ∷ [])) ∷
     marked 1 (Wrote records.Life) ∷ marked 4 (Called commands.Begin) ∷ marked 4 (Told (replies.Began (tx 1 1))) ∷
     marked 4 (Called (commands.Do 0 0))
-        ∷ marked 4 (Sent 26 1 (messages.Request (tx 1 1) 1 0 (wants.Read (read_of 0 0)))) ∷
+    ∷ marked 4 (Sent 26 1 (messages.Request (tx 1 1) 1 0 (wants.Read (read_of 0 0)))) ∷
     marked 4 (Sent 27 2 (messages.Request (tx 1 1) 1 0 (wants.Read (read_of 0 0)))) ∷ marked 1 (Got 26) ∷
     marked 1 (Sent 28 4 (messages.Answer 26 (answers.Closed 2))) ∷ marked 2 (Got 27) ∷
     marked 2 (Sent 29 4 (messages.Answer 27 (answers.Closed 2))) ∷ marked 4 (Got 28) ∷ marked 4 (Got 29) ∷
@@ -81,7 +81,7 @@ history =
     marked 4 (Told (replies.Began (tx 1 2))) ∷ marked 4 (Called (commands.Do 0 0)) ∷
     marked 4 (Sent 32 1 (messages.Request (tx 1 2) 2 0 (wants.Read (read_of 0 0)))) ∷ marked 1 (Got 32) ∷
     marked 1 (Sent 33 4 (messages.Answer 32 (answers.Granted (grant_with 2 1 (line 1 0 1 1 0 3 ∷ [])))))
-        ∷ marked 4 (Got 33) ∷
+    ∷ marked 4 (Got 33) ∷
     marked 4 (Told (replies.Response 1)) ∷ marked 4 (Called commands.Commit) ∷
     marked 4 (Sent 34 1 (messages.Request (tx 1 2) 2 2 wants.Prepare)) ∷ marked 1 (Got 34) ∷
     marked 1 (Wrote (prepare (tx 1 2) 2 (read_lock 0 0 ∷ []) [] [])) ∷

@@ -22,7 +22,7 @@ history =
     marked 3 (Sent 1 1 (messages.Request (tx 0 1) 1 0 (wants.Append 0 [] (own_line 1 0 3 ∷ [])))) ∷ marked 0 (Got 0) ∷
     marked 0 (Sent 2 3 (messages.Answer 0 (answers.Granted (grant_with 1 0 [])))) ∷ marked 1 (Got 1) ∷
     marked 1 (Sent 3 3 (messages.Answer 1 (answers.Granted (grant_with 1 0 [])))) ∷ marked 3 (Got 2) ∷ marked 3 (Got 3)
-        ∷
+    ∷
     marked 3 (Told (replies.Response 2)) ∷ marked 3 (Called commands.Commit) ∷
     marked 3 (Sent 4 0 (messages.Request (tx 0 1) 1 1 wants.Prepare)) ∷
     marked 3 (Sent 5 1 (messages.Request (tx 0 1) 1 1 wants.Prepare)) ∷ marked 0 (Got 4) ∷
@@ -38,18 +38,18 @@ history =
     marked 7 (Armed 6 arms.Stop 3) ∷ marked 6 (Called (commands.Epoch 2)) ∷ marked 6 (Sent 10 0 (messages.Close 2)) ∷
     marked 6 (Sent 11 1 (messages.Close 2)) ∷ marked 0 (Got 10) ∷ marked 0 (Wrote (records.Close 2)) ∷
     marked 0 (Sent 12 6 (messages.Answer 10 (answers.Shut (snapshot_with 1 (line 1 0 1 1 0 3 ∷ []) []))))
-        ∷ marked 1 (Got 11) ∷
+    ∷ marked 1 (Got 11) ∷
     marked 1 (Wrote (records.Close 2)) ∷
     marked 1 (Sent 13 6 (messages.Answer 11 (answers.Shut (snapshot_with 1 (line 1 0 1 1 0 3 ∷ []) []))))
-        ∷ marked 6 (Got 12) ∷
+    ∷ marked 6 (Got 12) ∷
     marked 6 (Got 13) ∷ marked 6 (Told replies.Fault) ∷
     marked 6 (Fell falls.Stop (Some (records.Decide (start_with 2 1 (line 1 0 1 1 0 3 ∷ []))))) ∷ marked 7 (Phase 3) ∷
     marked 6 (Rose []) ∷ marked 6 (Wrote records.Life) ∷ marked 6 (Called (commands.Epoch 2)) ∷
     marked 6 (Sent 14 0 (messages.Close 2)) ∷ marked 6 (Sent 15 1 (messages.Close 2)) ∷ marked 0 (Got 14) ∷
     marked 0 (Sent 16 6 (messages.Answer 14 (answers.Shut (snapshot_with 1 (line 1 0 1 1 0 3 ∷ []) []))))
-        ∷ marked 1 (Got 15) ∷
+    ∷ marked 1 (Got 15) ∷
     marked 1 (Sent 17 6 (messages.Answer 15 (answers.Shut (snapshot_with 1 (line 1 0 1 1 0 3 ∷ []) []))))
-        ∷ marked 6 (Got 16) ∷
+    ∷ marked 6 (Got 16) ∷
     marked 6 (Got 17) ∷ marked 6 (Wrote (records.Decide (start_with 2 1 (line 1 0 1 1 0 3 ∷ [])))) ∷
     marked 6 (Sent 18 0 (messages.Install (start_with 2 1 (line 1 0 1 1 0 3 ∷ [])))) ∷
     marked 6 (Sent 19 1 (messages.Install (start_with 2 1 (line 1 0 1 1 0 3 ∷ [])))) ∷

@@ -21,7 +21,7 @@ history =
     marked 5 (Sent 1 0 (messages.Request (tx 2 1) 1 0 (wants.Append 0 [] (own_line 1 0 3 ∷ [])))) ∷ marked 2 (Got 0) ∷
     marked 2 (Sent 2 5 (messages.Answer 0 (answers.Granted (grant_with 1 0 [])))) ∷ marked 0 (Got 1) ∷
     marked 0 (Sent 3 5 (messages.Answer 1 (answers.Granted (grant_with 1 0 [])))) ∷ marked 5 (Got 2) ∷ marked 5 (Got 3)
-        ∷
+    ∷
     marked 5 (Told (replies.Response 2)) ∷ marked 5 (Called commands.Commit) ∷
     marked 5 (Sent 4 2 (messages.Request (tx 2 1) 1 1 wants.Prepare)) ∷
     marked 5 (Sent 5 0 (messages.Request (tx 2 1) 1 1 wants.Prepare)) ∷ marked 2 (Got 4) ∷
@@ -38,7 +38,7 @@ history =
     marked 4 (Sent 11 2 (messages.Request (tx 1 1) 1 0 (wants.Append 0 [] (own_line 1 0 2 ∷ [])))) ∷ marked 1 (Got 10) ∷
     marked 1 (Sent 12 4 (messages.Answer 10 (answers.Granted (grant_with 1 0 [])))) ∷ marked 2 (Got 11) ∷
     marked 2 (Sent 13 4 (messages.Answer 11 (answers.Granted (grant_with 1 0 [])))) ∷ marked 4 (Got 12)
-        ∷ marked 4 (Got 13) ∷
+    ∷ marked 4 (Got 13) ∷
     marked 4 (Told (replies.Response 2)) ∷ marked 4 (Called commands.Commit) ∷
     marked 4 (Sent 14 1 (messages.Request (tx 1 1) 1 1 wants.Prepare)) ∷
     marked 4 (Sent 15 2 (messages.Request (tx 1 1) 1 1 wants.Prepare)) ∷ marked 1 (Got 14) ∷
@@ -55,7 +55,7 @@ history =
     marked 3 (Sent 21 1 (messages.Request (tx 0 1) 1 0 (wants.Append 0 [] (own_line 1 0 3 ∷ [])))) ∷ marked 0 (Got 20) ∷
     marked 0 (Sent 22 3 (messages.Answer 20 (answers.Granted (grant_with 1 0 [])))) ∷ marked 1 (Got 21) ∷
     marked 1 (Sent 23 3 (messages.Answer 21 (answers.Granted (grant_with 1 0 [])))) ∷ marked 3 (Got 22)
-        ∷ marked 3 (Got 23) ∷
+    ∷ marked 3 (Got 23) ∷
     marked 3 (Told (replies.Response 2)) ∷ marked 3 (Called commands.Commit) ∷
     marked 3 (Sent 24 0 (messages.Request (tx 0 1) 1 1 wants.Prepare)) ∷
     marked 3 (Sent 25 1 (messages.Request (tx 0 1) 1 1 wants.Prepare)) ∷ marked 0 (Got 24) ∷
@@ -90,11 +90,11 @@ history =
     marked 6 (Got 47) ∷ marked 6 (Got 48) ∷
     marked 6 (Wrote (records.Decide (start_with 2 1 (line 1 0 1 1 0 3 ∷ line 1 1 1 1 0 2 ∷ line 1 2 1 1 0 3 ∷ [])))) ∷
     marked 6
-        (Sent 49 0 (messages.Install (start_with 2 1 (line 1 0 1 1 0 3 ∷ line 1 1 1 1 0 2 ∷ line 1 2 1 1 0 3 ∷ [])))) ∷
+    (Sent 49 0 (messages.Install (start_with 2 1 (line 1 0 1 1 0 3 ∷ line 1 1 1 1 0 2 ∷ line 1 2 1 1 0 3 ∷ [])))) ∷
     marked 6
-        (Sent 50 1 (messages.Install (start_with 2 1 (line 1 0 1 1 0 3 ∷ line 1 1 1 1 0 2 ∷ line 1 2 1 1 0 3 ∷ [])))) ∷
+    (Sent 50 1 (messages.Install (start_with 2 1 (line 1 0 1 1 0 3 ∷ line 1 1 1 1 0 2 ∷ line 1 2 1 1 0 3 ∷ [])))) ∷
     marked 6
-        (Sent 51 2 (messages.Install (start_with 2 1 (line 1 0 1 1 0 3 ∷ line 1 1 1 1 0 2 ∷ line 1 2 1 1 0 3 ∷ [])))) ∷
+    (Sent 51 2 (messages.Install (start_with 2 1 (line 1 0 1 1 0 3 ∷ line 1 1 1 1 0 2 ∷ line 1 2 1 1 0 3 ∷ [])))) ∷
     marked 0 (Got 49) ∷
     marked 0 (Wrote (records.Install (start_with 2 1 (line 1 0 1 1 0 3 ∷ line 1 1 1 1 0 2 ∷ line 1 2 1 1 0 3 ∷ [])))) ∷
     marked 0 (Sent 52 6 (messages.Answer 49 answers.Installed)) ∷ marked 1 (Got 50) ∷
@@ -115,9 +115,9 @@ history =
     marked 4 (Told (replies.Began (tx 1 3))) ∷ marked 4 (Called (commands.Do 0 0)) ∷
     marked 4 (Sent 61 1 (messages.Request (tx 1 3) 2 0 (wants.Read (read_of 0 0)))) ∷ marked 1 (Got 61) ∷
     marked 1
-        (Sent 62 4
-          (messages.Answer 61
-            (answers.Granted (grant_with 2 1 (line 1 0 1 1 0 3 ∷ line 1 1 1 1 0 2 ∷ line 1 2 1 1 0 3 ∷ []))))) ∷
+    (Sent 62 4
+    (messages.Answer 61
+    (answers.Granted (grant_with 2 1 (line 1 0 1 1 0 3 ∷ line 1 1 1 1 0 2 ∷ line 1 2 1 1 0 3 ∷ []))))) ∷
     marked 4 (Got 62) ∷ marked 4 (Told (replies.Response 1)) ∷ marked 4 (Called commands.Commit) ∷
     marked 4 (Sent 63 1 (messages.Request (tx 1 3) 2 2 wants.Prepare)) ∷ marked 1 (Got 63) ∷
     marked 1 (Wrote (prepare (tx 1 3) 2 (read_lock 0 0 ∷ []) [] [])) ∷

@@ -23,7 +23,7 @@ history =
     marked 3 (Sent 1 1 (messages.Request (tx 0 1) 1 0 (wants.Append 0 [] (own_line 1 0 3 ∷ [])))) ∷ marked 0 (Got 0) ∷
     marked 0 (Sent 2 3 (messages.Answer 0 (answers.Granted (grant_with 1 0 [])))) ∷ marked 1 (Got 1) ∷
     marked 1 (Sent 3 3 (messages.Answer 1 (answers.Granted (grant_with 1 0 [])))) ∷ marked 3 (Got 2) ∷ marked 3 (Got 3)
-        ∷
+    ∷
     marked 3 (Told (replies.Response 2)) ∷ marked 3 (Called commands.Commit) ∷
     marked 3 (Sent 4 0 (messages.Request (tx 0 1) 1 1 wants.Prepare)) ∷
     marked 3 (Sent 5 1 (messages.Request (tx 0 1) 1 1 wants.Prepare)) ∷ marked 0 (Got 4) ∷
@@ -52,13 +52,13 @@ history =
     marked 6 (Got 15) ∷ marked 6 (Got 16) ∷ marked 6 (Sent 17 3 (messages.Ask (tx 0 1))) ∷ marked 3 (Got 17) ∷
     marked 3 (Sent 18 6 (messages.Answer 17 (answers.Answered outcomes.Aborted))) ∷ marked 6 (Got 18) ∷
     marked 6 (Wrote (records.Decide (start_with 2 0 []))) ∷ marked 6 (Sent 19 0 (messages.Install (start_with 2 0 [])))
-        ∷
+    ∷
     marked 6 (Sent 20 1 (messages.Install (start_with 2 0 [])))
-        ∷ marked 6 (Sent 21 2 (messages.Install (start_with 2 0 []))) ∷
+    ∷ marked 6 (Sent 21 2 (messages.Install (start_with 2 0 []))) ∷
     marked 0 (Got 19) ∷ marked 0 (Wrote (records.Install (start_with 2 0 []))) ∷
     marked 0 (Sent 22 6 (messages.Answer 19 answers.Installed)) ∷ marked 1 (Got 20) ∷
     marked 1 (Wrote (records.Install (start_with 2 0 []))) ∷ marked 1 (Sent 23 6 (messages.Answer 20 answers.Installed))
-        ∷
+    ∷
     marked 2 (Got 21) ∷ marked 2 (Wrote (records.Install (start_with 2 0 []))) ∷
     marked 2 (Sent 24 6 (messages.Answer 21 answers.Installed)) ∷ marked 6 (Got 22) ∷ marked 6 (Got 23) ∷
     marked 6 (Got 24) ∷ marked 6 (Told (replies.Moved 3 7)) ∷ []

@@ -21,12 +21,12 @@ history =
     marked 3 (Sent 1 1 (messages.Request (tx 0 1) 1 0 (wants.Append 0 [] (own_line 1 0 3 ∷ [])))) ∷ marked 0 (Got 0) ∷
     marked 0 (Sent 2 3 (messages.Answer 0 (answers.Granted (grant_with 1 0 [])))) ∷ marked 1 (Got 1) ∷
     marked 1 (Sent 3 3 (messages.Answer 1 (answers.Granted (grant_with 1 0 [])))) ∷ marked 3 (Got 2) ∷ marked 3 (Got 3)
-        ∷
+    ∷
     marked 3 (Told (replies.Response 2)) ∷ marked 3 (Called (commands.Do 1 2)) ∷
     marked 3 (Sent 4 0 (messages.Request (tx 0 1) 1 1 (wants.Append 1 [] (own_line 2 1 3 ∷ [])))) ∷
     marked 3 (Sent 5 1 (messages.Request (tx 0 1) 1 1 (wants.Append 1 [] (own_line 2 1 3 ∷ [])))) ∷ marked 0 (Got 4) ∷
     marked 0 (Sent 6 3 (messages.Answer 4 (answers.Granted (grant_with 1 0 [])))) ∷ marked 3 (Got 6) ∷ marked 3 (Lost 5)
-        ∷
+    ∷
     marked 3 (Sent 7 2 (messages.Request (tx 0 1) 1 0 (wants.Append 1 [] (own_line 2 1 3 ∷ [])))) ∷ marked 2 (Got 7) ∷
     marked 2 (Sent 8 3 (messages.Answer 7 (answers.Granted (grant_with 1 0 [])))) ∷ marked 3 (Got 8) ∷
     marked 3 (Told (replies.Response 2)) ∷ marked 3 (Called commands.Commit) ∷
@@ -59,7 +59,7 @@ history =
     marked 6 (Sent 25 0 (messages.Install (start_with 2 1 (line 1 0 1 1 0 3 ∷ line 1 0 1 2 1 3 ∷ [])))) ∷
     marked 6 (Sent 26 1 (messages.Install (start_with 2 1 (line 1 0 1 1 0 3 ∷ line 1 0 1 2 1 3 ∷ [])))) ∷
     marked 6 (Sent 27 2 (messages.Install (start_with 2 1 (line 1 0 1 1 0 3 ∷ line 1 0 1 2 1 3 ∷ []))))
-        ∷ marked 1 (Got 26) ∷
+    ∷ marked 1 (Got 26) ∷
     marked 1 (Wrote (records.Install (start_with 2 1 (line 1 0 1 1 0 3 ∷ line 1 0 1 2 1 3 ∷ [])))) ∷
     marked 1 (Sent 28 6 (messages.Answer 26 answers.Installed)) ∷ marked 2 (Got 27) ∷
     marked 2 (Wrote (records.Install (start_with 2 1 (line 1 0 1 1 0 3 ∷ line 1 0 1 2 1 3 ∷ [])))) ∷
@@ -77,11 +77,11 @@ history =
     marked 4 (Told (replies.Began (tx 1 2))) ∷ marked 4 (Called (commands.Do 1 0)) ∷
     marked 4 (Sent 36 1 (messages.Request (tx 1 2) 2 0 (wants.Read (read_of 1 0)))) ∷ marked 1 (Got 36) ∷
     marked 1 (Sent 37 4 (messages.Answer 36 (answers.Granted (grant_with 2 1 (line 1 0 1 2 1 3 ∷ [])))))
-        ∷ marked 4 (Got 37) ∷
+    ∷ marked 4 (Got 37) ∷
     marked 4 (Told (replies.Response 1)) ∷ marked 4 (Called (commands.Do 0 0)) ∷
     marked 4 (Sent 38 1 (messages.Request (tx 1 2) 2 2 (wants.Read (read_of 0 0)))) ∷ marked 1 (Got 38) ∷
     marked 1 (Sent 39 4 (messages.Answer 38 (answers.Granted (grant_with 2 1 (line 1 0 1 1 0 3 ∷ [])))))
-        ∷ marked 4 (Got 39) ∷
+    ∷ marked 4 (Got 39) ∷
     marked 4 (Told (replies.Response 1)) ∷ marked 4 (Called commands.Commit) ∷
     marked 4 (Sent 40 1 (messages.Request (tx 1 2) 2 2 wants.Prepare)) ∷ marked 1 (Got 40) ∷
     marked 1 (Wrote (prepare (tx 1 2) 2 (read_lock 0 0 ∷ read_lock 1 0 ∷ []) [] [])) ∷

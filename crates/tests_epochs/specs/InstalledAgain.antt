@@ -21,7 +21,7 @@ history =
     marked 3 (Sent 1 1 (messages.Request (tx 0 1) 1 0 (wants.Append 0 [] (own_line 1 0 3 ∷ [])))) ∷ marked 0 (Got 0) ∷
     marked 0 (Sent 2 3 (messages.Answer 0 (answers.Granted (grant_with 1 0 [])))) ∷ marked 1 (Got 1) ∷
     marked 1 (Sent 3 3 (messages.Answer 1 (answers.Granted (grant_with 1 0 [])))) ∷ marked 3 (Got 2) ∷ marked 3 (Got 3)
-        ∷
+    ∷
     marked 3 (Told (replies.Response 2)) ∷ marked 3 (Called commands.Commit) ∷
     marked 3 (Sent 4 0 (messages.Request (tx 0 1) 1 1 wants.Prepare)) ∷
     marked 3 (Sent 5 1 (messages.Request (tx 0 1) 1 1 wants.Prepare)) ∷ marked 0 (Got 4) ∷
@@ -37,10 +37,10 @@ history =
     marked 6 (Called (commands.Epoch 2)) ∷ marked 6 (Sent 10 0 (messages.Close 2)) ∷
     marked 6 (Sent 11 1 (messages.Close 2)) ∷ marked 0 (Got 10) ∷ marked 0 (Wrote (records.Close 2)) ∷
     marked 0 (Sent 12 6 (messages.Answer 10 (answers.Shut (snapshot_with 1 (line 1 0 1 1 0 3 ∷ []) []))))
-        ∷ marked 1 (Got 11) ∷
+    ∷ marked 1 (Got 11) ∷
     marked 1 (Wrote (records.Close 2)) ∷
     marked 1 (Sent 13 6 (messages.Answer 11 (answers.Shut (snapshot_with 1 (line 1 0 1 1 0 3 ∷ []) []))))
-        ∷ marked 6 (Got 12) ∷
+    ∷ marked 6 (Got 12) ∷
     marked 6 (Got 13) ∷ marked 6 (Wrote (records.Decide (start_with 2 1 (line 1 0 1 1 0 3 ∷ [])))) ∷
     marked 6 (Sent 14 0 (messages.Install (start_with 2 1 (line 1 0 1 1 0 3 ∷ [])))) ∷
     marked 6 (Sent 15 1 (messages.Install (start_with 2 1 (line 1 0 1 1 0 3 ∷ [])))) ∷
@@ -54,7 +54,7 @@ history =
     marked 6 (Got 19) ∷ marked 6 (Told (replies.Moved 3 7)) ∷ marked 7 (Phase 3) ∷ marked 6 (Fell falls.Script None) ∷
     marked 6 (Rose ((records.Decide (start_with 2 1 (line 1 0 1 1 0 3 ∷ []))) ∷ [])) ∷ marked 6 (Wrote records.Life) ∷
     marked 6 (Called (commands.Epoch 2))
-        ∷ marked 6 (Sent 20 0 (messages.Install (start_with 2 1 (line 1 0 1 1 0 3 ∷ [])))) ∷
+    ∷ marked 6 (Sent 20 0 (messages.Install (start_with 2 1 (line 1 0 1 1 0 3 ∷ [])))) ∷
     marked 6 (Sent 21 1 (messages.Install (start_with 2 1 (line 1 0 1 1 0 3 ∷ [])))) ∷
     marked 6 (Sent 22 2 (messages.Install (start_with 2 1 (line 1 0 1 1 0 3 ∷ [])))) ∷ marked 0 (Got 20) ∷
     marked 0 (Sent 23 6 (messages.Answer 20 answers.Installed)) ∷ marked 1 (Got 21) ∷
@@ -65,13 +65,13 @@ history =
     marked 6 (Sent 27 1 (messages.Close 3)) ∷ marked 6 (Sent 28 2 (messages.Close 3)) ∷ marked 0 (Got 26) ∷
     marked 0 (Wrote (records.Close 3)) ∷
     marked 0 (Sent 29 6 (messages.Answer 26 (answers.Shut (snapshot_with 1 (line 1 0 1 1 0 3 ∷ []) []))))
-        ∷ marked 1 (Got 27) ∷
+    ∷ marked 1 (Got 27) ∷
     marked 1 (Wrote (records.Close 3)) ∷
     marked 1 (Sent 30 6 (messages.Answer 27 (answers.Shut (snapshot_with 1 (line 1 0 1 1 0 3 ∷ []) []))))
-        ∷ marked 2 (Got 28) ∷
+    ∷ marked 2 (Got 28) ∷
     marked 2 (Wrote (records.Close 3)) ∷
     marked 2 (Sent 31 6 (messages.Answer 28 (answers.Shut (snapshot_with 1 (line 1 0 1 1 0 3 ∷ []) []))))
-        ∷ marked 6 (Got 29) ∷
+    ∷ marked 6 (Got 29) ∷
     marked 6 (Got 30) ∷ marked 6 (Got 31) ∷ marked 6 (Wrote (records.Decide (start_with 3 1 (line 1 0 1 1 0 3 ∷ [])))) ∷
     marked 6 (Sent 32 0 (messages.Install (start_with 3 1 (line 1 0 1 1 0 3 ∷ [])))) ∷
     marked 6 (Sent 33 1 (messages.Install (start_with 3 1 (line 1 0 1 1 0 3 ∷ [])))) ∷

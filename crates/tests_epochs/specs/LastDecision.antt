@@ -20,12 +20,12 @@ history =
     marked 6 (Sent 1 1 (messages.Close 2)) ∷ marked 0 (Got 0) ∷ marked 0 (Wrote (records.Close 2)) ∷
     marked 0 (Sent 2 6 (messages.Answer 0 (answers.Shut (snapshot_with 0 [] [])))) ∷ marked 1 (Got 1) ∷
     marked 1 (Wrote (records.Close 2)) ∷ marked 1 (Sent 3 6 (messages.Answer 1 (answers.Shut (snapshot_with 0 [] []))))
-        ∷
+    ∷
     marked 6 (Got 2) ∷ marked 6 (Got 3) ∷ marked 6 (Wrote (records.Decide (start_with 2 0 []))) ∷
     marked 6 (Sent 4 0 (messages.Install (start_with 2 0 [])))
-        ∷ marked 6 (Sent 5 1 (messages.Install (start_with 2 0 []))) ∷
+    ∷ marked 6 (Sent 5 1 (messages.Install (start_with 2 0 []))) ∷
     marked 6 (Sent 6 2 (messages.Install (start_with 2 0 []))) ∷ marked 0 (Got 4)
-        ∷ marked 0 (Wrote (records.Install (start_with 2 0 []))) ∷
+    ∷ marked 0 (Wrote (records.Install (start_with 2 0 []))) ∷
     marked 0 (Sent 7 6 (messages.Answer 4 answers.Installed)) ∷ marked 1 (Got 5) ∷
     marked 1 (Wrote (records.Install (start_with 2 0 []))) ∷ marked 1 (Sent 8 6 (messages.Answer 5 answers.Installed)) ∷
     marked 2 (Got 6) ∷ marked 2 (Wrote (records.Install (start_with 2 0 []))) ∷
@@ -43,27 +43,27 @@ history =
     marked 6 (Called (commands.Epoch 3)) ∷ marked 6 (Sent 16 0 (messages.Close 3)) ∷
     marked 6 (Sent 17 1 (messages.Close 3)) ∷ marked 6 (Sent 18 2 (messages.Close 3)) ∷ marked 0 (Got 16) ∷
     marked 0 (Wrote (records.Close 3))
-        ∷ marked 0 (Sent 19 6 (messages.Answer 16 (answers.Shut (snapshot_with 0 [] [])))) ∷
+    ∷ marked 0 (Sent 19 6 (messages.Answer 16 (answers.Shut (snapshot_with 0 [] [])))) ∷
     marked 1 (Got 17) ∷ marked 1 (Wrote (records.Close 3)) ∷
     marked 1 (Sent 20 6 (messages.Answer 17 (answers.Shut (snapshot_with 0 [] [])))) ∷ marked 2 (Got 18) ∷
     marked 2 (Wrote (records.Close 3))
-        ∷ marked 2 (Sent 21 6 (messages.Answer 18 (answers.Shut (snapshot_with 0 [] [])))) ∷
+    ∷ marked 2 (Sent 21 6 (messages.Answer 18 (answers.Shut (snapshot_with 0 [] [])))) ∷
     marked 6 (Got 19) ∷ marked 6 (Got 20) ∷ marked 6 (Got 21) ∷ marked 6 (Wrote (records.Decide (start_with 3 0 []))) ∷
     marked 6 (Sent 22 0 (messages.Install (start_with 3 0 [])))
-        ∷ marked 6 (Sent 23 1 (messages.Install (start_with 3 0 []))) ∷
+    ∷ marked 6 (Sent 23 1 (messages.Install (start_with 3 0 []))) ∷
     marked 6 (Sent 24 2 (messages.Install (start_with 3 0 []))) ∷ marked 0 (Got 22)
-        ∷ marked 0 (Wrote (records.Install (start_with 3 0 []))) ∷
+    ∷ marked 0 (Wrote (records.Install (start_with 3 0 []))) ∷
     marked 0 (Sent 25 6 (messages.Answer 22 answers.Installed)) ∷ marked 1 (Got 23) ∷
     marked 1 (Wrote (records.Install (start_with 3 0 []))) ∷ marked 1 (Sent 26 6 (messages.Answer 23 answers.Installed))
-        ∷
+    ∷
     marked 2 (Got 24) ∷ marked 2 (Wrote (records.Install (start_with 3 0 []))) ∷
     marked 2 (Sent 27 6 (messages.Answer 24 answers.Installed)) ∷ marked 6 (Got 25) ∷ marked 6 (Got 26) ∷
     marked 6 (Got 27) ∷ marked 6 (Told (replies.Moved 7 7)) ∷ marked 7 (Phase 4) ∷ marked 6 (Fell falls.Script None) ∷
     marked 6 (Rose ((records.Decide (start_with 2 0 [])) ∷ (records.Decide (start_with 3 0 [])) ∷ []))
-        ∷ marked 6 (Wrote records.Life) ∷
+    ∷ marked 6 (Wrote records.Life) ∷
     marked 6 (Called (commands.Epoch 3)) ∷ marked 6 (Sent 28 0 (messages.Install (start_with 3 0 []))) ∷
     marked 6 (Sent 29 1 (messages.Install (start_with 3 0 [])))
-        ∷ marked 6 (Sent 30 2 (messages.Install (start_with 3 0 []))) ∷
+    ∷ marked 6 (Sent 30 2 (messages.Install (start_with 3 0 []))) ∷
     marked 0 (Got 28) ∷ marked 0 (Sent 31 6 (messages.Answer 28 answers.Installed)) ∷ marked 1 (Got 29) ∷
     marked 1 (Sent 32 6 (messages.Answer 29 answers.Installed)) ∷ marked 2 (Got 30) ∷
     marked 2 (Sent 33 6 (messages.Answer 30 answers.Installed)) ∷ marked 6 (Got 31) ∷ marked 6 (Got 32) ∷

@@ -35,28 +35,28 @@ history =
     marked 4 (Phase 2) ∷ marked 1 (Rose []) ∷ marked 1 (Wrote records.Life) ∷ marked 2 (Called (commands.Do 0 0)) ∷
     marked 2 (Sent 0 0 (messages.Request (tx 0 1) 1 0 (wants.Read (read_of 0 0)))) ∷ marked 2 (Lost 0) ∷
     marked 2 (Sent 1 1 (messages.Request (tx 0 1) 1 0 (wants.Read (read_of 0 0))))
-        ∷ marked 3 (Called (commands.Epoch 2)) ∷
+    ∷ marked 3 (Called (commands.Epoch 2)) ∷
     marked 3 (Sent 2 0 (messages.Close 2)) ∷ marked 3 (Sent 3 1 (messages.Close 2)) ∷ marked 0 (Got 2) ∷
     marked 0 (Wrote (records.Close 2)) ∷ marked 0 (Sent 4 3 (messages.Answer 2 (answers.Shut (snapshot_with 0 [] []))))
-        ∷
+    ∷
     marked 1 (Got 1) ∷ marked 3 (Got 4) ∷ marked 1 (Sent 5 2 (messages.Answer 1 (answers.Granted (grant_with 2 0 []))))
-        ∷
+    ∷
     marked 2 (Got 5) ∷ marked 2 (Told (replies.Response 1)) ∷ marked 1 (Got 3) ∷ marked 2 (Called commands.Commit) ∷
     marked 1 (Wrote (records.Close 2)) ∷ marked 1 (Sent 6 3 (messages.Answer 3 (answers.Shut (snapshot_with 0 [] []))))
-        ∷
+    ∷
     marked 2 (Sent 7 1 (messages.Request (tx 0 1) 1 2 wants.Prepare)) ∷ marked 3 (Got 6) ∷
     marked 3 (Wrote (records.Decide (start_with 2 0 []))) ∷ marked 3 (Sent 8 0 (messages.Install (start_with 2 0 []))) ∷
     marked 3 (Sent 9 1 (messages.Install (start_with 2 0 []))) ∷ marked 0 (Got 8) ∷ marked 1 (Got 7) ∷
     marked 1 (Sent 10 2 (messages.Answer 7 (answers.Closed 2))) ∷ marked 2 (Got 10) ∷ marked 1 (Got 9) ∷
     marked 1 (Wrote (records.Install (start_with 2 0 []))) ∷ marked 1 (Sent 11 3 (messages.Answer 9 answers.Installed))
-        ∷
+    ∷
     marked 2 (Sent 12 0 (messages.Decision (tx 0 1) outcomes.Aborted)) ∷
     marked 2 (Sent 13 1 (messages.Decision (tx 0 1) outcomes.Aborted)) ∷
     marked 2 (Told (replies.Aborted (causes.Closed 2 1))) ∷ marked 0 (Wrote (records.Install (start_with 2 0 []))) ∷
     marked 0 (Sent 14 3 (messages.Answer 8 answers.Installed)) ∷ marked 1 (Got 13) ∷ marked 3 (Got 11) ∷
     marked 3 (Got 14) ∷ marked 3 (Told (replies.Moved 3 3)) ∷ marked 3 (Called (commands.Epoch 2)) ∷
     marked 3 (Sent 15 0 (messages.Install (start_with 2 0 [])))
-        ∷ marked 3 (Sent 16 1 (messages.Install (start_with 2 0 []))) ∷
+    ∷ marked 3 (Sent 16 1 (messages.Install (start_with 2 0 []))) ∷
     marked 1 (Got 16) ∷ marked 0 (Got 15) ∷ marked 1 (Sent 17 3 (messages.Answer 16 answers.Installed)) ∷
     marked 0 (Sent 18 3 (messages.Answer 15 answers.Installed)) ∷ marked 3 (Got 17) ∷ marked 3 (Got 18) ∷
     marked 3 (Told (replies.Moved 0 3)) ∷ marked 4 (Phase 3) ∷ marked 4 (Heal 2 0) ∷ marked 4 (Armed 3 arms.Stop 12) ∷

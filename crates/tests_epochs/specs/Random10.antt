@@ -43,21 +43,21 @@ history =
     marked 5 (Wrote (records.Decide (start_with 2 0 []))) ∷ marked 5 (Sent 4 0 (messages.Install (start_with 2 0 []))) ∷
     marked 5 (Sent 5 1 (messages.Install (start_with 2 0 []))) ∷ marked 0 (Got 4) ∷
     marked 0 (Sent 6 5 (messages.Answer 4 answers.Fault))
-        ∷ marked 0 (Fell falls.Disk (Some (records.Install (start_with 2 0 [])))) ∷
+    ∷ marked 0 (Fell falls.Disk (Some (records.Install (start_with 2 0 [])))) ∷
     marked 5 (Got 6) ∷ marked 1 (Got 5) ∷ marked 1 (Fell falls.Stop (Some (records.Install (start_with 2 0 [])))) ∷
     marked 5 (Lost 5) ∷ marked 5 (Told (replies.Moved 3 0)) ∷ marked 3 (Called commands.Begin) ∷
     marked 3 (Told (replies.Began (tx 1 2))) ∷ marked 3 (Called (commands.Do 1 2)) ∷
     marked 3 (Sent 7 1 (messages.Request (tx 1 2) 1 0 (wants.Read (read_of 1 2)))) ∷
     marked 3 (Sent 8 0 (messages.Request (tx 1 2) 1 0 (wants.Read (read_of 1 2)))) ∷ marked 3 (Lost 7)
-        ∷ marked 3 (Lost 8) ∷
+    ∷ marked 3 (Lost 8) ∷
     marked 3 (Told (replies.Quorum halves.Read 0 2)) ∷ marked 3 (Called (commands.Do 1 1)) ∷
     marked 3 (Sent 9 1 (messages.Request (tx 1 2) 1 0 (wants.Read (read_of 1 1)))) ∷
     marked 3 (Sent 10 0 (messages.Request (tx 1 2) 1 0 (wants.Read (read_of 1 1)))) ∷ marked 3 (Lost 9)
-        ∷ marked 3 (Lost 10) ∷
+    ∷ marked 3 (Lost 10) ∷
     marked 3 (Told (replies.Quorum halves.Read 0 2)) ∷ marked 3 (Called (commands.Do 1 2)) ∷
     marked 3 (Sent 11 1 (messages.Request (tx 1 2) 1 0 (wants.Read (read_of 1 2)))) ∷
     marked 3 (Sent 12 0 (messages.Request (tx 1 2) 1 0 (wants.Read (read_of 1 2)))) ∷ marked 3 (Lost 11)
-        ∷ marked 3 (Lost 12) ∷
+    ∷ marked 3 (Lost 12) ∷
     marked 3 (Told (replies.Quorum halves.Read 0 2)) ∷ marked 6 (Phase 2) ∷
     marked 0 (Rose ((records.Close 2) ∷ (records.Install (start_with 2 0 [])) ∷ [])) ∷ marked 0 (Wrote records.Life) ∷
     marked 6 (Armed 1 arms.Stop 4) ∷ marked 6 (Armed 4 arms.Fail 7) ∷ marked 0 (Got 0) ∷ marked 5 (Got 2) ∷
@@ -77,7 +77,7 @@ history =
     marked 5 (Got 14) ∷ marked 2 (Wrote (commit (stamp 1 0) (tx 0 1) [])) ∷
     marked 2 (Told (replies.Committed (stamp 1 0))) ∷ marked 5 (Called (commands.Epoch 2)) ∷
     marked 5 (Sent 18 0 (messages.Install (start_with 2 0 [])))
-        ∷ marked 5 (Sent 19 1 (messages.Install (start_with 2 0 []))) ∷
+    ∷ marked 5 (Sent 19 1 (messages.Install (start_with 2 0 []))) ∷
     marked 0 (Got 18) ∷ marked 0 (Sent 20 5 (messages.Answer 18 answers.Installed)) ∷ marked 5 (Got 20) ∷
     marked 3 (Got 15) ∷ marked 1 (Got 19) ∷ marked 1 (Wrote (records.Install (start_with 2 0 []))) ∷
     marked 1 (Sent 21 5 (messages.Answer 19 answers.Installed)) ∷ marked 5 (Got 21) ∷

@@ -39,7 +39,7 @@ history =
     marked 3 (Sent 0 0 (messages.Close 2)) ∷ marked 0 (Got 0) ∷ marked 0 (Wrote (records.Close 2)) ∷
     marked 0 (Sent 1 3 (messages.Answer 0 (answers.Shut (snapshot_with 0 [] [])))) ∷ marked 3 (Got 1) ∷
     marked 3 (Wrote (records.Decide (start_with 2 0 []))) ∷ marked 3 (Sent 2 0 (messages.Install (start_with 2 0 [])))
-        ∷ marked 0 (Got 2) ∷
+    ∷ marked 0 (Got 2) ∷
     marked 0 (Wrote (records.Install (start_with 2 0 []))) ∷ marked 0 (Sent 3 3 (messages.Answer 2 answers.Installed)) ∷
     marked 3 (Got 3) ∷ marked 3 (Told (replies.Moved 1 1)) ∷ marked 1 (Called (commands.Do 0 0)) ∷
     marked 1 (Sent 4 0 (messages.Request (tx_in 0 2 1) 1 0 (wants.Read (read_of 0 0)))) ∷ marked 0 (Got 4) ∷
@@ -52,17 +52,17 @@ history =
     marked 1 (Sent 8 0 (messages.Decision (tx_in 0 2 1) (outcomes.Committed (stamp 1 0)))) ∷
     marked 1 (Told (replies.Committed (stamp 1 0))) ∷ marked 0 (Got 8) ∷ marked 4 (Phase 2) ∷ marked 4 (Cut 0 3) ∷
     marked 0 (Fell falls.Script None) ∷ marked 0 (Rose ((records.Close 2) ∷ (records.Install (start_with 2 0 [])) ∷ []))
-        ∷
+    ∷
     marked 0 (Wrote records.Life) ∷ marked 2 (Rose (records.Life ∷ [])) ∷ marked 2 (Wrote records.Life) ∷
     marked 1 (Called commands.Begin) ∷ marked 1 (Told (replies.Began (tx_in 0 2 2))) ∷
     marked 2 (Called commands.Begin) ∷ marked 2 (Told (replies.Began (tx_in 1 3 1))) ∷
     marked 1 (Called (commands.Do 1 2))
-        ∷ marked 1 (Sent 9 0 (messages.Request (tx_in 0 2 2) 2 0 (wants.Read (read_of 1 2)))) ∷
+    ∷ marked 1 (Sent 9 0 (messages.Request (tx_in 0 2 2) 2 0 (wants.Read (read_of 1 2)))) ∷
     marked 0 (Got 9) ∷ marked 0 (Sent 10 1 (messages.Answer 9 (answers.Granted (grant_with 3 0 []))))
-        ∷ marked 1 (Got 10) ∷
+    ∷ marked 1 (Got 10) ∷
     marked 1 (Sent 11 0 (messages.Request (tx_in 0 2 2) 2 3 (wants.Append 1 [] (own_line 1 1 3 ∷ [])))) ∷
     marked 0 (Got 11) ∷ marked 0 (Sent 12 1 (messages.Answer 11 (answers.Granted (grant_with 3 0 []))))
-        ∷ marked 1 (Got 12) ∷
+    ∷ marked 1 (Got 12) ∷
     marked 1 (Told (replies.Response 1)) ∷ marked 2 (Called (commands.Do 0 0)) ∷
     marked 2 (Sent 13 0 (messages.Request (tx_in 1 3 1) 1 0 (wants.Read (read_of 0 0)))) ∷ marked 0 (Got 13) ∷
     marked 0 (Sent 14 2 (messages.Answer 13 (answers.Closed 2))) ∷ marked 2 (Got 14) ∷
@@ -72,14 +72,14 @@ history =
     marked 1 (Sent 17 0 (messages.Request (tx_in 0 2 2) 2 3 (wants.Append 1 [] (own_line 1 1 3 ∷ own_line 2 1 4 ∷ []))))
     ∷
     marked 0 (Got 17) ∷ marked 0 (Sent 18 1 (messages.Answer 17 (answers.Granted (grant_with 3 0 []))))
-        ∷ marked 1 (Got 18) ∷
+    ∷ marked 1 (Got 18) ∷
     marked 1 (Told (replies.Response 0)) ∷ marked 2 (Called (commands.Do 1 0)) ∷
     marked 2 (Sent 19 0 (messages.Request (tx_in 1 3 1) 1 0 (wants.Read (read_of 1 0)))) ∷ marked 0 (Got 19) ∷
     marked 0 (Sent 20 2 (messages.Answer 19 (answers.Closed 2))) ∷ marked 2 (Got 20) ∷
     marked 2 (Told (replies.Closed 2 0)) ∷ marked 1 (Called (commands.Do 0 1)) ∷
     marked 1 (Sent 21 0 (messages.Request (tx_in 0 2 2) 2 3 (wants.Append 0 [] (own_line 3 0 2 ∷ [])))) ∷
     marked 0 (Got 21) ∷ marked 0 (Sent 22 1 (messages.Answer 21 (answers.Granted (grant_with 3 0 []))))
-        ∷ marked 1 (Got 22) ∷
+    ∷ marked 1 (Got 22) ∷
     marked 1 (Told (replies.Response 2)) ∷ marked 1 (Called commands.Commit) ∷
     marked 1 (Sent 23 0 (messages.Request (tx_in 0 2 2) 2 3 wants.Prepare)) ∷ marked 0 (Got 23) ∷
     marked 0 (Wrote (prepare (tx_in 0 2 2) 2 (read_lock 1 1 ∷ read_lock 1 2 ∷ []) (own_line 1 1 3 ∷ own_line 2 1 4 ∷

@@ -36,21 +36,21 @@ history =
     marked 2 (Got 2) ∷ marked 2 (Wrote (records.Close 2)) ∷
     marked 2 (Sent 5 9 (messages.Answer 2 (answers.Shut (snapshot_with 0 [] [])))) ∷ marked 1 (Got 1) ∷
     marked 4 (Wrote (records.Close 2)) ∷ marked 4 (Sent 6 9 (messages.Answer 4 (answers.Shut (snapshot_with 0 [] []))))
-        ∷
+    ∷
     marked 7 (Called (commands.Do 1 1)) ∷ marked 3 (Got 3) ∷
     marked 8 (Sent 7 3 (messages.Request (tx 3 1) 1 0 (wants.Read (read_of 1 1)))) ∷
     marked 8 (Sent 8 4 (messages.Request (tx 3 1) 1 0 (wants.Read (read_of 1 1)))) ∷
     marked 8 (Sent 9 0 (messages.Request (tx 3 1) 1 0 (wants.Read (read_of 1 1)))) ∷
     marked 8 (Sent 10 1 (messages.Request (tx 3 1) 1 0 (wants.Read (read_of 1 1)))) ∷ marked 1 (Wrote (records.Close 2))
-        ∷
+    ∷
     marked 1 (Sent 11 9 (messages.Answer 1 (answers.Shut (snapshot_with 0 [] [])))) ∷ marked 5 (Called commands.Begin) ∷
     marked 5 (Told (replies.Began (tx 0 1)))
-        ∷ marked 7 (Sent 12 2 (messages.Request (tx 2 1) 1 0 (wants.Read (read_of 1 1)))) ∷
+    ∷ marked 7 (Sent 12 2 (messages.Request (tx 2 1) 1 0 (wants.Read (read_of 1 1)))) ∷
     marked 7 (Sent 13 3 (messages.Request (tx 2 1) 1 0 (wants.Read (read_of 1 1)))) ∷
     marked 7 (Sent 14 4 (messages.Request (tx 2 1) 1 0 (wants.Read (read_of 1 1)))) ∷ marked 3 (Wrote (records.Close 2))
-        ∷
+    ∷
     marked 3 (Sent 15 9 (messages.Answer 3 (answers.Shut (snapshot_with 0 [] []))))
-        ∷ marked 5 (Called (commands.Do 1 0)) ∷
+    ∷ marked 5 (Called (commands.Do 1 0)) ∷
     marked 3 (Got 7) ∷ marked 0 (Got 0) ∷ marked 4 (Got 8) ∷
     marked 3 (Sent 16 8 (messages.Answer 7 (answers.Closed 2))) ∷ marked 0 (Fell falls.Stop (Some (records.Close 2))) ∷
     marked 4 (Sent 17 8 (messages.Answer 8 (answers.Closed 2))) ∷ marked 8 (Got 16) ∷ marked 3 (Got 13) ∷
@@ -81,7 +81,7 @@ history =
     marked 7 (Fell falls.Disk (Some (commit (stamp 1 2) (tx 2 1) []))) ∷ marked 5 (Told (replies.Closed 2 1)) ∷
     marked 7 (Called commands.Begin) ∷ marked 1 (Got 31) ∷ marked 7 (Told replies.Down) ∷
     marked 5 (Called (commands.Do 1 0))
-        ∷ marked 5 (Sent 35 0 (messages.Request (tx 0 1) 1 0 (wants.Read (read_of 1 0)))) ∷
+    ∷ marked 5 (Sent 35 0 (messages.Request (tx 0 1) 1 0 (wants.Read (read_of 1 0)))) ∷
     marked 5 (Sent 36 1 (messages.Request (tx 0 1) 1 0 (wants.Read (read_of 1 0)))) ∷
     marked 5 (Sent 37 2 (messages.Request (tx 0 1) 1 0 (wants.Read (read_of 1 0)))) ∷
     marked 5 (Sent 38 3 (messages.Request (tx 0 1) 1 0 (wants.Read (read_of 1 0)))) ∷
@@ -95,7 +95,7 @@ history =
     marked 5 (Sent 44 0 (messages.Request (tx 0 1) 1 0 (wants.Read (read_of 1 1)))) ∷
     marked 5 (Sent 45 1 (messages.Request (tx 0 1) 1 0 (wants.Read (read_of 1 1)))) ∷
     marked 5 (Sent 46 2 (messages.Request (tx 0 1) 1 0 (wants.Read (read_of 1 1)))) ∷ marked 1 (Got 45)
-        ∷ marked 5 (Lost 44) ∷
+    ∷ marked 5 (Lost 44) ∷
     marked 1 (Sent 47 5 (messages.Answer 45 (answers.Closed 2))) ∷ marked 5 (Got 47) ∷ marked 2 (Got 46) ∷
     marked 2 (Sent 48 5 (messages.Answer 46 (answers.Closed 2))) ∷ marked 5 (Got 48) ∷
     marked 5 (Told (replies.Closed 2 1)) ∷ []

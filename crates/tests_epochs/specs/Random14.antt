@@ -71,15 +71,15 @@ history =
     marked 4 (Wrote (commit (stamp 3 2) (tx_in 2 3 2) [])) ∷ marked 4 (Told (replies.Committed (stamp 3 2))) ∷
     marked 6 (Called (commands.Epoch 2)) ∷ marked 6 (Sent 0 0 (messages.Install (start_with 2 0 []))) ∷
     marked 6 (Sent 1 1 (messages.Install (start_with 2 0 []))) ∷ marked 1 (Got 1)
-        ∷ marked 1 (Wrote (records.Install (start_with 2 0 []))) ∷
+    ∷ marked 1 (Wrote (records.Install (start_with 2 0 []))) ∷
     marked 1 (Sent 2 6 (messages.Answer 1 answers.Installed)) ∷ marked 0 (Got 0) ∷
     marked 0 (Sent 3 6 (messages.Answer 0 answers.Fault))
-        ∷ marked 0 (Fell falls.Disk (Some (records.Install (start_with 2 0 [])))) ∷
+    ∷ marked 0 (Fell falls.Disk (Some (records.Install (start_with 2 0 [])))) ∷
     marked 6 (Got 2) ∷ marked 6 (Got 3) ∷ marked 6 (Told (replies.Moved 0 2)) ∷ marked 7 (Phase 4) ∷
     marked 7 (Cut 0 1) ∷ marked 0 (Rose []) ∷ marked 0 (Wrote records.Life) ∷ marked 7 (Armed 3 arms.Stop 4) ∷
     marked 6 (Called (commands.Epoch 2)) ∷ marked 2 (Called (commands.Do 0 0)) ∷
     marked 6 (Sent 4 0 (messages.Install (start_with 2 0 [])))
-        ∷ marked 6 (Sent 5 1 (messages.Install (start_with 2 0 []))) ∷ marked 1 (Got 5) ∷
+    ∷ marked 6 (Sent 5 1 (messages.Install (start_with 2 0 []))) ∷ marked 1 (Got 5) ∷
     marked 5 (Called commands.Begin) ∷ marked 2 (Told replies.Down) ∷
     marked 1 (Sent 6 6 (messages.Answer 5 answers.Installed)) ∷ marked 5 (Told (replies.Began (tx 3 3))) ∷
     marked 6 (Got 6) ∷ marked 5 (Called (commands.Do 0 0)) ∷ marked 5 (Told replies.Absent) ∷

@@ -35,14 +35,14 @@ history =
     marked 4 (Told (replies.Began (tx 0 1))) ∷ marked 4 (Called (commands.Do 0 2)) ∷
     marked 4 (Sent 0 0 (messages.Request (tx 0 1) 1 0 (wants.Read (read_of 0 2)))) ∷
     marked 4 (Sent 1 1 (messages.Request (tx 0 1) 1 0 (wants.Read (read_of 0 2)))) ∷ marked 1 (Got 1) ∷ marked 0 (Got 0)
-        ∷
+    ∷
     marked 0 (Sent 2 4 (messages.Answer 0 (answers.Granted (grant_with 2 0 [])))) ∷
     marked 1 (Sent 3 4 (messages.Answer 1 (answers.Granted (grant_with 1 0 [])))) ∷ marked 4 (Got 2) ∷ marked 4 (Got 3)
-        ∷
+    ∷
     marked 4 (Sent 4 0 (messages.Request (tx 0 1) 1 2 (wants.Append 0 [] (own_line 1 0 3 ∷ [])))) ∷
     marked 4 (Sent 5 1 (messages.Request (tx 0 1) 1 1 (wants.Append 0 [] (own_line 1 0 3 ∷ [])))) ∷ marked 1 (Got 5) ∷
     marked 1 (Sent 6 4 (messages.Answer 5 (answers.Granted (grant_with 1 0 [])))) ∷ marked 4 (Got 6) ∷ marked 0 (Got 4)
-        ∷
+    ∷
     marked 0 (Sent 7 4 (messages.Answer 4 (answers.Granted (grant_with 2 0 [])))) ∷ marked 4 (Got 7) ∷
     marked 4 (Told (replies.Response 2)) ∷ marked 4 (Called commands.Commit) ∷
     marked 4 (Sent 8 0 (messages.Request (tx 0 1) 1 2 wants.Prepare)) ∷
@@ -61,23 +61,23 @@ history =
     [])) ∷
     marked 1 (Wrote records.Life) ∷ marked 6 (Called commands.Begin) ∷ marked 6 (Told (replies.Began (tx 2 1))) ∷
     marked 6 (Called (commands.Do 0 0))
-        ∷ marked 6 (Sent 14 2 (messages.Request (tx 2 1) 1 0 (wants.Read (read_of 0 0)))) ∷
+    ∷ marked 6 (Sent 14 2 (messages.Request (tx 2 1) 1 0 (wants.Read (read_of 0 0)))) ∷
     marked 6 (Sent 15 3 (messages.Request (tx 2 1) 1 0 (wants.Read (read_of 0 0)))) ∷
     marked 6 (Sent 16 0 (messages.Request (tx 2 1) 1 0 (wants.Read (read_of 0 0)))) ∷
     marked 6 (Sent 17 1 (messages.Request (tx 2 1) 1 0 (wants.Read (read_of 0 0)))) ∷ marked 2 (Got 14)
-        ∷ marked 3 (Got 15) ∷
+    ∷ marked 3 (Got 15) ∷
     marked 2 (Sent 18 6 (messages.Answer 14 (answers.Granted (grant_with 1 0 [])))) ∷
     marked 3 (Sent 19 6 (messages.Answer 15 (answers.Granted (grant_with 2 0 [])))) ∷ marked 6 (Got 18)
-        ∷ marked 6 (Got 19) ∷
+    ∷ marked 6 (Got 19) ∷
     marked 0 (Got 16)
-        ∷ marked 0 (Sent 20 6 (messages.Answer 16 (answers.Granted (grant_with 2 1 (line 1 0 1 1 0 3 ∷ []))))) ∷
+    ∷ marked 0 (Sent 20 6 (messages.Answer 16 (answers.Granted (grant_with 2 1 (line 1 0 1 1 0 3 ∷ []))))) ∷
     marked 6 (Got 20) ∷ marked 1 (Got 17) ∷
     marked 1 (Sent 21 6 (messages.Answer 17 (answers.Granted (grant_with 2 1 (line 1 0 1 1 0 3 ∷ [])))))
-        ∷ marked 6 (Got 21) ∷
+    ∷ marked 6 (Got 21) ∷
     marked 6 (Sent 22 2 (messages.Request (tx 2 1) 1 1 (wants.Append 0 (line 1 0 1 1 0 3 ∷ []) (own_line 1 0 1 ∷ []))))
     ∷
     marked 2 (Got 22) ∷ marked 2 (Sent 23 6 (messages.Answer 22 (answers.Granted (grant_with 1 1 []))))
-        ∷ marked 6 (Got 23) ∷
+    ∷ marked 6 (Got 23) ∷
     marked 6 (Told (replies.Response 1)) ∷ marked 6 (Called commands.Commit) ∷
     marked 6 (Sent 24 2 (messages.Request (tx 2 1) 1 1 wants.Prepare)) ∷
     marked 6 (Sent 25 3 (messages.Request (tx 2 1) 1 2 wants.Prepare)) ∷
@@ -104,23 +104,23 @@ history =
     marked 7 (Sent 38 2 (messages.Close 2)) ∷ marked 7 (Sent 39 3 (messages.Close 2)) ∷ marked 2 (Got 38) ∷
     marked 3 (Got 39) ∷ marked 3 (Wrote (records.Close 2)) ∷
     marked 3 (Sent 40 7 (messages.Answer 39 (answers.Shut (snapshot_with 2 [] []))))
-        ∷ marked 2 (Wrote (records.Close 2)) ∷
+    ∷ marked 2 (Wrote (records.Close 2)) ∷
     marked 2
-        (Sent 41 7 (messages.Answer 38 (answers.Shut (snapshot_with 2 (line 1 0 1 1 0 3 ∷ line 2 2 1 1 0 1 ∷ []) []))))
-        ∷
+    (Sent 41 7 (messages.Answer 38 (answers.Shut (snapshot_with 2 (line 1 0 1 1 0 3 ∷ line 2 2 1 1 0 1 ∷ []) []))))
+    ∷
     marked 1 (Got 37) ∷ marked 1 (Wrote (records.Close 2)) ∷
     marked 1 (Sent 42 7 (messages.Answer 37 (answers.Shut (snapshot_with 2 (line 1 0 1 1 0 3 ∷ []) []))))
-        ∷ marked 0 (Got 36) ∷
+    ∷ marked 0 (Got 36) ∷
     marked 7 (Got 40) ∷ marked 0 (Wrote (records.Close 2)) ∷
     marked 0 (Sent 43 7 (messages.Answer 36 (answers.Shut (snapshot_with 2 (line 1 0 1 1 0 3 ∷ []) []))))
-        ∷ marked 7 (Got 41) ∷
+    ∷ marked 7 (Got 41) ∷
     marked 7 (Got 42) ∷ marked 7 (Got 43) ∷
     marked 7 (Wrote (records.Decide (start_with 2 2 (line 1 0 1 1 0 3 ∷ line 2 2 1 1 0 1 ∷ [])))) ∷
     marked 7 (Sent 44 0 (messages.Install (start_with 2 2 (line 1 0 1 1 0 3 ∷ line 2 2 1 1 0 1 ∷ [])))) ∷
     marked 7 (Sent 45 1 (messages.Install (start_with 2 2 (line 1 0 1 1 0 3 ∷ line 2 2 1 1 0 1 ∷ [])))) ∷
     marked 7 (Sent 46 2 (messages.Install (start_with 2 2 (line 1 0 1 1 0 3 ∷ line 2 2 1 1 0 1 ∷ [])))) ∷
     marked 7 (Sent 47 3 (messages.Install (start_with 2 2 (line 1 0 1 1 0 3 ∷ line 2 2 1 1 0 1 ∷ []))))
-        ∷ marked 1 (Got 45) ∷
+    ∷ marked 1 (Got 45) ∷
     marked 1 (Wrote (records.Install (start_with 2 2 (line 1 0 1 1 0 3 ∷ line 2 2 1 1 0 1 ∷ [])))) ∷
     marked 1 (Sent 48 7 (messages.Answer 45 answers.Installed)) ∷ marked 2 (Got 46) ∷ marked 3 (Got 47) ∷
     marked 3 (Wrote (records.Install (start_with 2 2 (line 1 0 1 1 0 3 ∷ line 2 2 1 1 0 1 ∷ [])))) ∷

@@ -37,9 +37,9 @@ history =
     marked 0 (Sent 3 1 (messages.Answer 2 (answers.Granted (grant_with 1 0 [])))) ∷ marked 1 (Got 3) ∷
     marked 1 (Told (replies.Response 0)) ∷ marked 1 (Called (commands.Do 1 0)) ∷ marked 1 (Told replies.Absent) ∷
     marked 1 (Called (commands.Do 0 2)) ∷ marked 1 (Sent 4 0 (messages.Request (tx 0 1) 1 1 (wants.Read (read_of 0 2))))
-        ∷
+    ∷
     marked 0 (Got 4) ∷ marked 0 (Sent 5 1 (messages.Answer 4 (answers.Granted (grant_with 1 0 [])))) ∷ marked 1 (Got 5)
-        ∷
+    ∷
     marked 1 (Told (replies.Response 3)) ∷ marked 1 (Called commands.Commit) ∷
     marked 1 (Sent 6 0 (messages.Request (tx 0 1) 1 1 wants.Prepare)) ∷ marked 0 (Got 6) ∷
     marked 0 (Sent 7 1 (messages.Answer 6 answers.Fault)) ∷
@@ -78,9 +78,9 @@ history =
     marked 0 (Sent 20 1 (messages.Answer 19 (answers.Granted (grant_with 2 3 [])))) ∷ marked 1 (Got 20) ∷
     marked 1 (Told (replies.Response 2)) ∷ marked 1 (Called (commands.Do 1 0)) ∷ marked 1 (Told replies.Absent) ∷
     marked 1 (Called (commands.Do 0 2))
-        ∷ marked 1 (Sent 21 0 (messages.Request (tx 0 5) 1 2 (wants.Read (read_of 0 2)))) ∷
+    ∷ marked 1 (Sent 21 0 (messages.Request (tx 0 5) 1 2 (wants.Read (read_of 0 2)))) ∷
     marked 0 (Got 21) ∷ marked 0 (Sent 22 1 (messages.Answer 21 (answers.Granted (grant_with 2 3 []))))
-        ∷ marked 1 (Got 22) ∷
+    ∷ marked 1 (Got 22) ∷
     marked 1 (Told (replies.Response 2)) ∷ marked 1 (Called commands.Commit) ∷
     marked 1 (Sent 23 0 (messages.Request (tx 0 5) 1 2 wants.Prepare)) ∷ marked 0 (Got 23) ∷
     marked 0 (Wrote (prepare (tx 0 5) 1 (read_lock 0 2 ∷ []) [] [])) ∷
@@ -97,9 +97,9 @@ history =
     marked 0 (Sent 29 1 (messages.Answer 28 (answers.Granted (grant_with 2 4 [])))) ∷ marked 1 (Got 29) ∷
     marked 1 (Told (replies.Response 0)) ∷ marked 1 (Called (commands.Do 1 0)) ∷ marked 1 (Told replies.Absent) ∷
     marked 1 (Called (commands.Do 0 2))
-        ∷ marked 1 (Sent 30 0 (messages.Request (tx 0 6) 1 2 (wants.Read (read_of 0 2)))) ∷
+    ∷ marked 1 (Sent 30 0 (messages.Request (tx 0 6) 1 2 (wants.Read (read_of 0 2)))) ∷
     marked 0 (Got 30) ∷ marked 0 (Sent 31 1 (messages.Answer 30 (answers.Granted (grant_with 2 4 []))))
-        ∷ marked 1 (Got 31) ∷
+    ∷ marked 1 (Got 31) ∷
     marked 1 (Told (replies.Response 3)) ∷ marked 1 (Called commands.Commit) ∷
     marked 1 (Sent 32 0 (messages.Request (tx 0 6) 1 2 wants.Prepare)) ∷ marked 0 (Got 32) ∷
     marked 0 (Wrote (prepare (tx 0 6) 1 (read_lock 0 0 ∷ read_lock 0 2 ∷ []) (own_line 1 0 0 ∷ []) [])) ∷
@@ -110,14 +110,14 @@ history =
     marked 1 (Told (replies.Committed (stamp 5 0))) ∷ marked 0 (Got 34) ∷ marked 0 (Wrote (records.Done (tx 0 6) 5)) ∷
     marked 3 (Phase 6) ∷ marked 1 (Called commands.Begin) ∷ marked 1 (Told (replies.Began (tx 0 7))) ∷
     marked 1 (Called (commands.Do 0 0))
-        ∷ marked 1 (Sent 35 0 (messages.Request (tx 0 7) 1 0 (wants.Read (read_of 0 0)))) ∷
+    ∷ marked 1 (Sent 35 0 (messages.Request (tx 0 7) 1 0 (wants.Read (read_of 0 0)))) ∷
     marked 0 (Got 35)
-        ∷ marked 0 (Sent 36 1 (messages.Answer 35 (answers.Granted (grant_with 2 5 (line 5 0 6 1 0 0 ∷ []))))) ∷
+    ∷ marked 0 (Sent 36 1 (messages.Answer 35 (answers.Granted (grant_with 2 5 (line 5 0 6 1 0 0 ∷ []))))) ∷
     marked 1 (Got 36) ∷
     marked 1 (Sent 37 0 (messages.Request (tx 0 7) 1 2 (wants.Append 0 (line 5 0 6 1 0 0 ∷ []) (own_line 1 0 0 ∷ []))))
     ∷
     marked 0 (Got 37) ∷ marked 0 (Sent 38 1 (messages.Answer 37 (answers.Granted (grant_with 2 5 []))))
-        ∷ marked 1 (Got 38) ∷
+    ∷ marked 1 (Got 38) ∷
     marked 1 (Told (replies.Response 0)) ∷ marked 1 (Called commands.Commit) ∷
     marked 1 (Sent 39 0 (messages.Request (tx 0 7) 1 2 wants.Prepare)) ∷ marked 0 (Got 39) ∷
     marked 0 (Wrote (prepare (tx 0 7) 1 (read_lock 0 0 ∷ []) (own_line 1 0 0 ∷ []) [])) ∷

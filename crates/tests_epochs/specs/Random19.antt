@@ -49,7 +49,7 @@ history =
     marked 4 (Called commands.Begin) ∷ marked 5 (Called (commands.Epoch 2)) ∷ marked 3 (Called commands.Begin) ∷
     marked 5 (Wrote (records.Decide (start_with 2 0 []))) ∷ marked 5 (Sent 0 0 (messages.Install (start_with 2 0 []))) ∷
     marked 5 (Sent 1 1 (messages.Install (start_with 2 0 [])))
-        ∷ marked 5 (Sent 2 2 (messages.Install (start_with 2 0 []))) ∷ marked 1 (Got 1) ∷
+    ∷ marked 5 (Sent 2 2 (messages.Install (start_with 2 0 []))) ∷ marked 1 (Got 1) ∷
     marked 2 (Got 2) ∷ marked 0 (Got 0) ∷ marked 2 (Wrote (records.Install (start_with 2 0 []))) ∷
     marked 2 (Sent 3 5 (messages.Answer 2 answers.Installed)) ∷ marked 5 (Got 3) ∷
     marked 4 (Told (replies.Began (tx 1 4))) ∷ marked 4 (Called (commands.Do 0 0)) ∷
@@ -62,7 +62,7 @@ history =
     marked 4 (Told (replies.Committed (stamp 4 1))) ∷ marked 4 (Called commands.Begin) ∷
     marked 4 (Told (replies.Began (tx 1 5))) ∷ marked 4 (Called commands.Commit) ∷
     marked 5 (Sent 6 0 (messages.Install (start_with 2 0 [])))
-        ∷ marked 5 (Sent 7 1 (messages.Install (start_with 2 0 []))) ∷
+    ∷ marked 5 (Sent 7 1 (messages.Install (start_with 2 0 []))) ∷
     marked 5 (Sent 8 2 (messages.Install (start_with 2 0 []))) ∷ marked 0 (Got 6) ∷
     marked 4 (Wrote (commit (stamp 5 1) (tx 1 5) [])) ∷ marked 4 (Told (replies.Committed (stamp 5 1))) ∷
     marked 2 (Got 8) ∷ marked 1 (Got 7) ∷ marked 1 (Sent 9 5 (messages.Answer 7 answers.Installed)) ∷

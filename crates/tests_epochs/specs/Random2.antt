@@ -41,12 +41,12 @@ history =
     marked 3 (Fell falls.Stop (Some (records.Close 2))) ∷
     marked 6 (Sent 6 1 (messages.Request (tx 1 1) 1 0 (wants.Read (read_of 0 0)))) ∷
     marked 6 (Sent 7 2 (messages.Request (tx 1 1) 1 0 (wants.Read (read_of 0 0)))) ∷ marked 2 (Got 7) ∷ marked 9 (Got 5)
-        ∷
+    ∷
     marked 8 (Told replies.Down) ∷ marked 2 (Sent 8 6 (messages.Answer 7 (answers.Closed 2))) ∷
     marked 8 (Called (commands.Do 0 2)) ∷ marked 8 (Told replies.Down) ∷ marked 6 (Got 8) ∷
     marked 5 (Told replies.Down) ∷ marked 5 (Called commands.Commit) ∷ marked 1 (Wrote (records.Close 2)) ∷
     marked 1 (Sent 9 9 (messages.Answer 1 (answers.Shut (snapshot_with 0 [] [])))) ∷ marked 1 (Got 6)
-        ∷ marked 5 (Told replies.Down) ∷
+    ∷ marked 5 (Told replies.Down) ∷
     marked 1 (Sent 10 6 (messages.Answer 6 (answers.Closed 2))) ∷ marked 6 (Got 10) ∷
     marked 6 (Told (replies.Closed 2 1)) ∷ marked 6 (Called commands.Commit) ∷
     marked 0 (Sent 11 9 (messages.Answer 0 answers.Fault)) ∷ marked 0 (Fell falls.Disk (Some (records.Close 2))) ∷
@@ -59,7 +59,7 @@ history =
     marked 9 (Sent 16 2 (messages.Close 2)) ∷ marked 9 (Sent 17 3 (messages.Close 2)) ∷
     marked 9 (Sent 18 4 (messages.Close 2)) ∷ marked 2 (Got 16) ∷ marked 9 (Lost 14) ∷ marked 1 (Got 15) ∷
     marked 9 (Lost 17) ∷ marked 1 (Sent 19 9 (messages.Answer 15 (answers.Shut (snapshot_with 1 [] []))))
-        ∷ marked 9 (Got 19) ∷
+    ∷ marked 9 (Got 19) ∷
     marked 2 (Sent 20 9 (messages.Answer 16 (answers.Shut (snapshot_with 1 [] [])))) ∷ marked 9 (Got 20)
-        ∷ marked 9 (Lost 18) ∷
+    ∷ marked 9 (Lost 18) ∷
     marked 9 (Told (replies.Quorum halves.Close 2 5)) ∷ []

@@ -36,37 +36,37 @@ history =
     marked 7 (Sent 1 1 (messages.Close 2)) ∷ marked 7 (Sent 2 2 (messages.Close 2)) ∷
     marked 7 (Sent 3 3 (messages.Close 2)) ∷ marked 1 (Got 1) ∷ marked 3 (Got 3) ∷ marked 0 (Got 0) ∷
     marked 0 (Wrote (records.Close 2)) ∷ marked 0 (Sent 4 7 (messages.Answer 0 (answers.Shut (snapshot_with 0 [] []))))
-        ∷
+    ∷
     marked 2 (Got 2) ∷ marked 7 (Got 4) ∷ marked 2 (Wrote (records.Close 2)) ∷
     marked 2 (Sent 5 7 (messages.Answer 2 (answers.Shut (snapshot_with 0 [] [])))) ∷ marked 1 (Wrote (records.Close 2))
-        ∷
+    ∷
     marked 1 (Sent 6 7 (messages.Answer 1 (answers.Shut (snapshot_with 0 [] [])))) ∷ marked 3 (Wrote (records.Close 2))
-        ∷
+    ∷
     marked 3 (Sent 7 7 (messages.Answer 3 (answers.Shut (snapshot_with 0 [] [])))) ∷ marked 6 (Called commands.Begin) ∷
     marked 6 (Told (replies.Began (tx_in 2 2 1))) ∷ marked 7 (Got 5) ∷ marked 7 (Got 6) ∷
     marked 6 (Called (commands.Do 0 0))
-        ∷ marked 6 (Sent 8 2 (messages.Request (tx_in 2 2 1) 1 0 (wants.Read (read_of 0 0)))) ∷
+    ∷ marked 6 (Sent 8 2 (messages.Request (tx_in 2 2 1) 1 0 (wants.Read (read_of 0 0)))) ∷
     marked 6 (Sent 9 3 (messages.Request (tx_in 2 2 1) 1 0 (wants.Read (read_of 0 0)))) ∷
     marked 6 (Sent 10 0 (messages.Request (tx_in 2 2 1) 1 0 (wants.Read (read_of 0 0)))) ∷
     marked 6 (Sent 11 1 (messages.Request (tx_in 2 2 1) 1 0 (wants.Read (read_of 0 0)))) ∷ marked 0 (Got 10)
-        ∷ marked 1 (Got 11) ∷
+    ∷ marked 1 (Got 11) ∷
     marked 3 (Got 9) ∷ marked 1 (Sent 12 6 (messages.Answer 11 (answers.Closed 2))) ∷ marked 2 (Got 8) ∷
     marked 0 (Sent 13 6 (messages.Answer 10 (answers.Closed 2))) ∷
     marked 3 (Sent 14 6 (messages.Answer 9 (answers.Closed 2))) ∷
     marked 2 (Sent 15 6 (messages.Answer 8 (answers.Closed 2))) ∷ marked 6 (Got 12) ∷ marked 6 (Got 13) ∷
     marked 7 (Got 7) ∷ marked 7 (Wrote (records.Decide (start_with 2 0 [])))
-        ∷ marked 7 (Sent 16 0 (messages.Install (start_with 2 0 []))) ∷
+    ∷ marked 7 (Sent 16 0 (messages.Install (start_with 2 0 []))) ∷
     marked 7 (Sent 17 1 (messages.Install (start_with 2 0 [])))
-        ∷ marked 7 (Sent 18 2 (messages.Install (start_with 2 0 []))) ∷
+    ∷ marked 7 (Sent 18 2 (messages.Install (start_with 2 0 []))) ∷
     marked 7 (Sent 19 3 (messages.Install (start_with 2 0 []))) ∷ marked 3 (Got 19) ∷ marked 0 (Got 16)
-        ∷ marked 2 (Got 18) ∷
+    ∷ marked 2 (Got 18) ∷
     marked 1 (Got 17) ∷ marked 3 (Wrote (records.Install (start_with 2 0 []))) ∷
     marked 3 (Sent 20 7 (messages.Answer 19 answers.Installed)) ∷ marked 2 (Wrote (records.Install (start_with 2 0 [])))
-        ∷
+    ∷
     marked 2 (Sent 21 7 (messages.Answer 18 answers.Installed)) ∷ marked 0 (Wrote (records.Install (start_with 2 0 [])))
-        ∷
+    ∷
     marked 0 (Sent 22 7 (messages.Answer 16 answers.Installed)) ∷ marked 1 (Wrote (records.Install (start_with 2 0 [])))
-        ∷
+    ∷
     marked 1 (Sent 23 7 (messages.Answer 17 answers.Installed)) ∷ marked 6 (Got 14) ∷ marked 6 (Got 15) ∷
     marked 6 (Told (replies.Closed 2 2)) ∷ marked 7 (Got 20) ∷ marked 6 (Called commands.Commit) ∷
     marked 6 (Wrote (commit (stamp 1 2) (tx_in 2 2 1) [])) ∷
@@ -91,22 +91,22 @@ history =
     marked 5 (Called (commands.Do 0 1)) ∷ marked 5 (Told replies.Down) ∷ marked 5 (Called (commands.Do 0 1)) ∷
     marked 5 (Told replies.Down) ∷ marked 5 (Called commands.Commit) ∷ marked 5 (Told replies.Down) ∷
     marked 7 (Sent 28 0 (messages.Install (start_with 2 0 [])))
-        ∷ marked 7 (Sent 29 1 (messages.Install (start_with 2 0 []))) ∷
+    ∷ marked 7 (Sent 29 1 (messages.Install (start_with 2 0 []))) ∷
     marked 7 (Sent 30 2 (messages.Install (start_with 2 0 [])))
-        ∷ marked 7 (Sent 31 3 (messages.Install (start_with 2 0 []))) ∷
+    ∷ marked 7 (Sent 31 3 (messages.Install (start_with 2 0 []))) ∷
     marked 1 (Got 29) ∷ marked 2 (Got 30) ∷ marked 1 (Sent 32 7 (messages.Answer 29 answers.Installed)) ∷
     marked 2 (Sent 33 7 (messages.Answer 30 answers.Installed)) ∷ marked 3 (Got 31) ∷ marked 0 (Got 28) ∷
     marked 3 (Sent 34 7 (messages.Answer 31 answers.Installed)) ∷
     marked 0 (Sent 35 7 (messages.Answer 28 answers.Installed)) ∷ marked 7 (Got 32) ∷ marked 7 (Got 33) ∷
     marked 7 (Got 34) ∷ marked 7 (Got 35) ∷ marked 7 (Told (replies.Moved 0 15)) ∷ marked 8 (Phase 4) ∷
     marked 1 (Fell falls.Script None) ∷ marked 1 (Rose ((records.Close 2) ∷ (records.Install (start_with 2 0 [])) ∷ []))
-        ∷
+    ∷
     marked 1 (Wrote records.Life) ∷ marked 5 (Rose []) ∷ marked 5 (Wrote records.Life) ∷
     marked 6 (Called commands.Begin) ∷ marked 7 (Called (commands.Epoch 2)) ∷
     marked 7 (Sent 36 0 (messages.Install (start_with 2 0 [])))
-        ∷ marked 7 (Sent 37 1 (messages.Install (start_with 2 0 []))) ∷
+    ∷ marked 7 (Sent 37 1 (messages.Install (start_with 2 0 []))) ∷
     marked 7 (Sent 38 2 (messages.Install (start_with 2 0 [])))
-        ∷ marked 7 (Sent 39 3 (messages.Install (start_with 2 0 []))) ∷
+    ∷ marked 7 (Sent 39 3 (messages.Install (start_with 2 0 []))) ∷
     marked 2 (Got 38) ∷ marked 3 (Got 39) ∷ marked 6 (Told replies.Down) ∷
     marked 2 (Sent 40 7 (messages.Answer 38 answers.Installed)) ∷ marked 6 (Called (commands.Do 0 2)) ∷
     marked 6 (Told replies.Down) ∷ marked 6 (Called (commands.Do 0 0)) ∷ marked 7 (Got 40) ∷

@@ -31,19 +31,19 @@ history =
     marked 5 (Sent 0 0 (messages.Close 2)) ∷ marked 5 (Sent 1 1 (messages.Close 2)) ∷
     marked 5 (Sent 2 2 (messages.Close 2)) ∷ marked 0 (Got 0) ∷ marked 1 (Got 1) ∷ marked 1 (Wrote (records.Close 2)) ∷
     marked 1 (Sent 3 5 (messages.Answer 1 (answers.Shut (snapshot_with 0 [] []))))
-        ∷ marked 3 (Wrote (commit (stamp 1 0) (tx 0 1) [])) ∷
+    ∷ marked 3 (Wrote (commit (stamp 1 0) (tx 0 1) [])) ∷
     marked 3 (Told (replies.Committed (stamp 1 0))) ∷ marked 2 (Got 2) ∷ marked 2 (Wrote (records.Close 2)) ∷
     marked 2 (Sent 4 5 (messages.Answer 2 (answers.Shut (snapshot_with 0 [] [])))) ∷ marked 5 (Got 3) ∷ marked 5 (Got 4)
-        ∷
+    ∷
     marked 0 (Wrote (records.Close 2)) ∷ marked 0 (Sent 5 5 (messages.Answer 0 (answers.Shut (snapshot_with 0 [] []))))
-        ∷
+    ∷
     marked 5 (Got 5) ∷ marked 5 (Told replies.Fault)
-        ∷ marked 5 (Fell falls.Stop (Some (records.Decide (start_with 2 0 [])))) ∷
+    ∷ marked 5 (Fell falls.Stop (Some (records.Decide (start_with 2 0 [])))) ∷
     marked 6 (Phase 2) ∷ marked 6 (Armed 0 arms.Fail 8) ∷ marked 3 (Called commands.Begin) ∷
     marked 4 (Called commands.Begin) ∷ marked 4 (Told (replies.Began (tx 1 1))) ∷
     marked 3 (Told (replies.Began (tx 0 2))) ∷ marked 3 (Called (commands.Do 0 0)) ∷
     marked 4 (Called (commands.Do 0 0)) ∷ marked 4 (Sent 6 1 (messages.Request (tx 1 1) 1 0 (wants.Read (read_of 0 0))))
-        ∷
+    ∷
     marked 4 (Sent 7 2 (messages.Request (tx 1 1) 1 0 (wants.Read (read_of 0 0)))) ∷ marked 1 (Got 6) ∷
     marked 1 (Sent 8 4 (messages.Answer 6 (answers.Closed 2))) ∷ marked 2 (Got 7) ∷
     marked 3 (Sent 9 0 (messages.Request (tx 0 2) 1 0 (wants.Read (read_of 0 0)))) ∷
@@ -65,7 +65,7 @@ history =
     marked 3 (Sent 18 0 (messages.Request (tx 0 3) 2 0 (wants.Read (read_of 0 0)))) ∷ marked 3 (Lost 18) ∷
     marked 3 (Told (replies.Quorum halves.Read 0 2)) ∷ marked 3 (Called (commands.Do 0 0)) ∷
     marked 3 (Sent 19 0 (messages.Request (tx 0 3) 2 0 (wants.Read (read_of 0 0))))
-        ∷ marked 5 (Called (commands.Epoch 2)) ∷
+    ∷ marked 5 (Called (commands.Epoch 2)) ∷
     marked 0 (Got 19) ∷ marked 5 (Told replies.Down) ∷ marked 0 (Sent 20 3 (messages.Answer 19 (answers.Behind 1))) ∷
     marked 3 (Got 20) ∷ marked 3 (Told (replies.Quorum halves.Read 0 2)) ∷ marked 3 (Called commands.Commit) ∷
     marked 3 (Wrote (commit (stamp 3 0) (tx 0 3) [])) ∷
@@ -74,11 +74,11 @@ history =
     marked 3 (Called commands.Begin) ∷ marked 3 (Told (replies.Began (tx 0 4))) ∷ marked 3 (Called commands.Abort) ∷
     marked 3 (Told replies.Dropped) ∷ marked 3 (Called commands.Begin) ∷ marked 3 (Told (replies.Began (tx 0 5))) ∷
     marked 3 (Called (commands.Do 0 0))
-        ∷ marked 3 (Sent 22 0 (messages.Request (tx 0 5) 2 0 (wants.Read (read_of 0 0)))) ∷
+    ∷ marked 3 (Sent 22 0 (messages.Request (tx 0 5) 2 0 (wants.Read (read_of 0 0)))) ∷
     marked 0 (Got 18) ∷ marked 0 (Sent 23 3 (messages.Answer 18 (answers.Behind 1))) ∷ marked 3 (Lost 22) ∷
     marked 3 (Told (replies.Quorum halves.Read 0 2)) ∷ marked 6 (Phase 4) ∷ marked 6 (Heal 0 3) ∷
     marked 5 (Rose ((records.Decide (start_with 2 0 [])) ∷ [])) ∷ marked 5 (Wrote records.Life)
-        ∷ marked 4 (Called commands.Abort) ∷
+    ∷ marked 4 (Called commands.Abort) ∷
     marked 4 (Told replies.NoTransaction) ∷ marked 4 (Called commands.Begin) ∷
     marked 4 (Told (replies.Began (tx 1 2))) ∷ marked 4 (Called (commands.Do 0 0)) ∷
     marked 4 (Sent 24 0 (messages.Request (tx 1 2) 2 0 (wants.Read (read_of 0 0)))) ∷ marked 0 (Got 24) ∷

@@ -34,22 +34,22 @@ history =
     marked 6 (Told (replies.Began (tx 3 1))) ∷ marked 6 (Called (commands.Do 0 0)) ∷
     marked 6 (Sent 0 0 (messages.Request (tx 3 1) 1 0 (wants.Read (read_of 0 0)))) ∷
     marked 6 (Sent 1 1 (messages.Request (tx 3 1) 1 0 (wants.Read (read_of 0 0)))) ∷ marked 1 (Got 1) ∷ marked 0 (Got 0)
-        ∷
+    ∷
     marked 0 (Sent 2 6 (messages.Answer 0 (answers.Granted (grant_with 1 0 [])))) ∷
     marked 1 (Sent 3 6 (messages.Answer 1 (answers.Granted (grant_with 1 0 [])))) ∷ marked 6 (Got 2) ∷ marked 6 (Got 3)
-        ∷
+    ∷
     marked 6 (Sent 4 0 (messages.Request (tx 3 1) 1 1 (wants.Append 0 [] (own_line 1 0 0 ∷ [])))) ∷
     marked 6 (Sent 5 1 (messages.Request (tx 3 1) 1 1 (wants.Append 0 [] (own_line 1 0 0 ∷ [])))) ∷ marked 0 (Got 4) ∷
     marked 1 (Got 5) ∷ marked 1 (Sent 6 6 (messages.Answer 5 (answers.Granted (grant_with 1 0 [])))) ∷ marked 6 (Got 6)
-        ∷
+    ∷
     marked 0 (Sent 7 6 (messages.Answer 4 (answers.Granted (grant_with 1 0 [])))) ∷ marked 6 (Got 7) ∷
     marked 6 (Told (replies.Response 0)) ∷ marked 6 (Called (commands.Do 1 1)) ∷
     marked 6 (Sent 8 0 (messages.Request (tx 3 1) 1 1 (wants.Read (read_of 1 1)))) ∷
     marked 6 (Sent 9 1 (messages.Request (tx 3 1) 1 1 (wants.Read (read_of 1 1)))) ∷ marked 0 (Got 8) ∷ marked 1 (Got 9)
-        ∷
+    ∷
     marked 0 (Sent 10 6 (messages.Answer 8 (answers.Granted (grant_with 1 0 [])))) ∷
     marked 1 (Sent 11 6 (messages.Answer 9 (answers.Granted (grant_with 1 0 [])))) ∷ marked 6 (Got 10)
-        ∷ marked 6 (Got 11) ∷
+    ∷ marked 6 (Got 11) ∷
     marked 6 (Told replies.Absent) ∷ marked 6 (Called commands.Commit) ∷
     marked 6 (Sent 12 0 (messages.Request (tx 3 1) 1 1 wants.Prepare)) ∷
     marked 6 (Sent 13 1 (messages.Request (tx 3 1) 1 1 wants.Prepare)) ∷ marked 1 (Got 13) ∷
@@ -69,11 +69,11 @@ history =
     marked 0 (Sent 20 7 (messages.Answer 18 answers.Fault)) ∷ marked 0 (Fell falls.Disk (Some (records.Close 2))) ∷
     marked 7 (Got 20) ∷ marked 1 (Got 19) ∷ marked 1 (Wrote (records.Close 2)) ∷
     marked 1 (Sent 21 7 (messages.Answer 19 (answers.Shut (snapshot_with 1 (line 1 3 1 1 0 0 ∷ []) []))))
-        ∷ marked 7 (Got 21) ∷
+    ∷ marked 7 (Got 21) ∷
     marked 7 (Sent 22 2 (messages.Close 2)) ∷ marked 2 (Got 22) ∷ marked 2 (Wrote (records.Close 2)) ∷
     marked 2 (Sent 23 7 (messages.Answer 22 (answers.Shut (snapshot_with 0 [] [])))) ∷ marked 7 (Got 23) ∷
     marked 7 (Told replies.Fault)
-        ∷ marked 7 (Fell falls.Disk (Some (records.Decide (start_with 2 1 (line 1 3 1 1 0 0 ∷ []))))) ∷
+    ∷ marked 7 (Fell falls.Disk (Some (records.Decide (start_with 2 1 (line 1 3 1 1 0 0 ∷ []))))) ∷
     marked 7 (Called (commands.Epoch 2)) ∷ marked 7 (Told replies.Down) ∷ marked 8 (Phase 3) ∷
     marked 0 (Fell falls.Disk None) ∷ marked 8 (Armed 2 arms.Fail 4) ∷ marked 3 (Called commands.Begin) ∷
     marked 6 (Called commands.Begin) ∷ marked 4 (Called commands.Commit) ∷ marked 4 (Told replies.Unknown) ∷
@@ -117,9 +117,9 @@ history =
     marked 4 (Called (commands.Do 1 0)) ∷ marked 4 (Told replies.Down) ∷ marked 3 (Called commands.Begin) ∷
     marked 6 (Called commands.Commit) ∷ marked 6 (Told replies.Down) ∷ marked 3 (Told (replies.Began (tx 0 3))) ∷
     marked 3 (Called (commands.Do 0 2))
-        ∷ marked 3 (Sent 45 0 (messages.Request (tx 0 3) 2 0 (wants.Read (read_of 0 2)))) ∷
+    ∷ marked 3 (Sent 45 0 (messages.Request (tx 0 3) 2 0 (wants.Read (read_of 0 2)))) ∷
     marked 3 (Sent 46 1 (messages.Request (tx 0 3) 2 0 (wants.Read (read_of 0 2)))) ∷ marked 1 (Got 46)
-        ∷ marked 0 (Got 45) ∷
+    ∷ marked 0 (Got 45) ∷
     marked 1 (Sent 47 3 (messages.Answer 46 (answers.Behind 1))) ∷ marked 3 (Got 47) ∷
     marked 0 (Sent 48 3 (messages.Answer 45 (answers.Behind 1))) ∷ marked 3 (Got 48) ∷
     marked 3 (Sent 49 2 (messages.Request (tx 0 3) 2 0 (wants.Read (read_of 0 2)))) ∷ marked 2 (Got 49) ∷

@@ -51,15 +51,15 @@ history =
     marked 3 (Told replies.Down) ∷ marked 3 (Called (commands.Do 0 0)) ∷ marked 3 (Told replies.Down) ∷
     marked 5 (Wrote (records.Decide (start_with 2 0 []))) ∷ marked 5 (Sent 0 0 (messages.Install (start_with 2 0 []))) ∷
     marked 5 (Sent 1 1 (messages.Install (start_with 2 0 [])))
-        ∷ marked 5 (Sent 2 2 (messages.Install (start_with 2 0 []))) ∷ marked 0 (Got 0) ∷
+    ∷ marked 5 (Sent 2 2 (messages.Install (start_with 2 0 []))) ∷ marked 0 (Got 0) ∷
     marked 0 (Sent 3 5 (messages.Answer 0 answers.Fault))
-        ∷ marked 0 (Fell falls.Disk (Some (records.Install (start_with 2 0 [])))) ∷
+    ∷ marked 0 (Fell falls.Disk (Some (records.Install (start_with 2 0 [])))) ∷
     marked 1 (Got 1) ∷ marked 5 (Got 3) ∷ marked 2 (Got 2) ∷ marked 2 (Wrote (records.Install (start_with 2 0 []))) ∷
     marked 2 (Sent 4 5 (messages.Answer 2 answers.Installed)) ∷ marked 1 (Wrote (records.Install (start_with 2 0 []))) ∷
     marked 1 (Sent 5 5 (messages.Answer 1 answers.Installed)) ∷ marked 5 (Got 4) ∷ marked 5 (Got 5) ∷
     marked 5 (Told (replies.Moved 0 6)) ∷ marked 5 (Called (commands.Epoch 2)) ∷
     marked 5 (Sent 6 0 (messages.Install (start_with 2 0 [])))
-        ∷ marked 5 (Sent 7 1 (messages.Install (start_with 2 0 []))) ∷
+    ∷ marked 5 (Sent 7 1 (messages.Install (start_with 2 0 []))) ∷
     marked 5 (Sent 8 2 (messages.Install (start_with 2 0 []))) ∷ marked 5 (Lost 6) ∷ marked 2 (Got 8) ∷
     marked 2 (Sent 9 5 (messages.Answer 8 answers.Installed)) ∷ marked 1 (Got 7) ∷
     marked 1 (Sent 10 5 (messages.Answer 7 answers.Installed)) ∷ marked 5 (Got 9) ∷ marked 5 (Got 10) ∷
@@ -77,7 +77,7 @@ history =
     marked 3 (Rose []) ∷ marked 3 (Wrote records.Life) ∷
     marked 4 (Rose ((commit (stamp 1 1) (tx 1 1) []) ∷ (commit (stamp 2 1) (tx 1 2) []) ∷ [])) ∷
     marked 4 (Wrote records.Life)
-        ∷ marked 5 (Rose ((records.Decide (start_with 2 0 [])) ∷ (records.Decide (start_with 3 0 [])) ∷ [])) ∷
+    ∷ marked 5 (Rose ((records.Decide (start_with 2 0 [])) ∷ (records.Decide (start_with 3 0 [])) ∷ [])) ∷
     marked 5 (Wrote records.Life) ∷ marked 3 (Called commands.Abort) ∷ marked 4 (Called commands.Abort) ∷
     marked 4 (Told replies.NoTransaction) ∷ marked 4 (Called commands.Begin) ∷
     marked 4 (Told (replies.Began (tx_in 1 2 1))) ∷ marked 4 (Called (commands.Do 0 0)) ∷

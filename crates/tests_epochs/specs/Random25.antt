@@ -66,7 +66,7 @@ history =
     marked 2 (Told replies.Absent) ∷ marked 2 (Called (commands.Do 1 0)) ∷
     marked 2 (Sent 20 0 (messages.Request (tx 1 2) 1 1 (wants.Read (read_of 1 0)))) ∷ marked 0 (Got 20) ∷
     marked 0
-        (Sent 21 2 (messages.Answer 20 (answers.Granted (grant_with 1 2 (line 1 1 1 1 1 0 ∷ line 2 2 1 1 1 1 ∷ []))))) ∷
+    (Sent 21 2 (messages.Answer 20 (answers.Granted (grant_with 1 2 (line 1 1 1 1 1 0 ∷ line 2 2 1 1 1 1 ∷ []))))) ∷
     marked 2 (Got 21) ∷ marked 2 (Told replies.Absent) ∷ marked 2 (Called commands.Commit) ∷
     marked 2 (Sent 22 0 (messages.Request (tx 1 2) 1 1 wants.Prepare)) ∷ marked 0 (Got 22) ∷
     marked 0 (Wrote (prepare (tx 1 2) 1 (read_lock 0 0 ∷ read_lock 1 0 ∷ []) (own_line 1 0 0 ∷ []) [])) ∷
@@ -79,13 +79,13 @@ history =
     marked 2 (Called commands.Begin) ∷ marked 2 (Told (replies.Began (tx 1 3))) ∷ marked 5 (Called (commands.Epoch 2)) ∷
     marked 5 (Sent 25 0 (messages.Close 2)) ∷ marked 0 (Got 25) ∷ marked 0 (Wrote (records.Close 2)) ∷
     marked 0
-        (Sent 26 5
-          (messages.Answer 25
-            (answers.Shut (snapshot_with 3 (line 1 1 1 1 1 0 ∷ line 2 2 1 1 1 1 ∷ line 3 1 2 1 0 0 ∷ []) [])))) ∷
+    (Sent 26 5
+    (messages.Answer 25
+    (answers.Shut (snapshot_with 3 (line 1 1 1 1 1 0 ∷ line 2 2 1 1 1 1 ∷ line 3 1 2 1 0 0 ∷ []) [])))) ∷
     marked 5 (Got 26) ∷
     marked 5 (Wrote (records.Decide (start_with 2 3 (line 1 1 1 1 1 0 ∷ line 2 2 1 1 1 1 ∷ line 3 1 2 1 0 0 ∷ [])))) ∷
     marked 5
-        (Sent 27 0 (messages.Install (start_with 2 3 (line 1 1 1 1 1 0 ∷ line 2 2 1 1 1 1 ∷ line 3 1 2 1 0 0 ∷ [])))) ∷
+    (Sent 27 0 (messages.Install (start_with 2 3 (line 1 1 1 1 1 0 ∷ line 2 2 1 1 1 1 ∷ line 3 1 2 1 0 0 ∷ [])))) ∷
     marked 0 (Got 27) ∷
     marked 0 (Wrote (records.Install (start_with 2 3 (line 1 1 1 1 1 0 ∷ line 2 2 1 1 1 1 ∷ line 3 1 2 1 0 0 ∷ [])))) ∷
     marked 0 (Sent 28 5 (messages.Answer 27 answers.Installed)) ∷ marked 5 (Got 28) ∷

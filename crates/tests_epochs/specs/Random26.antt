@@ -32,7 +32,7 @@ history =
     marked 7 (Called commands.Begin) ∷ marked 7 (Told (replies.Began (tx 2 1))) ∷ marked 6 (Called commands.Commit) ∷
     marked 6 (Wrote (commit (stamp 1 1) (tx_in 1 2 1) [])) ∷ marked 6 (Told (replies.Committed (stamp 1 1))) ∷
     marked 7 (Called (commands.Do 0 0)) ∷ marked 7 (Sent 0 2 (messages.Request (tx 2 1) 1 0 (wants.Read (read_of 0 0))))
-        ∷
+    ∷
     marked 7 (Sent 1 3 (messages.Request (tx 2 1) 1 0 (wants.Read (read_of 0 0)))) ∷
     marked 7 (Sent 2 4 (messages.Request (tx 2 1) 1 0 (wants.Read (read_of 0 0)))) ∷ marked 4 (Got 2) ∷
     marked 4 (Sent 3 7 (messages.Answer 2 (answers.Granted (grant_with 1 0 [])))) ∷ marked 6 (Called commands.Begin) ∷
@@ -42,36 +42,36 @@ history =
     marked 6 (Sent 6 3 (messages.Request (tx_in 1 2 2) 1 0 (wants.Read (read_of 0 0)))) ∷ marked 3 (Got 1) ∷
     marked 3 (Sent 7 7 (messages.Answer 1 (answers.Granted (grant_with 1 0 [])))) ∷ marked 2 (Got 0) ∷
     marked 2 (Sent 8 7 (messages.Answer 0 (answers.Granted (grant_with 1 0 [])))) ∷ marked 7 (Got 3) ∷ marked 2 (Got 5)
-        ∷
+    ∷
     marked 2 (Sent 9 6 (messages.Answer 5 (answers.Granted (grant_with 1 0 [])))) ∷ marked 6 (Got 9) ∷
     marked 8 (Called (commands.Epoch 2)) ∷ marked 8 (Sent 10 0 (messages.Close 2)) ∷
     marked 8 (Sent 11 1 (messages.Close 2)) ∷ marked 8 (Sent 12 2 (messages.Close 2)) ∷ marked 7 (Got 7) ∷
     marked 1 (Got 4) ∷ marked 1 (Sent 13 6 (messages.Answer 4 (answers.Granted (grant_with 1 0 []))))
-        ∷ marked 2 (Got 12) ∷
+    ∷ marked 2 (Got 12) ∷
     marked 1 (Got 11) ∷ marked 1 (Wrote (records.Close 2)) ∷
     marked 1 (Sent 14 8 (messages.Answer 11 (answers.Shut (snapshot_with 0 [] []))))
-        ∷ marked 2 (Wrote (records.Close 2)) ∷
+    ∷ marked 2 (Wrote (records.Close 2)) ∷
     marked 2 (Sent 15 8 (messages.Answer 12 (answers.Shut (snapshot_with 0 [] [])))) ∷ marked 7 (Got 8) ∷
     marked 7 (Told (replies.Response 0)) ∷ marked 6 (Got 13) ∷ marked 8 (Got 14) ∷ marked 0 (Got 10) ∷
     marked 0 (Wrote (records.Close 2))
-        ∷ marked 0 (Sent 16 8 (messages.Answer 10 (answers.Shut (snapshot_with 0 [] [])))) ∷
+    ∷ marked 0 (Sent 16 8 (messages.Answer 10 (answers.Shut (snapshot_with 0 [] [])))) ∷
     marked 3 (Got 6) ∷ marked 3 (Sent 17 6 (messages.Answer 6 (answers.Granted (grant_with 1 0 []))))
-        ∷ marked 6 (Got 17) ∷
+    ∷ marked 6 (Got 17) ∷
     marked 6 (Told (replies.Response 0)) ∷ marked 6 (Called (commands.Do 0 0)) ∷ marked 8 (Got 15) ∷ marked 8 (Got 16) ∷
     marked 8 (Wrote (records.Decide (start_with 2 0 []))) ∷ marked 8 (Sent 18 0 (messages.Install (start_with 2 0 [])))
-        ∷
+    ∷
     marked 8 (Sent 19 1 (messages.Install (start_with 2 0 [])))
-        ∷ marked 8 (Sent 20 2 (messages.Install (start_with 2 0 []))) ∷
+    ∷ marked 8 (Sent 20 2 (messages.Install (start_with 2 0 []))) ∷
     marked 8 (Sent 21 3 (messages.Install (start_with 2 0 [])))
-        ∷ marked 8 (Sent 22 4 (messages.Install (start_with 2 0 []))) ∷
+    ∷ marked 8 (Sent 22 4 (messages.Install (start_with 2 0 []))) ∷
     marked 0 (Got 18) ∷ marked 0 (Wrote (records.Install (start_with 2 0 []))) ∷
     marked 0 (Sent 23 8 (messages.Answer 18 answers.Installed)) ∷
     marked 6 (Sent 24 1 (messages.Request (tx_in 1 2 2) 1 1 (wants.Read (read_of 0 0)))) ∷
     marked 6 (Sent 25 2 (messages.Request (tx_in 1 2 2) 1 1 (wants.Read (read_of 0 0)))) ∷
     marked 6 (Sent 26 3 (messages.Request (tx_in 1 2 2) 1 1 (wants.Read (read_of 0 0)))) ∷ marked 8 (Got 23)
-        ∷ marked 3 (Got 21) ∷
+    ∷ marked 3 (Got 21) ∷
     marked 3 (Wrote (records.Install (start_with 2 0 []))) ∷ marked 3 (Sent 27 8 (messages.Answer 21 answers.Installed))
-        ∷
+    ∷
     marked 2 (Got 20) ∷ marked 2 (Wrote (records.Install (start_with 2 0 []))) ∷
     marked 2 (Sent 28 8 (messages.Answer 20 answers.Installed)) ∷ marked 4 (Got 22) ∷
     marked 4 (Fell falls.Stop (Some (records.Install (start_with 2 0 [])))) ∷ marked 3 (Got 26) ∷
@@ -91,13 +91,13 @@ history =
     marked 3 (Sent 36 7 (messages.Answer 33 (answers.Closed 2))) ∷ marked 4 (Got 34) ∷
     marked 4 (Sent 37 7 (messages.Answer 34 (answers.Restarted 2))) ∷ marked 6 (Called (commands.Do 0 0)) ∷
     marked 5 (Called (commands.Do 0 0))
-        ∷ marked 6 (Sent 38 1 (messages.Request (tx_in 1 2 2) 1 1 (wants.Read (read_of 0 0)))) ∷
+    ∷ marked 6 (Sent 38 1 (messages.Request (tx_in 1 2 2) 1 1 (wants.Read (read_of 0 0)))) ∷
     marked 6 (Sent 39 2 (messages.Request (tx_in 1 2 2) 1 1 (wants.Read (read_of 0 0)))) ∷
     marked 6 (Sent 40 3 (messages.Request (tx_in 1 2 2) 1 1 (wants.Read (read_of 0 0)))) ∷ marked 7 (Got 35)
-        ∷ marked 3 (Got 40) ∷
+    ∷ marked 3 (Got 40) ∷
     marked 3 (Sent 41 6 (messages.Answer 40 (answers.Closed 2))) ∷
     marked 5 (Sent 42 0 (messages.Request (tx 0 1) 1 0 (wants.Read (read_of 0 0)))) ∷ marked 6 (Got 41)
-        ∷ marked 1 (Got 38) ∷
+    ∷ marked 1 (Got 38) ∷
     marked 1 (Sent 43 6 (messages.Answer 38 (answers.Closed 2))) ∷ marked 6 (Got 43) ∷ marked 0 (Got 42) ∷
     marked 0 (Sent 44 5 (messages.Answer 42 (answers.Closed 2))) ∷ marked 2 (Got 39) ∷
     marked 2 (Sent 45 6 (messages.Answer 39 (answers.Closed 2))) ∷ marked 6 (Got 45) ∷
@@ -108,7 +108,7 @@ history =
     marked 5 (Told (replies.Closed 2 0)) ∷ marked 1 (Got 46) ∷ marked 5 (Called (commands.Do 0 0)) ∷
     marked 1 (Sent 49 6 (messages.Answer 46 (answers.Closed 2))) ∷
     marked 5 (Sent 50 0 (messages.Request (tx 0 1) 1 0 (wants.Read (read_of 0 0)))) ∷ marked 7 (Got 36)
-        ∷ marked 6 (Got 49) ∷
+    ∷ marked 6 (Got 49) ∷
     marked 7 (Got 37) ∷ marked 7 (Sent 51 2 (messages.Decision (tx 2 1) outcomes.Aborted)) ∷
     marked 7 (Sent 52 3 (messages.Decision (tx 2 1) outcomes.Aborted)) ∷
     marked 7 (Sent 53 4 (messages.Decision (tx 2 1) outcomes.Aborted)) ∷
@@ -121,7 +121,7 @@ history =
     marked 0 (Sent 56 5 (messages.Answer 50 (answers.Closed 2))) ∷ marked 5 (Got 56) ∷
     marked 5 (Told (replies.Closed 2 0)) ∷ marked 5 (Called (commands.Do 0 0)) ∷ marked 7 (Called (commands.Do 0 0)) ∷
     marked 7 (Told (replies.Response 0))
-        ∷ marked 5 (Sent 57 0 (messages.Request (tx 0 1) 1 0 (wants.Read (read_of 0 0)))) ∷
+    ∷ marked 5 (Sent 57 0 (messages.Request (tx 0 1) 1 0 (wants.Read (read_of 0 0)))) ∷
     marked 7 (Called (commands.Do 0 0)) ∷ marked 7 (Told (replies.Response 0)) ∷ marked 7 (Called commands.Commit) ∷
     marked 7 (Told replies.Unknown) ∷
     marked 7 (Fell falls.Disk (Some (commit (stamp 1 2) (tx 2 2) (operation 0 0 (Some 0) ∷ operation 0 0 (Some 0) ∷

@@ -37,28 +37,28 @@ history =
     marked 5 (Sent 2 2 (messages.Close 2)) ∷ marked 0 (Got 0) ∷ marked 2 (Got 2) ∷ marked 2 (Wrote (records.Close 2)) ∷
     marked 2 (Sent 3 5 (messages.Answer 2 (answers.Shut (snapshot_with 0 [] [])))) ∷ marked 1 (Got 1) ∷
     marked 0 (Wrote (records.Close 2)) ∷ marked 0 (Sent 4 5 (messages.Answer 0 (answers.Shut (snapshot_with 0 [] []))))
-        ∷
+    ∷
     marked 1 (Wrote (records.Close 2)) ∷ marked 1 (Sent 5 5 (messages.Answer 1 (answers.Shut (snapshot_with 0 [] []))))
-        ∷
+    ∷
     marked 5 (Got 3) ∷ marked 5 (Got 4) ∷ marked 5 (Got 5) ∷ marked 5 (Wrote (records.Decide (start_with 2 0 []))) ∷
     marked 5 (Sent 6 0 (messages.Install (start_with 2 0 [])))
-        ∷ marked 5 (Sent 7 1 (messages.Install (start_with 2 0 []))) ∷
+    ∷ marked 5 (Sent 7 1 (messages.Install (start_with 2 0 []))) ∷
     marked 5 (Sent 8 2 (messages.Install (start_with 2 0 [])))
-        ∷ marked 5 (Sent 9 3 (messages.Install (start_with 2 0 []))) ∷ marked 2 (Got 8) ∷
+    ∷ marked 5 (Sent 9 3 (messages.Install (start_with 2 0 []))) ∷ marked 2 (Got 8) ∷
     marked 2 (Wrote (records.Install (start_with 2 0 []))) ∷ marked 2 (Sent 10 5 (messages.Answer 8 answers.Installed))
-        ∷
+    ∷
     marked 0 (Got 6) ∷ marked 0 (Wrote (records.Install (start_with 2 0 []))) ∷
     marked 0 (Sent 11 5 (messages.Answer 6 answers.Installed)) ∷ marked 3 (Got 9) ∷
     marked 3 (Wrote (records.Install (start_with 2 0 []))) ∷ marked 3 (Sent 12 5 (messages.Answer 9 answers.Installed))
-        ∷
+    ∷
     marked 1 (Got 7) ∷ marked 1 (Wrote (records.Install (start_with 2 0 []))) ∷
     marked 1 (Sent 13 5 (messages.Answer 7 answers.Installed)) ∷ marked 5 (Got 10) ∷ marked 5 (Got 11) ∷
     marked 5 (Got 12) ∷ marked 5 (Got 13) ∷ marked 5 (Told (replies.Moved 7 15)) ∷ marked 6 (Phase 2) ∷
     marked 2 (Fell falls.Script None) ∷ marked 2 (Rose ((records.Close 2) ∷ (records.Install (start_with 2 0 [])) ∷ []))
-        ∷
+    ∷
     marked 2 (Wrote records.Life) ∷ marked 4 (Called commands.Begin) ∷ marked 4 (Told (replies.Began (tx 0 2))) ∷
     marked 4 (Called (commands.Do 0 0))
-        ∷ marked 4 (Sent 14 0 (messages.Request (tx 0 2) 1 0 (wants.Read (read_of 0 0)))) ∷
+    ∷ marked 4 (Sent 14 0 (messages.Request (tx 0 2) 1 0 (wants.Read (read_of 0 0)))) ∷
     marked 4 (Sent 15 1 (messages.Request (tx 0 2) 1 0 (wants.Read (read_of 0 0)))) ∷
     marked 4 (Sent 16 2 (messages.Request (tx 0 2) 1 0 (wants.Read (read_of 0 0)))) ∷ marked 2 (Got 16) ∷
     marked 2 (Sent 17 4 (messages.Answer 16 (answers.Closed 2))) ∷ marked 1 (Got 15) ∷ marked 4 (Got 17) ∷
@@ -74,26 +74,26 @@ history =
     marked 4 (Sent 23 0 (messages.Request (tx 0 3) 2 0 (wants.Read (read_of 0 1)))) ∷
     marked 4 (Sent 24 1 (messages.Request (tx 0 3) 2 0 (wants.Read (read_of 0 1)))) ∷ marked 1 (Got 24) ∷
     marked 1 (Sent 25 4 (messages.Answer 24 (answers.Granted (grant_with 2 2 [])))) ∷ marked 4 (Got 25)
-        ∷ marked 0 (Got 20) ∷
+    ∷ marked 0 (Got 20) ∷
     marked 0 (Got 23) ∷ marked 0 (Sent 26 4 (messages.Answer 23 (answers.Granted (grant_with 2 2 []))))
-        ∷ marked 4 (Got 26) ∷
+    ∷ marked 4 (Got 26) ∷
     marked 4 (Sent 27 0 (messages.Request (tx 0 3) 2 2 (wants.Append 0 [] (own_line 1 0 1 ∷ [])))) ∷
     marked 4 (Sent 28 1 (messages.Request (tx 0 3) 2 2 (wants.Append 0 [] (own_line 1 0 1 ∷ [])))) ∷ marked 1 (Got 28) ∷
     marked 1 (Sent 29 4 (messages.Answer 28 (answers.Granted (grant_with 2 2 [])))) ∷ marked 4 (Got 29)
-        ∷ marked 0 (Got 27) ∷
+    ∷ marked 0 (Got 27) ∷
     marked 0 (Sent 30 4 (messages.Answer 27 (answers.Granted (grant_with 2 2 [])))) ∷ marked 4 (Got 30) ∷
     marked 4 (Told (replies.Response 0)) ∷ marked 4 (Called (commands.Do 0 0)) ∷
     marked 4 (Sent 31 0 (messages.Request (tx 0 3) 2 2 (wants.Read (read_of 0 0)))) ∷
     marked 4 (Sent 32 1 (messages.Request (tx 0 3) 2 2 (wants.Read (read_of 0 0)))) ∷ marked 1 (Got 32) ∷
     marked 1 (Sent 33 4 (messages.Answer 32 (answers.Granted (grant_with 2 2 [])))) ∷ marked 4 (Got 33)
-        ∷ marked 0 (Got 31) ∷
+    ∷ marked 0 (Got 31) ∷
     marked 0 (Sent 34 4 (messages.Answer 31 (answers.Granted (grant_with 2 2 [])))) ∷ marked 4 (Got 34) ∷
     marked 4 (Told replies.Absent) ∷ marked 4 (Called (commands.Do 0 0)) ∷
     marked 4 (Sent 35 0 (messages.Request (tx 0 3) 2 2 (wants.Read (read_of 0 0)))) ∷
     marked 4 (Sent 36 1 (messages.Request (tx 0 3) 2 2 (wants.Read (read_of 0 0)))) ∷ marked 1 (Got 36) ∷
     marked 1 (Sent 37 4 (messages.Answer 36 (answers.Granted (grant_with 2 2 [])))) ∷ marked 0 (Got 35) ∷
     marked 0 (Sent 38 4 (messages.Answer 35 (answers.Granted (grant_with 2 2 [])))) ∷ marked 4 (Got 37)
-        ∷ marked 4 (Got 38) ∷
+    ∷ marked 4 (Got 38) ∷
     marked 4 (Told replies.Absent) ∷ marked 4 (Called commands.Commit) ∷
     marked 4 (Sent 39 0 (messages.Request (tx 0 3) 2 2 wants.Prepare)) ∷
     marked 4 (Sent 40 1 (messages.Request (tx 0 3) 2 2 wants.Prepare)) ∷ marked 1 (Got 40) ∷
@@ -109,38 +109,38 @@ history =
     marked 6 (Armed 4 arms.Stop 7) ∷ marked 5 (Called (commands.Epoch 2)) ∷ marked 4 (Called commands.Begin) ∷
     marked 4 (Told (replies.Began (tx 0 4))) ∷ marked 4 (Called (commands.Do 0 1)) ∷
     marked 5 (Sent 44 0 (messages.Install (start_with 2 0 [])))
-        ∷ marked 5 (Sent 45 1 (messages.Install (start_with 2 0 []))) ∷
+    ∷ marked 5 (Sent 45 1 (messages.Install (start_with 2 0 []))) ∷
     marked 5 (Sent 46 2 (messages.Install (start_with 2 0 [])))
-        ∷ marked 5 (Sent 47 3 (messages.Install (start_with 2 0 []))) ∷
+    ∷ marked 5 (Sent 47 3 (messages.Install (start_with 2 0 []))) ∷
     marked 4 (Sent 48 0 (messages.Request (tx 0 4) 2 0 (wants.Read (read_of 0 1)))) ∷
     marked 4 (Sent 49 1 (messages.Request (tx 0 4) 2 0 (wants.Read (read_of 0 1)))) ∷ marked 3 (Got 47)
-        ∷ marked 1 (Got 45) ∷
+    ∷ marked 1 (Got 45) ∷
     marked 0 (Got 44) ∷ marked 0 (Sent 50 5 (messages.Answer 44 answers.Installed)) ∷
     marked 3 (Sent 51 5 (messages.Answer 47 answers.Installed)) ∷ marked 2 (Got 46) ∷ marked 5 (Got 50) ∷
     marked 2 (Sent 52 5 (messages.Answer 46 answers.Installed)) ∷
     marked 1 (Sent 53 5 (messages.Answer 45 answers.Installed)) ∷ marked 5 (Got 51) ∷ marked 1 (Got 49) ∷
     marked 0 (Got 48) ∷ marked 0 (Sent 54 4 (messages.Answer 48 (answers.Granted (grant_with 2 2 []))))
-        ∷ marked 4 (Got 54) ∷
+    ∷ marked 4 (Got 54) ∷
     marked 1 (Sent 55 4 (messages.Answer 49 (answers.Granted (grant_with 3 0 [])))) ∷ marked 5 (Got 52)
-        ∷ marked 4 (Got 55) ∷
+    ∷ marked 4 (Got 55) ∷
     marked 4 (Sent 56 0 (messages.Request (tx 0 4) 2 2 (wants.Append 0 [] (own_line 1 0 1 ∷ [])))) ∷
     marked 4 (Sent 57 1 (messages.Request (tx 0 4) 2 3 (wants.Append 0 [] (own_line 1 0 1 ∷ [])))) ∷ marked 0 (Got 56) ∷
     marked 0 (Sent 58 4 (messages.Answer 56 (answers.Granted (grant_with 2 2 [])))) ∷ marked 1 (Got 57) ∷
     marked 1 (Sent 59 4 (messages.Answer 57 (answers.Granted (grant_with 3 0 [])))) ∷ marked 4 (Got 58)
-        ∷ marked 4 (Got 59) ∷
+    ∷ marked 4 (Got 59) ∷
     marked 5 (Got 53) ∷ marked 5 (Told (replies.Moved 0 15)) ∷ marked 4 (Told (replies.Response 0)) ∷
     marked 4 (Called (commands.Do 0 1))
-        ∷ marked 4 (Sent 60 0 (messages.Request (tx 0 4) 2 2 (wants.Read (read_of 0 1)))) ∷
+    ∷ marked 4 (Sent 60 0 (messages.Request (tx 0 4) 2 2 (wants.Read (read_of 0 1)))) ∷
     marked 4 (Sent 61 1 (messages.Request (tx 0 4) 2 3 (wants.Read (read_of 0 1)))) ∷ marked 0 (Got 60) ∷
     marked 0 (Sent 62 4 (messages.Answer 60 (answers.Granted (grant_with 2 2 [])))) ∷ marked 1 (Got 61)
-        ∷ marked 4 (Got 62) ∷
+    ∷ marked 4 (Got 62) ∷
     marked 1 (Sent 63 4 (messages.Answer 61 (answers.Granted (grant_with 3 0 [])))) ∷ marked 4 (Got 63) ∷
     marked 4 (Sent 64 0 (messages.Request (tx 0 4) 2 2 (wants.Append 0 [] (own_line 1 0 1 ∷ own_line 2 0 1 ∷ [])))) ∷
     marked 4 (Sent 65 1 (messages.Request (tx 0 4) 2 3 (wants.Append 0 [] (own_line 1 0 1 ∷ own_line 2 0 1 ∷ [])))) ∷
     marked 0 (Got 64) ∷ marked 0 (Sent 66 4 (messages.Answer 64 (answers.Granted (grant_with 2 2 []))))
-        ∷ marked 1 (Got 65) ∷
+    ∷ marked 1 (Got 65) ∷
     marked 1 (Sent 67 4 (messages.Answer 65 (answers.Granted (grant_with 3 0 [])))) ∷ marked 4 (Got 66)
-        ∷ marked 4 (Got 67) ∷
+    ∷ marked 4 (Got 67) ∷
     marked 4 (Told (replies.Response 0)) ∷ marked 4 (Called commands.Commit) ∷
     marked 4 (Sent 68 0 (messages.Request (tx 0 4) 2 2 wants.Prepare)) ∷
     marked 4 (Sent 69 1 (messages.Request (tx 0 4) 2 3 wants.Prepare)) ∷ marked 0 (Got 68) ∷ marked 1 (Got 69) ∷

@@ -52,7 +52,7 @@ history =
     marked 6 (Phase 2) ∷ marked 6 (Heal 5 1) ∷ marked 1 (Called commands.Begin) ∷
     marked 1 (Told (replies.Began (tx 0 1))) ∷ marked 0 (Got 4) ∷
     marked 0 (Sent 8 4 (messages.Answer 4 (answers.Granted (grant_with 1 1 (line 1 3 1 2 0 3 ∷ [])))))
-        ∷ marked 4 (Got 8) ∷
+    ∷ marked 4 (Got 8) ∷
     marked 2 (Called commands.Begin) ∷ marked 1 (Called (commands.Do 0 1)) ∷ marked 2 (Told (replies.Began (tx 1 1))) ∷
     marked 2 (Called (commands.Do 1 1)) ∷
     marked 1 (Sent 9 0 (messages.Request (tx 0 1) 1 0 (wants.Append 0 [] (own_line 1 0 2 ∷ [])))) ∷
@@ -61,11 +61,11 @@ history =
     marked 0 (Sent 12 4 (messages.Inquiry (tx 3 1))) ∷ marked 4 (Got 12) ∷
     marked 4 (Sent 13 0 (messages.Decision (tx 3 1) (outcomes.Committed (stamp 1 3)))) ∷ marked 1 (Got 11) ∷
     marked 0 (Got 10) ∷ marked 0 (Sent 14 2 (messages.Answer 10 (answers.Granted (grant_with 1 1 []))))
-        ∷ marked 0 (Got 13) ∷
+    ∷ marked 0 (Got 13) ∷
     marked 2 (Got 14) ∷ marked 1 (Told (replies.Conflict (tx 3 1) 0)) ∷
     marked 2 (Sent 15 0 (messages.Request (tx 1 1) 1 1 (wants.Append 1 [] (own_line 1 1 2 ∷ [])))) ∷ marked 0 (Got 15) ∷
     marked 3 (Told (replies.Began (tx 2 1)))
-        ∷ marked 0 (Sent 16 2 (messages.Answer 15 (answers.Granted (grant_with 1 1 [])))) ∷
+    ∷ marked 0 (Sent 16 2 (messages.Answer 15 (answers.Granted (grant_with 1 1 [])))) ∷
     marked 2 (Got 16) ∷ marked 2 (Told (replies.Response 2)) ∷ marked 2 (Called commands.Commit) ∷
     marked 2 (Sent 17 0 (messages.Request (tx 1 1) 1 1 wants.Prepare)) ∷ marked 2 (Lost 17) ∷
     marked 2 (Sent 18 0 (messages.Decision (tx 1 1) outcomes.Aborted)) ∷
@@ -90,7 +90,7 @@ history =
     marked 3 (Sent 26 0 (messages.Request (tx 2 2) 1 0 (wants.Read (read_of 0 0)))) ∷ marked 0 (Got 26) ∷
     marked 4 (Called (commands.Do 0 0)) ∷
     marked 0
-        (Sent 27 3 (messages.Answer 26 (answers.Granted (grant_with 1 2 (line 1 3 1 2 0 3 ∷ line 2 2 1 1 0 2 ∷ []))))) ∷
+    (Sent 27 3 (messages.Answer 26 (answers.Granted (grant_with 1 2 (line 1 3 1 2 0 3 ∷ line 2 2 1 1 0 2 ∷ []))))) ∷
     marked 3 (Got 27) ∷ marked 4 (Told replies.Down) ∷ marked 3 (Told (replies.Response 0)) ∷
     marked 3 (Called commands.Abort) ∷ marked 3 (Sent 28 0 (messages.Decision (tx 2 2) outcomes.Aborted)) ∷
     marked 3 (Told replies.Dropped) ∷ marked 1 (Called (commands.Do 1 1)) ∷ marked 1 (Told replies.Doomed) ∷
@@ -119,19 +119,19 @@ history =
     marked 3 (Called commands.Begin) ∷ marked 3 (Told (replies.Began (tx 2 4))) ∷ marked 3 (Called (commands.Do 1 1)) ∷
     marked 3 (Sent 37 0 (messages.Request (tx 2 4) 1 0 (wants.Read (read_of 1 1)))) ∷ marked 0 (Got 37) ∷
     marked 0 (Sent 38 3 (messages.Answer 37 (answers.Granted (grant_with 2 3 (line 3 2 3 1 1 2 ∷ [])))))
-        ∷ marked 3 (Got 38) ∷
+    ∷ marked 3 (Got 38) ∷
     marked 3 (Sent 39 0 (messages.Request (tx 2 4) 1 2 (wants.Append 1 (line 3 2 3 1 1 2 ∷ []) (own_line 1 1 2 ∷ []))))
     ∷
     marked 0 (Got 39) ∷ marked 0 (Sent 40 3 (messages.Answer 39 (answers.Granted (grant_with 2 3 []))))
-        ∷ marked 3 (Got 40) ∷
+    ∷ marked 3 (Got 40) ∷
     marked 3 (Told (replies.Response 2)) ∷ marked 3 (Called (commands.Do 1 2)) ∷
     marked 3 (Sent 41 0 (messages.Request (tx 2 4) 1 2 (wants.Read (read_of 1 2)))) ∷ marked 0 (Got 41) ∷
     marked 0 (Sent 42 3 (messages.Answer 41 (answers.Granted (grant_with 2 3 (line 3 2 3 1 1 2 ∷ [])))))
-        ∷ marked 3 (Got 42) ∷
+    ∷ marked 3 (Got 42) ∷
     marked 3 (Sent 43 0 (messages.Request (tx 2 4) 1 2 (wants.Append 1 (line 3 2 3 1 1 2 ∷ []) (own_line 1 1 2 ∷
     own_line 2 1 3 ∷ [])))) ∷
     marked 0 (Got 43) ∷ marked 0 (Sent 44 3 (messages.Answer 43 (answers.Granted (grant_with 2 3 []))))
-        ∷ marked 3 (Got 44) ∷
+    ∷ marked 3 (Got 44) ∷
     marked 3 (Told (replies.Response 2)) ∷ marked 3 (Called (commands.Do 0 2)) ∷
     marked 3 (Sent 45 0 (messages.Request (tx 2 4) 1 2 (wants.Append 0 [] (own_line 3 0 3 ∷ [])))) ∷ marked 0 (Got 45) ∷
     marked 0 (Sent 46 3 (messages.Answer 45 (answers.Granted (grant_with 2 3 [])))) ∷ marked 3 (Got 46) ∷

@@ -39,13 +39,13 @@ history =
     marked 6 (Armed 2 arms.Stop 5) ∷ marked 5 (Called (commands.Epoch 2)) ∷ marked 5 (Sent 3 1 (messages.Close 2)) ∷
     marked 5 (Sent 4 2 (messages.Close 2)) ∷ marked 1 (Got 3) ∷ marked 1 (Wrote (records.Close 2)) ∷
     marked 1 (Sent 5 5 (messages.Answer 3 (answers.Shut (snapshot_with 0 [] [])))) ∷ marked 5 (Got 5) ∷ marked 2 (Got 4)
-        ∷
+    ∷
     marked 2 (Sent 6 5 (messages.Answer 4 (answers.Shut (snapshot_with 0 [] [])))) ∷ marked 5 (Got 6) ∷
     marked 5 (Wrote (records.Decide (start_with 2 0 []))) ∷ marked 5 (Sent 7 0 (messages.Install (start_with 2 0 []))) ∷
     marked 5 (Sent 8 1 (messages.Install (start_with 2 0 [])))
-        ∷ marked 5 (Sent 9 2 (messages.Install (start_with 2 0 []))) ∷ marked 0 (Got 7) ∷
+    ∷ marked 5 (Sent 9 2 (messages.Install (start_with 2 0 []))) ∷ marked 0 (Got 7) ∷
     marked 0 (Wrote (records.Install (start_with 2 0 []))) ∷ marked 0 (Sent 10 5 (messages.Answer 7 answers.Installed))
-        ∷
+    ∷
     marked 1 (Got 8) ∷ marked 5 (Got 10) ∷ marked 1 (Fell falls.Stop (Some (records.Install (start_with 2 0 [])))) ∷
     marked 5 (Lost 8) ∷ marked 2 (Got 9) ∷ marked 2 (Wrote (records.Install (start_with 2 0 []))) ∷
     marked 2 (Sent 11 5 (messages.Answer 9 answers.Installed)) ∷ marked 5 (Got 11) ∷
@@ -70,7 +70,7 @@ history =
     marked 4 (Told (replies.Began (tx 1 2))) ∷ marked 1 (Got 19) ∷ marked 4 (Called (commands.Do 0 1)) ∷
     marked 4 (Sent 21 1 (messages.Request (tx 1 2) 2 0 (wants.Read (read_of 0 1)))) ∷
     marked 4 (Sent 22 2 (messages.Request (tx 1 2) 2 0 (wants.Read (read_of 0 1)))) ∷ marked 4 (Lost 21)
-        ∷ marked 3 (Got 17) ∷
+    ∷ marked 3 (Got 17) ∷
     marked 2 (Got 16) ∷ marked 2 (Sent 23 3 (messages.Answer 16 (answers.Closed 2))) ∷ marked 3 (Got 23) ∷
     marked 3 (Told (replies.Closed 2 1)) ∷ marked 2 (Got 20) ∷ marked 2 (Got 22) ∷
     marked 2 (Sent 24 4 (messages.Answer 22 (answers.Granted (grant_with 2 1 [])))) ∷ marked 4 (Got 24) ∷
@@ -111,9 +111,9 @@ history =
     marked 4 (Told (replies.Committed (stamp 2 1))) ∷ marked 4 (Called commands.Begin) ∷ marked 0 (Got 47) ∷
     marked 0 (Fell falls.Disk (Some (records.Done (tx 1 2) 2))) ∷ marked 4 (Told (replies.Began (tx 1 3))) ∷
     marked 4 (Called (commands.Do 0 1))
-        ∷ marked 4 (Sent 50 1 (messages.Request (tx 1 3) 2 0 (wants.Read (read_of 0 1)))) ∷
+    ∷ marked 4 (Sent 50 1 (messages.Request (tx 1 3) 2 0 (wants.Read (read_of 0 1)))) ∷
     marked 4 (Sent 51 2 (messages.Request (tx 1 3) 2 0 (wants.Read (read_of 0 1)))) ∷ marked 1 (Got 46)
-        ∷ marked 1 (Got 48) ∷
+    ∷ marked 1 (Got 48) ∷
     marked 1 (Got 50) ∷ marked 1 (Sent 52 4 (messages.Answer 50 (answers.Behind 1))) ∷ marked 4 (Got 52) ∷
     marked 2 (Got 49) ∷ marked 2 (Wrote (records.Done (tx 1 2) 2)) ∷ marked 3 (Called commands.Begin) ∷
     marked 3 (Told (replies.Began (tx 0 5))) ∷ marked 3 (Called (commands.Do 0 1)) ∷
@@ -121,7 +121,7 @@ history =
     marked 3 (Sent 54 1 (messages.Request (tx 0 5) 2 0 (wants.Read (read_of 0 1)))) ∷ marked 1 (Got 54) ∷
     marked 1 (Sent 55 3 (messages.Answer 54 (answers.Behind 1))) ∷ marked 2 (Got 51) ∷
     marked 2 (Sent 56 4 (messages.Answer 51 (answers.Granted (grant_with 2 2 (line 2 1 2 1 0 1 ∷ [])))))
-        ∷ marked 4 (Got 56) ∷
+    ∷ marked 4 (Got 56) ∷
     marked 4 (Sent 57 0 (messages.Request (tx 1 3) 2 0 (wants.Read (read_of 0 1)))) ∷ marked 4 (Lost 57) ∷
     marked 4 (Told (replies.Quorum halves.Read 3 4)) ∷ marked 4 (Called commands.Commit) ∷
     marked 4 (Sent 58 2 (messages.Request (tx 1 3) 2 2 wants.Prepare)) ∷ marked 2 (Got 58) ∷
@@ -135,7 +135,7 @@ history =
     marked 2 (Wrote (records.Done (tx 1 3) 3)) ∷ marked 3 (Lost 53) ∷
     marked 3 (Sent 63 2 (messages.Request (tx 0 5) 2 0 (wants.Read (read_of 0 1)))) ∷ marked 2 (Got 63) ∷
     marked 2 (Sent 64 3 (messages.Answer 63 (answers.Granted (grant_with 2 3 (line 2 1 2 1 0 1 ∷ [])))))
-        ∷ marked 3 (Got 64) ∷
+    ∷ marked 3 (Got 64) ∷
     marked 3 (Told (replies.Quorum halves.Read 3 4)) ∷ marked 3 (Called commands.Commit) ∷
     marked 3 (Sent 65 2 (messages.Request (tx 0 5) 2 2 wants.Prepare)) ∷ marked 2 (Got 65) ∷
     marked 2 (Wrote (prepare (tx 0 5) 2 (read_lock 0 1 ∷ []) [] [])) ∷

@@ -37,13 +37,13 @@ history =
     marked 2 (Called (commands.Do 0 1)) ∷ marked 3 (Called commands.Begin) ∷ marked 3 (Told (replies.Began (tx 1 1))) ∷
     marked 2 (Sent 0 0 (messages.Request (tx_in 0 2 1) 1 0 (wants.Read (read_of 0 1)))) ∷
     marked 2 (Sent 1 1 (messages.Request (tx_in 0 2 1) 1 0 (wants.Read (read_of 0 1)))) ∷ marked 1 (Got 1)
-        ∷ marked 0 (Got 0) ∷
+    ∷ marked 0 (Got 0) ∷
     marked 0 (Sent 2 2 (messages.Answer 0 (answers.Granted (grant_with 1 0 [])))) ∷
     marked 1 (Sent 3 2 (messages.Answer 1 (answers.Granted (grant_with 1 0 [])))) ∷ marked 2 (Got 2) ∷ marked 2 (Got 3)
-        ∷
+    ∷
     marked 2 (Sent 4 0 (messages.Request (tx_in 0 2 1) 1 1 (wants.Append 0 [] (own_line 1 0 1 ∷ [])))) ∷
     marked 0 (Got 4) ∷ marked 0 (Sent 5 2 (messages.Answer 4 (answers.Granted (grant_with 1 0 [])))) ∷ marked 2 (Got 5)
-        ∷
+    ∷
     marked 2 (Told (replies.Response 0)) ∷ marked 2 (Called commands.Commit) ∷
     marked 2 (Sent 6 0 (messages.Request (tx_in 0 2 1) 1 1 wants.Prepare)) ∷
     marked 2 (Sent 7 1 (messages.Request (tx_in 0 2 1) 1 1 wants.Prepare)) ∷ marked 1 (Got 7) ∷
@@ -66,15 +66,15 @@ history =
     marked 3 (Called commands.Commit) ∷ marked 2 (Called commands.Commit) ∷ marked 3 (Told replies.Down) ∷
     marked 0 (Wrote (records.Close 2)) ∷
     marked 0
-        (Sent 13 4
-          (messages.Answer 11
-            (answers.Shut (snapshot_with 0 []
-              (prepared (tx_in 0 2 1) 1 (read_lock 0 1 ∷ []) (own_line 1 0 1 ∷ []) [] ∷ []))))) ∷
+    (Sent 13 4
+    (messages.Answer 11
+    (answers.Shut (snapshot_with 0 []
+    (prepared (tx_in 0 2 1) 1 (read_lock 0 1 ∷ []) (own_line 1 0 1 ∷ []) [] ∷ []))))) ∷
     marked 1 (Got 12) ∷ marked 1 (Wrote (records.Close 2)) ∷
     marked 1
-        (Sent 14 4
-          (messages.Answer 12
-            (answers.Shut (snapshot_with 0 [] (prepared (tx_in 0 2 1) 1 (read_lock 0 1 ∷ []) [] [] ∷ []))))) ∷
+    (Sent 14 4
+    (messages.Answer 12
+    (answers.Shut (snapshot_with 0 [] (prepared (tx_in 0 2 1) 1 (read_lock 0 1 ∷ []) [] [] ∷ []))))) ∷
     marked 4 (Got 13) ∷ marked 2 (Wrote (commit (stamp 1 0) (tx_in 0 3 1) [])) ∷
     marked 2 (Told (replies.Committed (stamp 1 0))) ∷ marked 2 (Called commands.Begin) ∷
     marked 2 (Told (replies.Began (tx_in 0 3 2))) ∷ marked 4 (Got 14) ∷ marked 2 (Called (commands.Do 1 1)) ∷
@@ -86,18 +86,18 @@ history =
     marked 2 (Sent 20 4 (messages.Answer 17 (answers.Answered outcomes.Aborted))) ∷ marked 2 (Got 18) ∷
     marked 2 (Got 19) ∷ marked 4 (Got 20) ∷ marked 4 (Wrote (records.Decide (start_with 2 0 []))) ∷
     marked 4 (Sent 21 0 (messages.Install (start_with 2 0 [])))
-        ∷ marked 4 (Sent 22 1 (messages.Install (start_with 2 0 []))) ∷
+    ∷ marked 4 (Sent 22 1 (messages.Install (start_with 2 0 []))) ∷
     marked 1 (Got 22) ∷ marked 2 (Told (replies.Closed 2 0)) ∷ marked 0 (Got 21) ∷
     marked 1 (Wrote (records.Install (start_with 2 0 []))) ∷ marked 1 (Sent 23 4 (messages.Answer 22 answers.Installed))
-        ∷
+    ∷
     marked 2 (Called (commands.Do 1 2)) ∷ marked 4 (Got 23) ∷ marked 0 (Wrote (records.Install (start_with 2 0 []))) ∷
     marked 0 (Sent 24 4 (messages.Answer 21 answers.Installed)) ∷
     marked 2 (Sent 25 0 (messages.Request (tx_in 0 3 2) 1 0 (wants.Read (read_of 1 2)))) ∷
     marked 2 (Sent 26 1 (messages.Request (tx_in 0 3 2) 1 0 (wants.Read (read_of 1 2)))) ∷ marked 4 (Got 24)
-        ∷ marked 1 (Got 26) ∷
+    ∷ marked 1 (Got 26) ∷
     marked 4 (Told (replies.Moved 3 3)) ∷ marked 1 (Sent 27 2 (messages.Answer 26 (answers.Closed 2))) ∷
     marked 4 (Called (commands.Epoch 2)) ∷ marked 2 (Got 27)
-        ∷ marked 4 (Sent 28 0 (messages.Install (start_with 2 0 []))) ∷
+    ∷ marked 4 (Sent 28 0 (messages.Install (start_with 2 0 []))) ∷
     marked 4 (Sent 29 1 (messages.Install (start_with 2 0 []))) ∷ marked 1 (Got 29) ∷
     marked 1 (Sent 30 4 (messages.Answer 29 answers.Installed)) ∷ marked 0 (Got 25) ∷
     marked 0 (Sent 31 2 (messages.Answer 25 (answers.Closed 2))) ∷ marked 0 (Got 28) ∷ marked 2 (Got 31) ∷
@@ -116,17 +116,17 @@ history =
     marked 2 (Called commands.Begin) ∷ marked 2 (Told (replies.Began (tx_in 0 3 3))) ∷
     marked 4 (Called (commands.Epoch 2)) ∷ marked 4 (Sent 39 0 (messages.Install (start_with 2 0 []))) ∷
     marked 4 (Sent 40 1 (messages.Install (start_with 2 0 []))) ∷ marked 2 (Called (commands.Do 0 0))
-        ∷ marked 0 (Got 39) ∷
+    ∷ marked 0 (Got 39) ∷
     marked 0 (Sent 41 4 (messages.Answer 39 answers.Installed)) ∷ marked 4 (Got 41) ∷
     marked 2 (Sent 42 0 (messages.Request (tx_in 0 3 3) 2 0 (wants.Read (read_of 0 0)))) ∷
     marked 2 (Sent 43 1 (messages.Request (tx_in 0 3 3) 2 0 (wants.Read (read_of 0 0)))) ∷ marked 0 (Got 42)
-        ∷ marked 1 (Got 40) ∷
+    ∷ marked 1 (Got 40) ∷
     marked 0 (Sent 44 2 (messages.Answer 42 (answers.Granted (grant_with 2 2 [])))) ∷ marked 2 (Got 44) ∷
     marked 1 (Sent 45 4 (messages.Answer 40 answers.Installed)) ∷ marked 4 (Got 45) ∷ marked 1 (Got 43) ∷
     marked 4 (Told (replies.Moved 0 3)) ∷ marked 4 (Called (commands.Epoch 2)) ∷
     marked 1 (Sent 46 2 (messages.Answer 43 (answers.Granted (grant_with 3 2 [])))) ∷
     marked 4 (Sent 47 0 (messages.Install (start_with 2 0 [])))
-        ∷ marked 4 (Sent 48 1 (messages.Install (start_with 2 0 []))) ∷
+    ∷ marked 4 (Sent 48 1 (messages.Install (start_with 2 0 []))) ∷
     marked 2 (Got 46) ∷ marked 1 (Got 48) ∷ marked 0 (Got 47) ∷
     marked 2 (Sent 49 0 (messages.Request (tx_in 0 3 3) 2 2 (wants.Append 0 [] (own_line 1 0 0 ∷ [])))) ∷
     marked 0 (Sent 50 4 (messages.Answer 47 answers.Installed)) ∷ marked 0 (Got 49) ∷ marked 4 (Got 50) ∷
@@ -146,24 +146,24 @@ history =
     marked 1 (Wrote (records.Done (tx_in 0 3 3) 3)) ∷ marked 0 (Got 57) ∷ marked 2 (Called commands.Begin) ∷
     marked 0 (Fell falls.Stop (Some (records.Done (tx_in 0 3 3) 3))) ∷ marked 2 (Told (replies.Began (tx_in 0 3 4))) ∷
     marked 2 (Called (commands.Do 1 2))
-        ∷ marked 2 (Sent 59 0 (messages.Request (tx_in 0 3 4) 2 0 (wants.Read (read_of 1 2)))) ∷
+    ∷ marked 2 (Sent 59 0 (messages.Request (tx_in 0 3 4) 2 0 (wants.Read (read_of 1 2)))) ∷
     marked 2 (Sent 60 1 (messages.Request (tx_in 0 3 4) 2 0 (wants.Read (read_of 1 2)))) ∷ marked 2 (Lost 59) ∷
     marked 1 (Got 60) ∷ marked 1 (Sent 61 2 (messages.Answer 60 (answers.Granted (grant_with 3 3 []))))
-        ∷ marked 2 (Got 61) ∷
+    ∷ marked 2 (Got 61) ∷
     marked 2 (Told (replies.Quorum halves.Read 1 2)) ∷ marked 2 (Called (commands.Do 0 0)) ∷
     marked 2 (Sent 62 0 (messages.Request (tx_in 0 3 4) 2 0 (wants.Read (read_of 0 0)))) ∷
     marked 2 (Sent 63 1 (messages.Request (tx_in 0 3 4) 2 3 (wants.Read (read_of 0 0)))) ∷ marked 1 (Got 63) ∷
     marked 2 (Lost 62) ∷ marked 1 (Sent 64 2 (messages.Answer 63 (answers.Granted (grant_with 3 3 []))))
-        ∷ marked 2 (Got 64) ∷
+    ∷ marked 2 (Got 64) ∷
     marked 2 (Told (replies.Quorum halves.Read 1 2)) ∷ marked 2 (Called (commands.Do 1 2)) ∷
     marked 2 (Sent 65 0 (messages.Request (tx_in 0 3 4) 2 0 (wants.Read (read_of 1 2)))) ∷
     marked 2 (Sent 66 1 (messages.Request (tx_in 0 3 4) 2 3 (wants.Read (read_of 1 2)))) ∷ marked 2 (Lost 65) ∷
     marked 1 (Got 66) ∷ marked 1 (Sent 67 2 (messages.Answer 66 (answers.Granted (grant_with 3 3 []))))
-        ∷ marked 2 (Got 67) ∷
+    ∷ marked 2 (Got 67) ∷
     marked 2 (Told (replies.Quorum halves.Read 1 2)) ∷ marked 5 (Phase 5) ∷ marked 5 (Heal 3 2) ∷ marked 5 (Cut 2 4) ∷
     marked 5 (Armed 2 arms.Fail 3) ∷ marked 3 (Called commands.Begin) ∷ marked 3 (Told (replies.Began (tx_in 1 4 1))) ∷
     marked 3 (Called (commands.Do 0 1))
-        ∷ marked 3 (Sent 68 1 (messages.Request (tx_in 1 4 1) 1 0 (wants.Read (read_of 0 1)))) ∷
+    ∷ marked 3 (Sent 68 1 (messages.Request (tx_in 1 4 1) 1 0 (wants.Read (read_of 0 1)))) ∷
     marked 3 (Sent 69 0 (messages.Request (tx_in 1 4 1) 1 0 (wants.Read (read_of 0 1)))) ∷ marked 3 (Lost 69) ∷
     marked 1 (Got 68) ∷ marked 1 (Sent 70 3 (messages.Answer 68 (answers.Closed 2))) ∷ marked 3 (Got 70) ∷
     marked 3 (Told (replies.Closed 2 1)) ∷ marked 3 (Called (commands.Do 1 1)) ∷
@@ -176,6 +176,6 @@ history =
     marked 1 (Got 74) ∷ marked 1 (Sent 76 3 (messages.Answer 74 (answers.Closed 2))) ∷ marked 3 (Got 76) ∷
     marked 3 (Told (replies.Closed 2 1)) ∷ marked 5 (Phase 6) ∷ marked 4 (Called (commands.Epoch 2)) ∷
     marked 4 (Sent 77 0 (messages.Install (start_with 2 0 [])))
-        ∷ marked 4 (Sent 78 1 (messages.Install (start_with 2 0 []))) ∷
+    ∷ marked 4 (Sent 78 1 (messages.Install (start_with 2 0 []))) ∷
     marked 1 (Got 78) ∷ marked 4 (Lost 77) ∷ marked 1 (Sent 79 4 (messages.Answer 78 answers.Installed)) ∷
     marked 4 (Got 79) ∷ marked 4 (Told (replies.Moved 0 2)) ∷ []

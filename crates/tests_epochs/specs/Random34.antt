@@ -33,10 +33,10 @@ abbrev pub history : List Entry
 history =
     marked 6 (Phase 1) ∷ marked 4 (Called commands.Begin) ∷ marked 4 (Told (replies.Began (tx 1 1))) ∷
     marked 4 (Called (commands.Do 0 0)) ∷ marked 4 (Sent 0 2 (messages.Request (tx 1 1) 1 0 (wants.Read (read_of 0 0))))
-        ∷
+    ∷
     marked 4 (Sent 1 0 (messages.Request (tx 1 1) 1 0 (wants.Read (read_of 0 0)))) ∷ marked 0 (Got 1) ∷
     marked 0 (Sent 2 4 (messages.Answer 1 (answers.Granted (grant_with 1 0 [])))) ∷ marked 4 (Got 2) ∷ marked 2 (Got 0)
-        ∷
+    ∷
     marked 2 (Sent 3 4 (messages.Answer 0 (answers.Granted (grant_with 1 0 [])))) ∷ marked 4 (Got 3) ∷
     marked 4 (Sent 4 2 (messages.Request (tx 1 1) 1 1 (wants.Append 0 [] (own_line 1 0 0 ∷ [])))) ∷ marked 2 (Got 4) ∷
     marked 2 (Sent 5 4 (messages.Answer 4 (answers.Granted (grant_with 1 0 [])))) ∷ marked 4 (Got 5) ∷
@@ -59,7 +59,7 @@ history =
     marked 0 (Wrote (records.Done (tx 1 1) 1)) ∷ marked 4 (Called commands.Begin) ∷
     marked 4 (Told (replies.Began (tx 1 2))) ∷ marked 2 (Got 13) ∷ marked 2 (Wrote (records.Done (tx 1 1) 1)) ∷
     marked 4 (Called (commands.Do 0 2))
-        ∷ marked 4 (Sent 16 2 (messages.Request (tx 1 2) 1 0 (wants.Read (read_of 0 2)))) ∷
+    ∷ marked 4 (Sent 16 2 (messages.Request (tx 1 2) 1 0 (wants.Read (read_of 0 2)))) ∷
     marked 4 (Sent 17 0 (messages.Request (tx 1 2) 1 0 (wants.Read (read_of 0 2)))) ∷ marked 0 (Got 17) ∷
     marked 0 (Sent 18 4 (messages.Answer 17 (answers.Closed 2))) ∷ marked 4 (Got 18) ∷ marked 2 (Got 16) ∷
     marked 2 (Sent 19 4 (messages.Answer 16 (answers.Closed 2))) ∷ marked 4 (Got 19) ∷
@@ -74,7 +74,7 @@ history =
     marked 5 (Sent 24 0 (messages.Install (start_with 2 1 (line 1 1 1 1 0 0 ∷ [])))) ∷
     marked 5 (Sent 25 1 (messages.Install (start_with 2 1 (line 1 1 1 1 0 0 ∷ [])))) ∷
     marked 5 (Sent 26 2 (messages.Install (start_with 2 1 (line 1 1 1 1 0 0 ∷ [])))) ∷ marked 1 (Got 25)
-        ∷ marked 0 (Got 24) ∷
+    ∷ marked 0 (Got 24) ∷
     marked 0 (Fell falls.Stop (Some (records.Install (start_with 2 1 (line 1 1 1 1 0 0 ∷ []))))) ∷
     marked 1 (Wrote (records.Install (start_with 2 1 (line 1 1 1 1 0 0 ∷ [])))) ∷
     marked 1 (Sent 27 5 (messages.Answer 25 answers.Installed)) ∷ marked 2 (Got 26) ∷
@@ -84,7 +84,7 @@ history =
     marked 5 (Sent 29 0 (messages.Install (start_with 2 1 (line 1 1 1 1 0 0 ∷ [])))) ∷
     marked 5 (Sent 30 1 (messages.Install (start_with 2 1 (line 1 1 1 1 0 0 ∷ [])))) ∷
     marked 5 (Sent 31 2 (messages.Install (start_with 2 1 (line 1 1 1 1 0 0 ∷ [])))) ∷ marked 5 (Lost 29)
-        ∷ marked 1 (Got 30) ∷
+    ∷ marked 1 (Got 30) ∷
     marked 2 (Got 31) ∷ marked 2 (Sent 32 5 (messages.Answer 31 answers.Installed)) ∷
     marked 1 (Sent 33 5 (messages.Answer 30 answers.Installed)) ∷ marked 5 (Got 32) ∷ marked 5 (Got 33) ∷
     marked 5 (Told (replies.Moved 0 6)) ∷ marked 6 (Phase 2) ∷ marked 6 (Cut 5 2) ∷
@@ -93,20 +93,20 @@ history =
     marked 0 (Fell falls.Stop (Some records.Life)) ∷ marked 3 (Called commands.Begin) ∷
     marked 4 (Called commands.Begin) ∷ marked 2 (Got 13) ∷ marked 3 (Told (replies.Began (tx 0 1))) ∷
     marked 3 (Called (commands.Do 0 0))
-        ∷ marked 3 (Sent 34 0 (messages.Request (tx 0 1) 1 0 (wants.Read (read_of 0 0)))) ∷
+    ∷ marked 3 (Sent 34 0 (messages.Request (tx 0 1) 1 0 (wants.Read (read_of 0 0)))) ∷
     marked 3 (Sent 35 2 (messages.Request (tx 0 1) 1 0 (wants.Read (read_of 0 0)))) ∷ marked 3 (Lost 34)
-        ∷ marked 2 (Got 35) ∷
+    ∷ marked 2 (Got 35) ∷
     marked 2 (Sent 36 3 (messages.Answer 35 (answers.Closed 2))) ∷ marked 3 (Got 36) ∷
     marked 3 (Told (replies.Closed 2 2)) ∷ marked 3 (Called (commands.Do 0 2)) ∷
     marked 3 (Sent 37 0 (messages.Request (tx 0 1) 1 0 (wants.Read (read_of 0 2)))) ∷
     marked 3 (Sent 38 2 (messages.Request (tx 0 1) 1 0 (wants.Read (read_of 0 2)))) ∷ marked 2 (Got 38)
-        ∷ marked 3 (Lost 37) ∷
+    ∷ marked 3 (Lost 37) ∷
     marked 2 (Sent 39 3 (messages.Answer 38 (answers.Closed 2))) ∷ marked 3 (Got 39) ∷
     marked 3 (Told (replies.Closed 2 2)) ∷ marked 4 (Told (replies.Began (tx 1 3))) ∷
     marked 4 (Called (commands.Do 0 2))
-        ∷ marked 4 (Sent 40 2 (messages.Request (tx 1 3) 2 0 (wants.Read (read_of 0 2)))) ∷
+    ∷ marked 4 (Sent 40 2 (messages.Request (tx 1 3) 2 0 (wants.Read (read_of 0 2)))) ∷
     marked 2 (Got 40)
-        ∷ marked 2 (Sent 41 4 (messages.Answer 40 (answers.Granted (grant_with 2 2 (line 1 1 1 1 0 0 ∷ []))))) ∷
+    ∷ marked 2 (Sent 41 4 (messages.Answer 40 (answers.Granted (grant_with 2 2 (line 1 1 1 1 0 0 ∷ []))))) ∷
     marked 4 (Got 41) ∷ marked 5 (Called (commands.Epoch 2)) ∷
     marked 5 (Sent 42 0 (messages.Install (start_with 2 1 (line 1 1 1 1 0 0 ∷ [])))) ∷
     marked 5 (Sent 43 1 (messages.Install (start_with 2 1 (line 1 1 1 1 0 0 ∷ [])))) ∷
@@ -115,11 +115,11 @@ history =
     marked 4 (Sent 46 2 (messages.Request (tx 1 3) 2 2 (wants.Append 0 (line 1 1 1 1 0 0 ∷ []) (own_line 1 0 2 ∷ []))))
     ∷
     marked 2 (Got 46) ∷ marked 2 (Sent 47 4 (messages.Answer 46 (answers.Granted (grant_with 2 2 []))))
-        ∷ marked 4 (Got 47) ∷
+    ∷ marked 4 (Got 47) ∷
     marked 4 (Told (replies.Response 1)) ∷ marked 4 (Called (commands.Do 0 2)) ∷
     marked 4 (Sent 48 2 (messages.Request (tx 1 3) 2 2 (wants.Read (read_of 0 2)))) ∷ marked 2 (Got 48) ∷
     marked 2 (Sent 49 4 (messages.Answer 48 (answers.Granted (grant_with 2 2 (line 1 1 1 1 0 0 ∷ [])))))
-        ∷ marked 4 (Got 49) ∷
+    ∷ marked 4 (Got 49) ∷
     marked 5 (Lost 44) ∷ marked 5 (Told (replies.Moved 0 2)) ∷ marked 4 (Told replies.Absent) ∷
     marked 4 (Called commands.Commit) ∷ marked 4 (Sent 50 2 (messages.Request (tx 1 3) 2 2 wants.Prepare)) ∷
     marked 2 (Got 50) ∷ marked 2 (Wrote (prepare (tx 1 3) 2 (read_lock 0 2 ∷ []) (own_line 1 0 2 ∷ []) [])) ∷
@@ -135,7 +135,7 @@ history =
     marked 5 (Sent 55 0 (messages.Install (start_with 2 1 (line 1 1 1 1 0 0 ∷ [])))) ∷
     marked 5 (Sent 56 1 (messages.Install (start_with 2 1 (line 1 1 1 1 0 0 ∷ [])))) ∷
     marked 5 (Sent 57 2 (messages.Install (start_with 2 1 (line 1 1 1 1 0 0 ∷ [])))) ∷ marked 5 (Lost 55)
-        ∷ marked 3 (Lost 53) ∷
+    ∷ marked 3 (Lost 53) ∷
     marked 5 (Lost 57) ∷ marked 1 (Got 56) ∷ marked 4 (Called commands.Commit) ∷
     marked 4 (Wrote (commit (stamp 4 1) (tx 1 4) [])) ∷ marked 4 (Told (replies.Committed (stamp 4 1))) ∷
     marked 2 (Got 54) ∷ marked 2 (Sent 58 3 (messages.Answer 54 (answers.Closed 2))) ∷ marked 3 (Got 58) ∷
@@ -145,10 +145,10 @@ history =
     marked 3 (Sent 61 2 (messages.Decision (tx 0 1) (outcomes.Committed (stamp 1 0)))) ∷
     marked 3 (Told (replies.Committed (stamp 1 0))) ∷ marked 5 (Got 59) ∷ marked 5 (Told (replies.Moved 0 2)) ∷
     marked 5 (Called (commands.Epoch 2))
-        ∷ marked 5 (Sent 62 0 (messages.Install (start_with 2 1 (line 1 1 1 1 0 0 ∷ [])))) ∷
+    ∷ marked 5 (Sent 62 0 (messages.Install (start_with 2 1 (line 1 1 1 1 0 0 ∷ [])))) ∷
     marked 5 (Sent 63 1 (messages.Install (start_with 2 1 (line 1 1 1 1 0 0 ∷ [])))) ∷
     marked 5 (Sent 64 2 (messages.Install (start_with 2 1 (line 1 1 1 1 0 0 ∷ [])))) ∷ marked 5 (Lost 62)
-        ∷ marked 1 (Got 63) ∷
+    ∷ marked 1 (Got 63) ∷
     marked 5 (Lost 64) ∷ marked 2 (Got 61) ∷ marked 1 (Sent 65 5 (messages.Answer 63 answers.Installed)) ∷
     marked 5 (Got 65) ∷ marked 5 (Told (replies.Moved 0 2)) ∷ marked 6 (Phase 4) ∷ marked 6 (Heal 5 2) ∷
     marked 6 (Heal 5 3) ∷
@@ -161,13 +161,13 @@ history =
     marked 3 (Told (replies.Began (tx 0 2))) ∷ marked 3 (Called (commands.Do 0 2)) ∷
     marked 3 (Sent 67 2 (messages.Request (tx 0 2) 2 0 (wants.Read (read_of 0 2)))) ∷ marked 2 (Got 66) ∷
     marked 2
-        (Sent 68 4 (messages.Answer 66 (answers.Granted (grant_with 2 3 (line 1 1 1 1 0 0 ∷ line 3 1 3 1 0 2 ∷ []))))) ∷
+    (Sent 68 4 (messages.Answer 66 (answers.Granted (grant_with 2 3 (line 1 1 1 1 0 0 ∷ line 3 1 3 1 0 2 ∷ []))))) ∷
     marked 4 (Got 68) ∷
     marked 4 (Sent 69 2 (messages.Request (tx 1 5) 2 2 (wants.Append 0 (line 1 1 1 1 0 0 ∷ line 3 1 3 1 0 2 ∷ [])
     (own_line 1 0 1 ∷ [])))) ∷
     marked 2 (Got 67) ∷
     marked 2
-        (Sent 70 3 (messages.Answer 67 (answers.Granted (grant_with 2 3 (line 1 1 1 1 0 0 ∷ line 3 1 3 1 0 2 ∷ []))))) ∷
+    (Sent 70 3 (messages.Answer 67 (answers.Granted (grant_with 2 3 (line 1 1 1 1 0 0 ∷ line 3 1 3 1 0 2 ∷ []))))) ∷
     marked 3 (Got 70) ∷ marked 3 (Told replies.Absent) ∷ marked 3 (Called commands.Commit) ∷
     marked 3 (Sent 71 2 (messages.Request (tx 0 2) 2 2 wants.Prepare)) ∷ marked 2 (Got 69) ∷
     marked 2 (Sent 72 4 (messages.Answer 69 (answers.Clash (tx 0 2) 2 1))) ∷
@@ -177,7 +177,7 @@ history =
     marked 4 (Told (replies.Aborted causes.Doomed)) ∷ marked 4 (Called commands.Begin) ∷
     marked 3 (Sent 75 2 (messages.Decision (tx 0 2) outcomes.Active)) ∷ marked 4 (Told (replies.Began (tx 1 6))) ∷
     marked 4 (Called (commands.Do 0 1))
-        ∷ marked 4 (Sent 76 2 (messages.Request (tx 1 6) 2 0 (wants.Read (read_of 0 1)))) ∷
+    ∷ marked 4 (Sent 76 2 (messages.Request (tx 1 6) 2 0 (wants.Read (read_of 0 1)))) ∷
     marked 2 (Got 71) ∷ marked 2 (Wrote (prepare (tx 0 2) 2 (read_lock 0 2 ∷ []) [] [])) ∷
     marked 2 (Sent 77 3 (messages.Answer 71 (answers.Yes 3))) ∷ marked 3 (Got 77) ∷
     marked 3 (Wrote (commit (stamp 4 0) (tx 0 2) (operation 0 2 None ∷ []))) ∷
@@ -185,9 +185,9 @@ history =
     marked 3 (Told (replies.Committed (stamp 4 0))) ∷ marked 2 (Got 74) ∷ marked 3 (Called commands.Begin) ∷
     marked 3 (Told (replies.Began (tx 0 3))) ∷ marked 3 (Called (commands.Do 0 2)) ∷
     marked 3 (Sent 79 2 (messages.Request (tx 0 3) 2 0 (wants.Read (read_of 0 2)))) ∷ marked 2 (Got 75)
-        ∷ marked 2 (Got 76) ∷
+    ∷ marked 2 (Got 76) ∷
     marked 2
-        (Sent 80 4 (messages.Answer 76 (answers.Granted (grant_with 2 3 (line 1 1 1 1 0 0 ∷ line 3 1 3 1 0 2 ∷ []))))) ∷
+    (Sent 80 4 (messages.Answer 76 (answers.Granted (grant_with 2 3 (line 1 1 1 1 0 0 ∷ line 3 1 3 1 0 2 ∷ []))))) ∷
     marked 4 (Got 80) ∷
     marked 4 (Sent 81 2 (messages.Request (tx 1 6) 2 2 (wants.Append 0 (line 1 1 1 1 0 0 ∷ line 3 1 3 1 0 2 ∷ [])
     (own_line 1 0 1 ∷ [])))) ∷

@@ -37,25 +37,25 @@ history =
     marked 5 (Sent 0 2 (messages.Request (tx 2 1) 1 0 (wants.Read (read_of 0 0)))) ∷
     marked 5 (Sent 1 0 (messages.Request (tx 2 1) 1 0 (wants.Read (read_of 0 0)))) ∷ marked 0 (Got 1) ∷
     marked 0 (Sent 2 5 (messages.Answer 1 (answers.Granted (grant_with 1 0 [])))) ∷ marked 5 (Got 2) ∷ marked 2 (Got 0)
-        ∷
+    ∷
     marked 2 (Sent 3 5 (messages.Answer 0 (answers.Granted (grant_with 1 0 [])))) ∷ marked 5 (Got 3) ∷
     marked 5 (Sent 4 2 (messages.Request (tx 2 1) 1 1 (wants.Append 0 [] (own_line 1 0 0 ∷ [])))) ∷
     marked 5 (Sent 5 0 (messages.Request (tx 2 1) 1 1 (wants.Append 0 [] (own_line 1 0 0 ∷ [])))) ∷ marked 0 (Got 5) ∷
     marked 0 (Sent 6 5 (messages.Answer 5 (answers.Granted (grant_with 1 0 [])))) ∷ marked 5 (Got 6) ∷ marked 2 (Got 4)
-        ∷
+    ∷
     marked 2 (Sent 7 5 (messages.Answer 4 (answers.Granted (grant_with 1 0 [])))) ∷ marked 5 (Got 7) ∷
     marked 5 (Told (replies.Response 0)) ∷ marked 4 (Called commands.Begin) ∷ marked 4 (Told (replies.Began (tx 1 1))) ∷
     marked 4 (Called (commands.Do 0 1)) ∷ marked 4 (Sent 8 1 (messages.Request (tx 1 1) 1 0 (wants.Read (read_of 0 1))))
-        ∷
+    ∷
     marked 4 (Sent 9 2 (messages.Request (tx 1 1) 1 0 (wants.Read (read_of 0 1)))) ∷ marked 1 (Got 8) ∷
     marked 1 (Sent 10 4 (messages.Answer 8 (answers.Granted (grant_with 1 0 [])))) ∷ marked 4 (Got 10)
-        ∷ marked 2 (Got 9) ∷
+    ∷ marked 2 (Got 9) ∷
     marked 2 (Sent 11 4 (messages.Answer 9 (answers.Granted (grant_with 1 0 [])))) ∷ marked 4 (Got 11) ∷
     marked 4 (Sent 12 1 (messages.Request (tx 1 1) 1 1 (wants.Append 0 [] (own_line 1 0 1 ∷ [])))) ∷
     marked 4 (Sent 13 2 (messages.Request (tx 1 1) 1 1 (wants.Append 0 [] (own_line 1 0 1 ∷ [])))) ∷ marked 1 (Got 12) ∷
     marked 1 (Sent 14 4 (messages.Answer 12 (answers.Granted (grant_with 1 0 [])))) ∷ marked 2 (Got 13) ∷
     marked 2 (Sent 15 4 (messages.Answer 13 (answers.Granted (grant_with 1 0 [])))) ∷ marked 4 (Got 14)
-        ∷ marked 4 (Got 15) ∷
+    ∷ marked 4 (Got 15) ∷
     marked 4 (Told (replies.Response 0)) ∷ marked 4 (Called (commands.Do 0 2)) ∷
     marked 4 (Sent 16 1 (messages.Request (tx 1 1) 1 1 (wants.Read (read_of 0 2)))) ∷
     marked 4 (Sent 17 2 (messages.Request (tx 1 1) 1 1 (wants.Read (read_of 0 2)))) ∷ marked 1 (Got 16) ∷
@@ -79,14 +79,14 @@ history =
     marked 4 (Sent 28 1 (messages.Request (tx 1 2) 1 0 (wants.Read (read_of 0 1)))) ∷
     marked 4 (Sent 29 2 (messages.Request (tx 1 2) 1 0 (wants.Read (read_of 0 1)))) ∷ marked 1 (Got 28) ∷
     marked 1 (Sent 30 4 (messages.Answer 28 (answers.Granted (grant_with 1 1 (line 1 1 1 1 0 1 ∷ [])))))
-        ∷ marked 2 (Got 29) ∷
+    ∷ marked 2 (Got 29) ∷
     marked 2 (Sent 31 4 (messages.Answer 29 (answers.Granted (grant_with 1 1 (line 1 1 1 1 0 1 ∷ [])))))
-        ∷ marked 4 (Got 30) ∷
+    ∷ marked 4 (Got 30) ∷
     marked 4 (Got 31) ∷ marked 4 (Told replies.Absent) ∷ marked 4 (Called (commands.Do 0 0)) ∷
     marked 4 (Sent 32 1 (messages.Request (tx 1 2) 1 1 (wants.Read (read_of 0 0)))) ∷
     marked 4 (Sent 33 2 (messages.Request (tx 1 2) 1 1 (wants.Read (read_of 0 0)))) ∷ marked 1 (Got 32) ∷
     marked 1 (Sent 34 4 (messages.Answer 32 (answers.Granted (grant_with 1 1 (line 1 1 1 1 0 1 ∷ [])))))
-        ∷ marked 4 (Got 34) ∷
+    ∷ marked 4 (Got 34) ∷
     marked 2 (Got 33) ∷ marked 2 (Sent 35 4 (messages.Answer 33 (answers.Clash (tx 2 1) 0 0))) ∷
     marked 2 (Sent 36 5 (messages.Inquiry (tx 2 1))) ∷ marked 5 (Got 36) ∷
     marked 5 (Sent 37 2 (messages.Decision (tx 2 1) outcomes.Active)) ∷ marked 4 (Got 35) ∷ marked 2 (Got 37) ∷
@@ -94,9 +94,9 @@ history =
     marked 4 (Sent 38 1 (messages.Request (tx 1 2) 1 1 (wants.Read (read_of 0 1)))) ∷
     marked 4 (Sent 39 2 (messages.Request (tx 1 2) 1 1 (wants.Read (read_of 0 1)))) ∷ marked 1 (Got 38) ∷
     marked 1 (Sent 40 4 (messages.Answer 38 (answers.Granted (grant_with 1 1 (line 1 1 1 1 0 1 ∷ [])))))
-        ∷ marked 4 (Got 40) ∷
+    ∷ marked 4 (Got 40) ∷
     marked 2 (Got 39)
-        ∷ marked 2 (Sent 41 4 (messages.Answer 39 (answers.Granted (grant_with 1 1 (line 1 1 1 1 0 1 ∷ []))))) ∷
+    ∷ marked 2 (Sent 41 4 (messages.Answer 39 (answers.Granted (grant_with 1 1 (line 1 1 1 1 0 1 ∷ []))))) ∷
     marked 4 (Got 41) ∷ marked 4 (Told replies.Absent) ∷ marked 4 (Called commands.Commit) ∷
     marked 4 (Sent 42 1 (messages.Request (tx 1 2) 1 1 wants.Prepare)) ∷
     marked 4 (Sent 43 2 (messages.Request (tx 1 2) 1 1 wants.Prepare)) ∷ marked 2 (Got 43) ∷
@@ -113,7 +113,7 @@ history =
     marked 4 (Sent 46 1 (messages.Request (tx_in 1 2 1) 1 0 (wants.Read (read_of 0 0)))) ∷
     marked 4 (Sent 47 2 (messages.Request (tx_in 1 2 1) 1 0 (wants.Read (read_of 0 0)))) ∷ marked 1 (Got 46) ∷
     marked 1 (Sent 48 4 (messages.Answer 46 (answers.Granted (grant_with 1 1 (line 1 1 1 1 0 1 ∷ [])))))
-        ∷ marked 4 (Got 48) ∷
+    ∷ marked 4 (Got 48) ∷
     marked 4 (Lost 47) ∷ marked 4 (Sent 49 0 (messages.Request (tx_in 1 2 1) 1 0 (wants.Read (read_of 0 0)))) ∷
     marked 0 (Got 49) ∷ marked 5 (Sent 50 2 (messages.Request (tx 2 1) 1 1 wants.Prepare)) ∷
     marked 5 (Sent 51 0 (messages.Request (tx 2 1) 1 1 wants.Prepare)) ∷ marked 2 (Got 50) ∷
@@ -125,7 +125,7 @@ history =
     marked 4 (Sent 55 1 (messages.Request (tx_in 1 2 1) 1 1 (wants.Read (read_of 0 2)))) ∷
     marked 4 (Sent 56 2 (messages.Request (tx_in 1 2 1) 1 0 (wants.Read (read_of 0 2)))) ∷ marked 1 (Got 55) ∷
     marked 1 (Sent 57 4 (messages.Answer 55 (answers.Granted (grant_with 1 1 (line 1 1 1 1 0 1 ∷ [])))))
-        ∷ marked 4 (Got 57) ∷
+    ∷ marked 4 (Got 57) ∷
     marked 4 (Lost 56) ∷ marked 4 (Sent 58 0 (messages.Request (tx_in 1 2 1) 1 0 (wants.Read (read_of 0 2)))) ∷
     marked 0 (Wrote (prepare (tx 2 1) 1 (read_lock 0 0 ∷ []) (own_line 1 0 0 ∷ []) [])) ∷
     marked 0 (Sent 59 5 (messages.Answer 51 (answers.Yes 0))) ∷ marked 0 (Got 58) ∷ marked 5 (Got 54) ∷
@@ -148,19 +148,19 @@ history =
     marked 6 (Called (commands.Epoch 2)) ∷ marked 4 (Called commands.Begin) ∷ marked 6 (Sent 68 0 (messages.Close 2)) ∷
     marked 6 (Sent 69 1 (messages.Close 2)) ∷ marked 1 (Got 69) ∷ marked 1 (Wrote (records.Close 2)) ∷
     marked 1
-        (Sent 70 6
-          (messages.Answer 69
-            (answers.Shut (snapshot_with 2 (line 1 1 1 1 0 1 ∷ [])
-              (prepared (tx 1 2) 1 (read_lock 0 0 ∷ read_lock 0 1 ∷ []) [] [] ∷ []))))) ∷
+    (Sent 70 6
+    (messages.Answer 69
+    (answers.Shut (snapshot_with 2 (line 1 1 1 1 0 1 ∷ [])
+    (prepared (tx 1 2) 1 (read_lock 0 0 ∷ read_lock 0 1 ∷ []) [] [] ∷ []))))) ∷
     marked 6 (Got 70) ∷ marked 0 (Got 68) ∷ marked 0 (Fell falls.Stop (Some (records.Close 2))) ∷ marked 6 (Lost 68) ∷
     marked 4 (Told (replies.Began (tx_in 1 2 2))) ∷ marked 4 (Called (commands.Do 0 2)) ∷
     marked 6 (Sent 71 2 (messages.Close 2)) ∷ marked 2 (Got 71) ∷ marked 2 (Wrote (records.Close 2)) ∷
     marked 2
-        (Sent 72 6
-          (messages.Answer 71
-            (answers.Shut (snapshot_with 1 (line 1 1 1 1 0 1 ∷ [])
-              (prepared (tx 1 2) 1 (read_lock 0 1 ∷ []) [] []
-                ∷ prepared (tx 2 1) 1 (read_lock 0 0 ∷ []) (own_line 1 0 0 ∷ []) [] ∷ []))))) ∷
+    (Sent 72 6
+    (messages.Answer 71
+    (answers.Shut (snapshot_with 1 (line 1 1 1 1 0 1 ∷ [])
+    (prepared (tx 1 2) 1 (read_lock 0 1 ∷ []) [] []
+    ∷ prepared (tx 2 1) 1 (read_lock 0 0 ∷ []) (own_line 1 0 0 ∷ []) [] ∷ []))))) ∷
     marked 6 (Got 72) ∷ marked 6 (Sent 73 4 (messages.Ask (tx 1 2))) ∷ marked 6 (Sent 74 5 (messages.Ask (tx 2 1))) ∷
     marked 6 (Lost 74) ∷ marked 3 (Called commands.Begin) ∷ marked 3 (Told (replies.Began (tx 0 1))) ∷
     marked 4 (Sent 75 1 (messages.Request (tx_in 1 2 2) 1 0 (wants.Read (read_of 0 2)))) ∷
@@ -169,9 +169,9 @@ history =
     marked 4 (Sent 78 6 (messages.Answer 73 (answers.Answered outcomes.Aborted))) ∷ marked 4 (Got 77) ∷
     marked 6 (Got 78) ∷ marked 6 (Told (replies.InDoubt (tx 2 1) 2)) ∷ marked 4 (Lost 76) ∷
     marked 3 (Called (commands.Do 0 1))
-        ∷ marked 3 (Sent 79 0 (messages.Request (tx 0 1) 1 0 (wants.Read (read_of 0 1)))) ∷
+    ∷ marked 3 (Sent 79 0 (messages.Request (tx 0 1) 1 0 (wants.Read (read_of 0 1)))) ∷
     marked 3 (Sent 80 1 (messages.Request (tx 0 1) 1 0 (wants.Read (read_of 0 1)))) ∷ marked 3 (Lost 79)
-        ∷ marked 1 (Got 80) ∷
+    ∷ marked 1 (Got 80) ∷
     marked 1 (Sent 81 3 (messages.Answer 80 (answers.Closed 2))) ∷ marked 4 (Told (replies.Closed 2 1)) ∷
     marked 4 (Called commands.Abort) ∷ marked 4 (Sent 82 1 (messages.Decision (tx_in 1 2 2) outcomes.Aborted)) ∷
     marked 4 (Sent 83 2 (messages.Decision (tx_in 1 2 2) outcomes.Aborted)) ∷ marked 4 (Told replies.Dropped) ∷
@@ -198,7 +198,7 @@ history =
     marked 0 (Sent 95 3 (messages.Answer 93 (answers.Behind 1))) ∷ marked 3 (Got 95) ∷ marked 1 (Got 94) ∷
     marked 1 (Sent 96 3 (messages.Answer 94 (answers.Behind 1))) ∷ marked 3 (Got 96) ∷
     marked 3 (Sent 97 2 (messages.Request (tx 0 2) 2 0 (wants.Read (read_of 0 1)))) ∷ marked 3 (Got 96)
-        ∷ marked 3 (Lost 97) ∷
+    ∷ marked 3 (Lost 97) ∷
     marked 3 (Told (replies.Quorum halves.Read 0 3)) ∷ marked 3 (Called (commands.Do 0 1)) ∷
     marked 3 (Sent 98 0 (messages.Request (tx 0 2) 2 0 (wants.Read (read_of 0 1)))) ∷
     marked 3 (Sent 99 1 (messages.Request (tx 0 2) 2 0 (wants.Read (read_of 0 1)))) ∷ marked 0 (Got 98) ∷

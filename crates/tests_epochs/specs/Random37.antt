@@ -34,23 +34,23 @@ history =
     marked 4 (Told replies.Down) ∷ marked 4 (Called (commands.Do 0 0)) ∷ marked 6 (Sent 0 0 (messages.Close 2)) ∷
     marked 6 (Sent 1 1 (messages.Close 2)) ∷ marked 6 (Sent 2 2 (messages.Close 2)) ∷ marked 0 (Got 0) ∷
     marked 0 (Wrote (records.Close 2)) ∷ marked 0 (Sent 3 6 (messages.Answer 0 (answers.Shut (snapshot_with 0 [] []))))
-        ∷
+    ∷
     marked 6 (Got 3) ∷ marked 5 (Called commands.Begin) ∷ marked 2 (Got 2) ∷ marked 5 (Told (replies.Began (tx 2 1))) ∷
     marked 5 (Called (commands.Do 0 0)) ∷ marked 4 (Told replies.Down) ∷ marked 2 (Wrote (records.Close 2)) ∷
     marked 2 (Sent 4 6 (messages.Answer 2 (answers.Shut (snapshot_with 0 [] [])))) ∷ marked 6 (Got 4) ∷ marked 1 (Got 1)
-        ∷
+    ∷
     marked 4 (Called (commands.Do 0 1)) ∷ marked 4 (Told replies.Down) ∷ marked 1 (Wrote (records.Close 2)) ∷
     marked 1 (Sent 5 6 (messages.Answer 1 (answers.Shut (snapshot_with 0 [] [])))) ∷ marked 4 (Called commands.Commit) ∷
     marked 4 (Told replies.Down) ∷ marked 6 (Got 5) ∷ marked 6 (Wrote (records.Decide (start_with 2 0 []))) ∷
     marked 6 (Sent 6 0 (messages.Install (start_with 2 0 [])))
-        ∷ marked 6 (Sent 7 1 (messages.Install (start_with 2 0 []))) ∷
+    ∷ marked 6 (Sent 7 1 (messages.Install (start_with 2 0 []))) ∷
     marked 6 (Sent 8 2 (messages.Install (start_with 2 0 []))) ∷ marked 0 (Got 6) ∷ marked 1 (Got 7) ∷ marked 2 (Got 8)
-        ∷
+    ∷
     marked 2 (Fell falls.Stop (Some (records.Install (start_with 2 0 []))))
-        ∷ marked 1 (Wrote (records.Install (start_with 2 0 []))) ∷
+    ∷ marked 1 (Wrote (records.Install (start_with 2 0 []))) ∷
     marked 1 (Sent 9 6 (messages.Answer 7 answers.Installed)) ∷ marked 6 (Got 9) ∷
     marked 0 (Wrote (records.Install (start_with 2 0 []))) ∷ marked 0 (Sent 10 6 (messages.Answer 6 answers.Installed))
-        ∷
+    ∷
     marked 6 (Got 10) ∷ marked 5 (Sent 11 2 (messages.Request (tx 2 1) 1 0 (wants.Read (read_of 0 0)))) ∷
     marked 5 (Sent 12 0 (messages.Request (tx 2 1) 1 0 (wants.Read (read_of 0 0)))) ∷ marked 6 (Lost 8) ∷
     marked 6 (Told (replies.Moved 7 3)) ∷ marked 0 (Got 12) ∷ marked 5 (Lost 11) ∷
@@ -58,7 +58,7 @@ history =
     marked 5 (Told (replies.Closed 2 0)) ∷ marked 5 (Called (commands.Do 0 0)) ∷
     marked 5 (Sent 14 2 (messages.Request (tx 2 1) 1 0 (wants.Read (read_of 0 0)))) ∷
     marked 5 (Sent 15 0 (messages.Request (tx 2 1) 1 0 (wants.Read (read_of 0 0)))) ∷ marked 5 (Lost 14)
-        ∷ marked 0 (Got 15) ∷
+    ∷ marked 0 (Got 15) ∷
     marked 0 (Sent 16 5 (messages.Answer 15 (answers.Closed 2))) ∷ marked 5 (Got 16) ∷
     marked 5 (Told (replies.Closed 2 0)) ∷ marked 5 (Called commands.Commit) ∷
     marked 5 (Wrote (commit (stamp 1 2) (tx 2 1) [])) ∷
@@ -70,12 +70,12 @@ history =
     marked 0 (Sent 20 6 (messages.Answer 0 (answers.Closed 2))) ∷ marked 5 (Told (replies.Began (tx 2 2))) ∷
     marked 0 (Got 12) ∷ marked 6 (Got 4) ∷ marked 5 (Called (commands.Do 0 0)) ∷
     marked 5 (Sent 21 2 (messages.Request (tx 2 2) 2 0 (wants.Read (read_of 0 0)))) ∷ marked 6 (Got 5)
-        ∷ marked 5 (Lost 21) ∷
+    ∷ marked 5 (Lost 21) ∷
     marked 0 (Sent 22 5 (messages.Answer 12 (answers.Closed 2))) ∷
     marked 5 (Sent 23 0 (messages.Request (tx 2 2) 2 0 (wants.Read (read_of 0 0)))) ∷ marked 0 (Got 23)
-        ∷ marked 5 (Got 22) ∷
+    ∷ marked 5 (Got 22) ∷
     marked 0 (Sent 24 5 (messages.Answer 23 (answers.Granted (grant_with 2 1 [])))) ∷ marked 6 (Got 19)
-        ∷ marked 6 (Got 20) ∷
+    ∷ marked 6 (Got 20) ∷
     marked 5 (Got 24) ∷ marked 5 (Told (replies.Quorum halves.Read 1 3)) ∷ marked 5 (Called (commands.Do 0 0)) ∷
     marked 5 (Sent 25 2 (messages.Request (tx 2 2) 2 0 (wants.Read (read_of 0 0)))) ∷ marked 5 (Lost 25) ∷
     marked 5 (Sent 26 0 (messages.Request (tx 2 2) 2 2 (wants.Read (read_of 0 0)))) ∷ marked 0 (Got 26) ∷
@@ -94,12 +94,12 @@ history =
     marked 4 (Called commands.Begin) ∷ marked 4 (Told (replies.Began (tx_in 1 2 1))) ∷
     marked 3 (Called commands.Begin) ∷ marked 3 (Told (replies.Began (tx 0 1))) ∷ marked 4 (Called (commands.Do 0 0)) ∷
     marked 3 (Called (commands.Do 0 0))
-        ∷ marked 4 (Sent 33 1 (messages.Request (tx_in 1 2 1) 1 0 (wants.Read (read_of 0 0)))) ∷
+    ∷ marked 4 (Sent 33 1 (messages.Request (tx_in 1 2 1) 1 0 (wants.Read (read_of 0 0)))) ∷
     marked 4 (Sent 34 2 (messages.Request (tx_in 1 2 1) 1 0 (wants.Read (read_of 0 0)))) ∷ marked 4 (Lost 34) ∷
     marked 3 (Sent 35 0 (messages.Request (tx 0 1) 1 0 (wants.Read (read_of 0 0)))) ∷
     marked 3 (Sent 36 1 (messages.Request (tx 0 1) 1 0 (wants.Read (read_of 0 0)))) ∷
     marked 3 (Sent 37 2 (messages.Request (tx 0 1) 1 0 (wants.Read (read_of 0 0)))) ∷ marked 3 (Lost 37)
-        ∷ marked 1 (Got 33) ∷
+    ∷ marked 1 (Got 33) ∷
     marked 0 (Got 35) ∷ marked 1 (Sent 38 4 (messages.Answer 33 (answers.Closed 2))) ∷ marked 1 (Got 36) ∷
     marked 1 (Sent 39 3 (messages.Answer 36 (answers.Closed 2))) ∷ marked 3 (Got 39) ∷ marked 4 (Got 38) ∷
     marked 4 (Told (replies.Closed 2 1)) ∷ marked 4 (Called commands.Commit) ∷
@@ -114,7 +114,7 @@ history =
     marked 3 (Sent 45 0 (messages.Request (tx 0 1) 1 0 (wants.Read (read_of 0 0)))) ∷
     marked 3 (Sent 46 1 (messages.Request (tx 0 1) 1 0 (wants.Read (read_of 0 0)))) ∷
     marked 3 (Sent 47 2 (messages.Request (tx 0 1) 1 0 (wants.Read (read_of 0 0)))) ∷ marked 3 (Lost 47)
-        ∷ marked 1 (Got 46) ∷
+    ∷ marked 1 (Got 46) ∷
     marked 1 (Sent 48 3 (messages.Answer 46 (answers.Closed 2))) ∷ marked 3 (Got 48) ∷ marked 0 (Got 45) ∷
     marked 0 (Sent 49 3 (messages.Answer 45 (answers.Closed 2))) ∷ marked 3 (Got 49) ∷
     marked 3 (Told (replies.Closed 2 0)) ∷ marked 3 (Called commands.Commit) ∷
@@ -124,7 +124,7 @@ history =
     marked 3 (Sent 52 2 (messages.Decision (tx 0 1) (outcomes.Committed (stamp 1 0)))) ∷
     marked 3 (Told (replies.Committed (stamp 1 0))) ∷ marked 1 (Got 51) ∷ marked 0 (Got 50) ∷ marked 7 (Phase 5) ∷
     marked 2 (Rose (records.Life ∷ (records.Close 2) ∷ (records.Install (start_with 2 0 [])) ∷ []))
-        ∷ marked 2 (Wrote records.Life) ∷
+    ∷ marked 2 (Wrote records.Life) ∷
     marked 3 (Fell falls.Script None) ∷ marked 3 (Rose ((commit (stamp 1 0) (tx 0 1) []) ∷ [])) ∷
     marked 3 (Wrote records.Life) ∷ marked 4 (Fell falls.Script None) ∷
     marked 4 (Rose (records.Life ∷ (commit (stamp 1 1) (tx_in 1 2 1) []) ∷ [])) ∷ marked 4 (Wrote records.Life) ∷
@@ -134,9 +134,9 @@ history =
     marked 5 (Called commands.Begin) ∷ marked 4 (Got 54) ∷
     marked 2 (Sent 56 3 (messages.Answer 37 (answers.Closed 2))) ∷ marked 5 (Told (replies.Began (tx_in 2 2 1))) ∷
     marked 5 (Called (commands.Do 0 0))
-        ∷ marked 5 (Sent 57 2 (messages.Request (tx_in 2 2 1) 1 0 (wants.Read (read_of 0 0)))) ∷
+    ∷ marked 5 (Sent 57 2 (messages.Request (tx_in 2 2 1) 1 0 (wants.Read (read_of 0 0)))) ∷
     marked 5 (Sent 58 0 (messages.Request (tx_in 2 2 1) 1 0 (wants.Read (read_of 0 0)))) ∷ marked 4 (Got 55)
-        ∷ marked 2 (Got 57) ∷
+    ∷ marked 2 (Got 57) ∷
     marked 0 (Got 58) ∷ marked 2 (Sent 59 5 (messages.Answer 57 (answers.Closed 2))) ∷ marked 5 (Got 59) ∷
     marked 0 (Sent 60 5 (messages.Answer 58 (answers.Closed 2))) ∷
     marked 1 (Sent 61 3 (messages.Answer 36 (answers.Closed 2))) ∷ marked 5 (Got 60) ∷
@@ -150,7 +150,7 @@ history =
     marked 3 (Sent 64 0 (messages.Request (tx_in 0 2 1) 1 0 (wants.Read (read_of 0 0)))) ∷
     marked 3 (Sent 65 1 (messages.Request (tx_in 0 2 1) 1 0 (wants.Read (read_of 0 0)))) ∷
     marked 3 (Sent 66 2 (messages.Request (tx_in 0 2 1) 1 0 (wants.Read (read_of 0 0)))) ∷ marked 0 (Got 64)
-        ∷ marked 2 (Got 66) ∷
+    ∷ marked 2 (Got 66) ∷
     marked 1 (Got 65) ∷ marked 1 (Sent 67 3 (messages.Answer 65 (answers.Closed 2))) ∷
     marked 0 (Sent 68 3 (messages.Answer 64 (answers.Closed 2))) ∷
     marked 2 (Sent 69 3 (messages.Answer 66 (answers.Closed 2))) ∷ marked 3 (Got 67) ∷ marked 3 (Got 68) ∷
@@ -168,13 +168,13 @@ history =
     marked 5 (Called (commands.Do 0 0)) ∷ marked 3 (Lost 74) ∷
     marked 5 (Sent 75 2 (messages.Request (tx_in 2 2 2) 2 0 (wants.Read (read_of 0 0)))) ∷ marked 2 (Got 75) ∷
     marked 6 (Called (commands.Epoch 3))
-        ∷ marked 2 (Sent 76 5 (messages.Answer 75 (answers.Granted (grant_with 4 2 [])))) ∷
+    ∷ marked 2 (Sent 76 5 (messages.Answer 75 (answers.Granted (grant_with 4 2 [])))) ∷
     marked 5 (Got 76) ∷
     marked 5 (Sent 77 2 (messages.Request (tx_in 2 2 2) 2 4 (wants.Append 0 [] (own_line 1 0 0 ∷ [])))) ∷
     marked 6 (Sent 78 0 (messages.Close 3)) ∷ marked 6 (Sent 79 2 (messages.Close 3)) ∷ marked 2 (Got 77) ∷
     marked 2 (Sent 80 5 (messages.Answer 77 (answers.Granted (grant_with 4 2 [])))) ∷ marked 2 (Got 79) ∷
     marked 2 (Wrote (records.Close 3))
-        ∷ marked 2 (Sent 81 6 (messages.Answer 79 (answers.Shut (snapshot_with 2 [] [])))) ∷
+    ∷ marked 2 (Sent 81 6 (messages.Answer 79 (answers.Shut (snapshot_with 2 [] [])))) ∷
     marked 5 (Got 80) ∷ marked 5 (Told (replies.Response 0)) ∷ marked 5 (Called commands.Commit) ∷
     marked 5 (Sent 82 2 (messages.Request (tx_in 2 2 2) 2 4 wants.Prepare)) ∷ marked 2 (Got 82) ∷
     marked 2 (Sent 83 5 (messages.Answer 82 (answers.Closed 3))) ∷ marked 5 (Got 83) ∷

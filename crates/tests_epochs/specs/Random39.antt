@@ -54,21 +54,21 @@ history =
     marked 4 (Sent 0 1 (messages.Request (tx 1 6) 1 0 (wants.Read (read_of 0 0)))) ∷
     marked 4 (Sent 1 2 (messages.Request (tx 1 6) 1 0 (wants.Read (read_of 0 0)))) ∷
     marked 4 (Sent 2 0 (messages.Request (tx 1 6) 1 0 (wants.Read (read_of 0 0)))) ∷ marked 0 (Got 2) ∷ marked 1 (Got 0)
-        ∷
+    ∷
     marked 2 (Got 1) ∷ marked 1 (Sent 3 4 (messages.Answer 0 (answers.Granted (grant_with 1 0 [])))) ∷ marked 4 (Got 3)
-        ∷
+    ∷
     marked 0 (Sent 4 4 (messages.Answer 2 (answers.Granted (grant_with 1 0 [])))) ∷ marked 4 (Got 4) ∷
     marked 2 (Sent 5 4 (messages.Answer 1 (answers.Granted (grant_with 1 0 [])))) ∷ marked 4 (Got 5) ∷
     marked 4 (Told replies.Absent) ∷ marked 4 (Called (commands.Do 0 0)) ∷
     marked 4 (Sent 6 1 (messages.Request (tx 1 6) 1 1 (wants.Read (read_of 0 0)))) ∷
     marked 4 (Sent 7 2 (messages.Request (tx 1 6) 1 1 (wants.Read (read_of 0 0)))) ∷
     marked 4 (Sent 8 0 (messages.Request (tx 1 6) 1 1 (wants.Read (read_of 0 0)))) ∷ marked 2 (Got 7) ∷ marked 0 (Got 8)
-        ∷
+    ∷
     marked 0 (Sent 9 4 (messages.Answer 8 (answers.Granted (grant_with 1 0 [])))) ∷ marked 1 (Got 6) ∷ marked 4 (Got 9)
-        ∷
+    ∷
     marked 1 (Sent 10 4 (messages.Answer 6 (answers.Granted (grant_with 1 0 [])))) ∷
     marked 2 (Sent 11 4 (messages.Answer 7 (answers.Granted (grant_with 1 0 [])))) ∷ marked 4 (Got 11)
-        ∷ marked 4 (Lost 6) ∷
+    ∷ marked 4 (Lost 6) ∷
     marked 4 (Told replies.Absent) ∷ marked 4 (Called commands.Commit) ∷
     marked 4 (Sent 12 1 (messages.Request (tx 1 6) 1 1 wants.Prepare)) ∷
     marked 4 (Sent 13 2 (messages.Request (tx 1 6) 1 1 wants.Prepare)) ∷
@@ -94,12 +94,12 @@ history =
     marked 6 (Got 22) ∷ marked 6 (Sent 26 4 (messages.Ask (tx 1 6))) ∷ marked 4 (Got 26) ∷
     marked 4 (Sent 27 6 (messages.Answer 26 (answers.Answered outcomes.Aborted))) ∷ marked 6 (Got 27) ∷
     marked 6 (Wrote (records.Decide (start_with 2 0 []))) ∷ marked 6 (Sent 28 0 (messages.Install (start_with 2 0 [])))
-        ∷
+    ∷
     marked 6 (Sent 29 1 (messages.Install (start_with 2 0 [])))
-        ∷ marked 6 (Sent 30 2 (messages.Install (start_with 2 0 []))) ∷
+    ∷ marked 6 (Sent 30 2 (messages.Install (start_with 2 0 []))) ∷
     marked 1 (Got 29) ∷ marked 2 (Got 30) ∷ marked 0 (Got 28) ∷ marked 0 (Wrote (records.Install (start_with 2 0 []))) ∷
     marked 0 (Sent 31 6 (messages.Answer 28 answers.Installed)) ∷ marked 1 (Wrote (records.Install (start_with 2 0 [])))
-        ∷
+    ∷
     marked 1 (Sent 32 6 (messages.Answer 29 answers.Installed)) ∷ marked 6 (Got 31) ∷
     marked 2 (Sent 33 6 (messages.Answer 30 answers.Fault)) ∷
     marked 2 (Fell falls.Disk (Some (records.Install (start_with 2 0 [])))) ∷ marked 6 (Got 32) ∷ marked 6 (Got 33) ∷
@@ -110,14 +110,14 @@ history =
     marked 5 (Told replies.Down) ∷ marked 5 (Called (commands.Do 0 0)) ∷ marked 5 (Told replies.Down) ∷
     marked 5 (Called (commands.Do 0 1)) ∷ marked 4 (Called commands.Begin) ∷ marked 4 (Told (replies.Began (tx 1 7))) ∷
     marked 4 (Called (commands.Do 0 1))
-        ∷ marked 4 (Sent 34 1 (messages.Request (tx 1 7) 1 0 (wants.Read (read_of 0 1)))) ∷
+    ∷ marked 4 (Sent 34 1 (messages.Request (tx 1 7) 1 0 (wants.Read (read_of 0 1)))) ∷
     marked 4 (Sent 35 2 (messages.Request (tx 1 7) 1 0 (wants.Read (read_of 0 1)))) ∷ marked 3 (Called commands.Begin) ∷
     marked 5 (Told replies.Down) ∷ marked 3 (Told (replies.Began (tx 0 1))) ∷ marked 5 (Called commands.Commit) ∷
     marked 5 (Told replies.Down) ∷ marked 3 (Called (commands.Do 0 1)) ∷
     marked 3 (Sent 36 0 (messages.Request (tx 0 1) 1 0 (wants.Read (read_of 0 1))))
-        ∷ marked 6 (Called (commands.Epoch 2)) ∷
+    ∷ marked 6 (Called (commands.Epoch 2)) ∷
     marked 6 (Sent 37 0 (messages.Install (start_with 2 0 [])))
-        ∷ marked 6 (Sent 38 1 (messages.Install (start_with 2 0 []))) ∷
+    ∷ marked 6 (Sent 38 1 (messages.Install (start_with 2 0 []))) ∷
     marked 6 (Sent 39 2 (messages.Install (start_with 2 0 []))) ∷ marked 2 (Got 35) ∷
     marked 2 (Sent 40 4 (messages.Answer 35 (answers.Closed 2))) ∷ marked 0 (Got 14) ∷
     marked 0 (Sent 41 4 (messages.Answer 14 (answers.Closed 2))) ∷ marked 2 (Got 39) ∷
@@ -143,7 +143,7 @@ history =
     marked 0 (Sent 57 3 (messages.Answer 55 (answers.Closed 2))) ∷ marked 3 (Got 57) ∷ marked 3 (Lost 56) ∷
     marked 3 (Told (replies.Closed 2 0)) ∷ marked 6 (Called (commands.Epoch 2)) ∷
     marked 6 (Sent 58 0 (messages.Install (start_with 2 0 [])))
-        ∷ marked 6 (Sent 59 1 (messages.Install (start_with 2 0 []))) ∷
+    ∷ marked 6 (Sent 59 1 (messages.Install (start_with 2 0 []))) ∷
     marked 6 (Sent 60 2 (messages.Install (start_with 2 0 []))) ∷ marked 1 (Got 59) ∷
     marked 1 (Sent 61 6 (messages.Answer 59 answers.Installed)) ∷ marked 6 (Got 61) ∷ marked 2 (Got 60) ∷
     marked 2 (Sent 62 6 (messages.Answer 60 answers.Installed)) ∷ marked 6 (Got 62) ∷ marked 0 (Got 58) ∷
@@ -154,7 +154,7 @@ history =
     marked 5 (Told (replies.Began (tx_in 2 3 1))) ∷ marked 5 (Called (commands.Do 0 1)) ∷
     marked 5 (Sent 64 2 (messages.Request (tx_in 2 3 1) 1 0 (wants.Read (read_of 0 1)))) ∷
     marked 5 (Sent 65 0 (messages.Request (tx_in 2 3 1) 1 0 (wants.Read (read_of 0 1))))
-        ∷ marked 4 (Called commands.Abort) ∷
+    ∷ marked 4 (Called commands.Abort) ∷
     marked 4 (Sent 66 0 (messages.Decision (tx 1 7) outcomes.Aborted)) ∷
     marked 4 (Sent 67 1 (messages.Decision (tx 1 7) outcomes.Aborted)) ∷
     marked 4 (Sent 68 2 (messages.Decision (tx 1 7) outcomes.Aborted)) ∷ marked 4 (Told replies.Dropped) ∷
@@ -164,7 +164,7 @@ history =
     marked 4 (Told (replies.Began (tx 1 8))) ∷ marked 4 (Called (commands.Do 0 1)) ∷ marked 0 (Got 65) ∷
     marked 1 (Got 70) ∷ marked 4 (Sent 71 1 (messages.Request (tx 1 8) 2 0 (wants.Append 0 [] (own_line 1 0 0 ∷ [])))) ∷
     marked 1 (Got 71) ∷ marked 1 (Sent 72 4 (messages.Answer 71 (answers.Granted (grant_with 2 0 []))))
-        ∷ marked 4 (Got 72) ∷
+    ∷ marked 4 (Got 72) ∷
     marked 0 (Sent 73 5 (messages.Answer 65 (answers.Closed 2))) ∷ marked 5 (Got 73) ∷
     marked 4 (Told (replies.Response 2)) ∷ marked 0 (Got 66) ∷ marked 2 (Got 64) ∷ marked 4 (Called commands.Commit) ∷
     marked 2 (Sent 74 5 (messages.Answer 64 (answers.Closed 2))) ∷
@@ -183,7 +183,7 @@ history =
     marked 5 (Called (commands.Do 0 1)) ∷
     marked 5 (Sent 80 1 (messages.Request (tx_in 2 3 2) 2 0 (wants.Append 0 [] (own_line 1 0 0 ∷ [])))) ∷
     marked 1 (Got 80) ∷ marked 1 (Sent 81 5 (messages.Answer 80 (answers.Granted (grant_with 2 6 []))))
-        ∷ marked 5 (Got 81) ∷
+    ∷ marked 5 (Got 81) ∷
     marked 5 (Told (replies.Response 2)) ∷ marked 0 (Got 69) ∷ marked 5 (Called commands.Commit) ∷
     marked 5 (Sent 82 1 (messages.Request (tx_in 2 3 2) 2 2 wants.Prepare)) ∷ marked 1 (Got 82) ∷
     marked 4 (Called commands.Begin) ∷ marked 4 (Told (replies.Began (tx 1 9))) ∷

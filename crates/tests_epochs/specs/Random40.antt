@@ -40,14 +40,14 @@ history =
     marked 3 (Sent 1 1 (messages.Request (tx 0 1) 1 0 (wants.Read (read_of 1 1)))) ∷
     marked 4 (Sent 2 1 (messages.Request (tx 1 1) 1 0 (wants.Read (read_of 0 0)))) ∷
     marked 4 (Sent 3 2 (messages.Request (tx 1 1) 1 0 (wants.Read (read_of 0 0)))) ∷ marked 2 (Got 3) ∷ marked 0 (Got 0)
-        ∷
+    ∷
     marked 2 (Sent 4 4 (messages.Answer 3 (answers.Granted (grant_with 1 0 [])))) ∷
     marked 0 (Sent 5 3 (messages.Answer 0 (answers.Granted (grant_with 1 0 [])))) ∷ marked 4 (Got 4) ∷ marked 3 (Got 5)
-        ∷
+    ∷
     marked 1 (Got 1) ∷ marked 1 (Sent 6 3 (messages.Answer 1 (answers.Granted (grant_with 1 0 [])))) ∷ marked 3 (Got 6)
-        ∷
+    ∷
     marked 1 (Got 2) ∷ marked 1 (Sent 7 4 (messages.Answer 2 (answers.Granted (grant_with 1 0 [])))) ∷ marked 4 (Got 7)
-        ∷
+    ∷
     marked 4 (Sent 8 1 (messages.Request (tx 1 1) 1 1 (wants.Append 0 [] (own_line 1 0 1 ∷ [])))) ∷
     marked 4 (Sent 9 2 (messages.Request (tx 1 1) 1 1 (wants.Append 0 [] (own_line 1 0 1 ∷ [])))) ∷
     marked 4 (Sent 10 0 (messages.Request (tx 1 1) 1 0 (wants.Append 0 [] (own_line 1 0 1 ∷ [])))) ∷ marked 2 (Got 9) ∷
@@ -64,7 +64,7 @@ history =
     marked 4 (Told (replies.Response 0)) ∷ marked 4 (Called (commands.Do 1 1)) ∷
     marked 4 (Sent 18 1 (messages.Request (tx 1 1) 1 1 (wants.Read (read_of 1 1)))) ∷
     marked 4 (Sent 19 2 (messages.Request (tx 1 1) 1 1 (wants.Read (read_of 1 1)))) ∷ marked 1 (Got 18)
-        ∷ marked 2 (Got 19) ∷
+    ∷ marked 2 (Got 19) ∷
     marked 2 (Sent 20 4 (messages.Answer 19 (answers.Granted (grant_with 1 0 [])))) ∷ marked 4 (Got 20) ∷
     marked 1 (Sent 21 4 (messages.Answer 18 (answers.Granted (grant_with 1 0 [])))) ∷ marked 4 (Got 21) ∷
     marked 3 (Told replies.Unknown) ∷
@@ -76,9 +76,9 @@ history =
     marked 7 (Armed 3 arms.Stop 3) ∷ marked 3 (Called commands.Begin) ∷ marked 5 (Called commands.Begin) ∷
     marked 5 (Told (replies.Began (tx 2 1))) ∷ marked 3 (Told (replies.Began (tx_in 0 2 1))) ∷
     marked 3 (Called (commands.Do 0 0))
-        ∷ marked 3 (Sent 23 0 (messages.Request (tx_in 0 2 1) 1 0 (wants.Read (read_of 0 0)))) ∷
+    ∷ marked 3 (Sent 23 0 (messages.Request (tx_in 0 2 1) 1 0 (wants.Read (read_of 0 0)))) ∷
     marked 3 (Sent 24 1 (messages.Request (tx_in 0 2 1) 1 0 (wants.Read (read_of 0 0)))) ∷ marked 1 (Got 24)
-        ∷ marked 0 (Got 23) ∷
+    ∷ marked 0 (Got 23) ∷
     marked 0 (Sent 25 3 (messages.Answer 23 (answers.Clash (tx 1 1) 0 1))) ∷
     marked 0 (Sent 26 4 (messages.Inquiry (tx 1 1))) ∷ marked 4 (Got 26) ∷ marked 3 (Got 25) ∷
     marked 4 (Sent 27 0 (messages.Decision (tx 1 1) outcomes.Active)) ∷ marked 0 (Got 27) ∷
@@ -86,17 +86,17 @@ history =
     marked 3 (Told (replies.Conflict (tx 1 1) 0)) ∷ marked 3 (Called (commands.Do 0 0)) ∷
     marked 3 (Sent 29 0 (messages.Request (tx_in 0 2 1) 1 0 (wants.Read (read_of 0 0)))) ∷
     marked 3 (Sent 30 1 (messages.Request (tx_in 0 2 1) 1 2 (wants.Read (read_of 0 0)))) ∷ marked 1 (Got 30)
-        ∷ marked 0 (Got 29) ∷
+    ∷ marked 0 (Got 29) ∷
     marked 0 (Sent 31 3 (messages.Answer 29 (answers.Clash (tx 1 1) 0 1))) ∷
     marked 0 (Sent 32 4 (messages.Inquiry (tx 1 1))) ∷ marked 4 (Got 32) ∷
     marked 4 (Sent 33 0 (messages.Decision (tx 1 1) outcomes.Active)) ∷
     marked 1 (Sent 34 3 (messages.Answer 30 (answers.Granted (grant_with 2 0 [])))) ∷ marked 0 (Got 33)
-        ∷ marked 3 (Got 31) ∷
+    ∷ marked 3 (Got 31) ∷
     marked 3 (Got 34) ∷ marked 3 (Told (replies.Conflict (tx 1 1) 0)) ∷ marked 3 (Called (commands.Do 0 1)) ∷
     marked 3 (Sent 35 0 (messages.Request (tx_in 0 2 1) 1 0 (wants.Read (read_of 0 1)))) ∷
     marked 3 (Sent 36 1 (messages.Request (tx_in 0 2 1) 1 2 (wants.Read (read_of 0 1)))) ∷ marked 1 (Got 36) ∷
     marked 1 (Sent 37 3 (messages.Answer 36 (answers.Granted (grant_with 2 0 [])))) ∷ marked 3 (Got 37)
-        ∷ marked 0 (Got 35) ∷
+    ∷ marked 0 (Got 35) ∷
     marked 0 (Sent 38 3 (messages.Answer 35 (answers.Clash (tx 1 1) 1 1))) ∷
     marked 0 (Sent 39 4 (messages.Inquiry (tx 1 1))) ∷ marked 3 (Got 38) ∷ marked 4 (Got 39) ∷
     marked 4 (Sent 40 0 (messages.Decision (tx 1 1) outcomes.Active)) ∷ marked 0 (Got 40) ∷
@@ -122,12 +122,12 @@ history =
     marked 5 (Sent 50 2 (messages.Request (tx 2 1) 1 0 (wants.Read (read_of 0 0)))) ∷
     marked 5 (Sent 51 0 (messages.Request (tx 2 1) 1 0 (wants.Read (read_of 0 0)))) ∷ marked 0 (Got 51) ∷
     marked 2 (Wrote (records.Close 2))
-        ∷ marked 2 (Sent 52 6 (messages.Answer 47 (answers.Shut (snapshot_with 0 [] [])))) ∷
+    ∷ marked 2 (Sent 52 6 (messages.Answer 47 (answers.Shut (snapshot_with 0 [] [])))) ∷
     marked 2 (Got 50) ∷ marked 6 (Got 52) ∷ marked 6 (Sent 53 3 (messages.Ask (tx 0 1))) ∷
     marked 3 (Sent 54 0 (messages.Request (tx_in 0 2 2) 1 0 (wants.Read (read_of 1 2)))) ∷
     marked 3 (Sent 55 1 (messages.Request (tx_in 0 2 2) 1 0 (wants.Read (read_of 1 2)))) ∷
     marked 3 (Sent 56 2 (messages.Request (tx_in 0 2 2) 1 0 (wants.Read (read_of 1 2)))) ∷ marked 1 (Got 55)
-        ∷ marked 3 (Got 53) ∷
+    ∷ marked 3 (Got 53) ∷
     marked 0 (Sent 57 5 (messages.Answer 51 (answers.Closed 2))) ∷
     marked 1 (Sent 58 3 (messages.Answer 55 (answers.Closed 2))) ∷ marked 0 (Got 54) ∷ marked 5 (Got 57) ∷
     marked 0 (Sent 59 3 (messages.Answer 54 (answers.Closed 2))) ∷
@@ -139,7 +139,7 @@ history =
     marked 3 (Told (replies.Closed 2 0)) ∷ marked 3 (Called (commands.Do 0 1)) ∷
     marked 3 (Sent 63 0 (messages.Request (tx_in 0 2 2) 1 0 (wants.Read (read_of 0 1)))) ∷
     marked 3 (Sent 64 1 (messages.Request (tx_in 0 2 2) 1 0 (wants.Read (read_of 0 1)))) ∷ marked 0 (Got 63)
-        ∷ marked 1 (Got 64) ∷
+    ∷ marked 1 (Got 64) ∷
     marked 5 (Told (replies.Closed 2 2)) ∷ marked 1 (Sent 65 3 (messages.Answer 64 (answers.Closed 2))) ∷
     marked 3 (Got 65) ∷ marked 5 (Called commands.Commit) ∷ marked 5 (Told replies.Unknown) ∷
     marked 5 (Fell falls.Disk (Some (commit (stamp 1 2) (tx 2 1) []))) ∷
@@ -160,9 +160,9 @@ history =
     marked 4 (Told replies.NoTransaction) ∷ marked 5 (Told replies.Down) ∷ marked 5 (Called commands.Commit) ∷
     marked 4 (Called (commands.Do 1 2)) ∷ marked 4 (Told replies.NoTransaction) ∷ marked 4 (Called commands.Commit) ∷
     marked 5 (Told replies.Down) ∷ marked 3 (Sent 71 0 (messages.Request (tx_in 0 2 2) 1 0 (wants.Read (read_of 0 0))))
-        ∷
+    ∷
     marked 3 (Sent 72 1 (messages.Request (tx_in 0 2 2) 1 0 (wants.Read (read_of 0 0)))) ∷ marked 0 (Got 71)
-        ∷ marked 1 (Got 72) ∷
+    ∷ marked 1 (Got 72) ∷
     marked 0 (Sent 73 3 (messages.Answer 71 (answers.Closed 2))) ∷ marked 3 (Got 73) ∷
     marked 1 (Sent 74 3 (messages.Answer 72 (answers.Closed 2))) ∷ marked 3 (Got 74) ∷
     marked 3 (Told (replies.Closed 2 0)) ∷ marked 3 (Called (commands.Do 1 0)) ∷
@@ -171,7 +171,7 @@ history =
     marked 3 (Got 76) ∷ marked 3 (Told (replies.Closed 2 0)) ∷ marked 3 (Called (commands.Do 1 1)) ∷
     marked 3 (Sent 77 0 (messages.Request (tx_in 0 2 2) 1 0 (wants.Read (read_of 1 1)))) ∷
     marked 3 (Sent 78 1 (messages.Request (tx_in 0 2 2) 1 0 (wants.Read (read_of 1 1)))) ∷ marked 0 (Got 77)
-        ∷ marked 1 (Got 78) ∷
+    ∷ marked 1 (Got 78) ∷
     marked 1 (Sent 79 3 (messages.Answer 78 (answers.Closed 2))) ∷ marked 3 (Got 79) ∷
     marked 0 (Sent 80 3 (messages.Answer 77 (answers.Closed 2))) ∷ marked 3 (Got 80) ∷
     marked 3 (Told (replies.Closed 2 0)) ∷ marked 3 (Called commands.Commit) ∷
@@ -182,7 +182,7 @@ history =
     marked 3 (Told (replies.Committed (stamp 3 0))) ∷ marked 0 (Got 81) ∷ marked 2 (Got 83) ∷ marked 1 (Got 82) ∷
     marked 3 (Called commands.Begin) ∷ marked 3 (Told (replies.Began (tx_in 0 2 3))) ∷
     marked 3 (Called (commands.Do 1 2))
-        ∷ marked 3 (Sent 84 0 (messages.Request (tx_in 0 2 3) 2 0 (wants.Read (read_of 1 2)))) ∷
+    ∷ marked 3 (Sent 84 0 (messages.Request (tx_in 0 2 3) 2 0 (wants.Read (read_of 1 2)))) ∷
     marked 0 (Got 84) ∷ marked 0 (Sent 85 3 (messages.Answer 84 (answers.Behind 1))) ∷ marked 3 (Got 85) ∷
     marked 3 (Sent 86 1 (messages.Request (tx_in 0 2 3) 2 0 (wants.Read (read_of 1 2)))) ∷ marked 1 (Got 86) ∷
     marked 1 (Sent 87 3 (messages.Answer 86 (answers.Behind 1))) ∷ marked 3 (Got 87) ∷

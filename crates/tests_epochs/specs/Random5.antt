@@ -48,7 +48,7 @@ history =
     marked 3 (Told (replies.Began (tx_in 2 2 1))) ∷ marked 3 (Called (commands.Do 0 0)) ∷ marked 2 (Got 5) ∷
     marked 3 (Sent 7 0 (messages.Request (tx_in 2 2 1) 1 0 (wants.Read (read_of 0 0)))) ∷ marked 0 (Got 7) ∷
     marked 0 (Sent 8 3 (messages.Answer 7 (answers.Granted (grant_with 1 1 (line 1 1 1 1 0 0 ∷ [])))))
-        ∷ marked 3 (Got 8) ∷
+    ∷ marked 3 (Got 8) ∷
     marked 2 (Called commands.Begin) ∷ marked 1 (Told (replies.Began (tx 0 1))) ∷ marked 1 (Called (commands.Do 1 1)) ∷
     marked 1 (Sent 9 0 (messages.Request (tx 0 1) 1 0 (wants.Read (read_of 1 1)))) ∷ marked 0 (Got 9) ∷
     marked 0 (Sent 10 1 (messages.Answer 9 (answers.Granted (grant_with 1 1 [])))) ∷ marked 1 (Got 10) ∷
@@ -59,14 +59,14 @@ history =
     marked 2 (Sent 12 0 (messages.Request (tx_in 1 2 1) 1 0 (wants.Read (read_of 0 1)))) ∷
     marked 1 (Sent 13 0 (messages.Request (tx 0 1) 1 1 (wants.Read (read_of 0 1)))) ∷
     marked 0 (Sent 14 3 (messages.Answer 11 (answers.Granted (grant_with 1 1 (line 1 1 1 1 0 0 ∷ [])))))
-        ∷ marked 3 (Got 14) ∷
+    ∷ marked 3 (Got 14) ∷
     marked 0 (Got 12) ∷
     marked 3 (Sent 15 0 (messages.Request (tx_in 2 2 1) 1 1 (wants.Append 0 (line 1 1 1 1 0 0 ∷ []) (own_line 2 0 1 ∷
     [])))) ∷
     marked 0 (Sent 16 2 (messages.Answer 12 (answers.Granted (grant_with 1 1 (line 1 1 1 1 0 0 ∷ [])))))
-        ∷ marked 2 (Got 16) ∷
+    ∷ marked 2 (Got 16) ∷
     marked 0 (Got 13)
-        ∷ marked 0 (Sent 17 1 (messages.Answer 13 (answers.Granted (grant_with 1 1 (line 1 1 1 1 0 0 ∷ []))))) ∷
+    ∷ marked 0 (Sent 17 1 (messages.Answer 13 (answers.Granted (grant_with 1 1 (line 1 1 1 1 0 0 ∷ []))))) ∷
     marked 0 (Got 15) ∷ marked 1 (Got 17) ∷
     marked 1 (Sent 18 0 (messages.Request (tx 0 1) 1 1 (wants.Append 0 (line 1 1 1 1 0 0 ∷ []) (own_line 2 0 1 ∷ []))))
     ∷

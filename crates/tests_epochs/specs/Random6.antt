@@ -34,14 +34,14 @@ history =
     marked 3 (Told (replies.Began (tx 0 1))) ∷ marked 3 (Called (commands.Do 0 0)) ∷
     marked 3 (Sent 0 0 (messages.Request (tx 0 1) 1 0 (wants.Read (read_of 0 0)))) ∷
     marked 3 (Sent 1 1 (messages.Request (tx 0 1) 1 0 (wants.Read (read_of 0 0)))) ∷ marked 1 (Got 1) ∷ marked 0 (Got 0)
-        ∷
+    ∷
     marked 1 (Sent 2 3 (messages.Answer 1 (answers.Granted (grant_with 1 0 [])))) ∷ marked 3 (Got 2) ∷
     marked 0 (Sent 3 3 (messages.Answer 0 (answers.Granted (grant_with 1 0 [])))) ∷ marked 3 (Got 3) ∷
     marked 3 (Sent 4 0 (messages.Request (tx 0 1) 1 1 (wants.Append 0 [] (own_line 1 0 0 ∷ [])))) ∷
     marked 3 (Sent 5 1 (messages.Request (tx 0 1) 1 1 (wants.Append 0 [] (own_line 1 0 0 ∷ [])))) ∷ marked 1 (Got 5) ∷
     marked 0 (Got 4) ∷ marked 1 (Sent 6 3 (messages.Answer 5 (answers.Granted (grant_with 1 0 [])))) ∷
     marked 0 (Sent 7 3 (messages.Answer 4 (answers.Granted (grant_with 1 0 [])))) ∷ marked 3 (Got 6) ∷ marked 3 (Got 7)
-        ∷
+    ∷
     marked 3 (Told (replies.Response 0)) ∷ marked 3 (Called (commands.Do 1 0)) ∷ marked 3 (Told (replies.Response 0)) ∷
     marked 3 (Called (commands.Do 1 0)) ∷ marked 3 (Told (replies.Response 0)) ∷ marked 3 (Called commands.Commit) ∷
     marked 3 (Sent 8 0 (messages.Request (tx 0 1) 1 1 wants.Prepare)) ∷
@@ -78,7 +78,7 @@ history =
     marked 3 (Sent 17 0 (messages.Request (tx_in 0 2 1) 1 0 (wants.Read (read_of 0 0)))) ∷
     marked 3 (Sent 18 1 (messages.Request (tx_in 0 2 1) 1 0 (wants.Read (read_of 0 0)))) ∷ marked 3 (Lost 18) ∷
     marked 0 (Got 16) ∷ marked 0 (Got 17)
-        ∷ marked 0 (Sent 19 3 (messages.Answer 17 (answers.Granted (grant_with 1 0 [])))) ∷
+    ∷ marked 0 (Sent 19 3 (messages.Answer 17 (answers.Granted (grant_with 1 0 [])))) ∷
     marked 3 (Got 19) ∷ marked 3 (Told (replies.Quorum halves.Read 1 2)) ∷ marked 5 (Phase 6) ∷
     marked 3 (Called commands.Commit) ∷ marked 3 (Sent 20 0 (messages.Request (tx_in 0 2 1) 1 1 wants.Prepare)) ∷
     marked 0 (Got 20) ∷ marked 0 (Sent 21 3 (messages.Answer 20 answers.Fault)) ∷

@@ -35,30 +35,30 @@ history =
     marked 6 (Called commands.Begin) ∷ marked 1 (Got 1) ∷ marked 2 (Got 2) ∷
     marked 1 (Fell falls.Stop (Some (records.Close 2))) ∷ marked 0 (Got 0) ∷ marked 2 (Wrote (records.Close 2)) ∷
     marked 2 (Sent 3 8 (messages.Answer 2 (answers.Shut (snapshot_with 0 [] [])))) ∷ marked 0 (Wrote (records.Close 2))
-        ∷
+    ∷
     marked 0 (Sent 4 8 (messages.Answer 0 (answers.Shut (snapshot_with 0 [] []))))
-        ∷ marked 6 (Told (replies.Began (tx 1 2))) ∷
+    ∷ marked 6 (Told (replies.Began (tx 1 2))) ∷
     marked 6 (Called (commands.Do 0 2)) ∷
     marked 6 (Sent 5 1 (messages.Request (tx 1 2) 1 0 (wants.Append 0 [] (own_line 1 0 4 ∷ [])))) ∷
     marked 6 (Sent 6 2 (messages.Request (tx 1 2) 1 0 (wants.Append 0 [] (own_line 1 0 4 ∷ [])))) ∷
     marked 6 (Sent 7 3 (messages.Request (tx 1 2) 1 0 (wants.Append 0 [] (own_line 1 0 4 ∷ [])))) ∷ marked 3 (Got 7) ∷
     marked 8 (Got 3) ∷ marked 3 (Sent 8 6 (messages.Answer 7 (answers.Granted (grant_with 1 0 [])))) ∷ marked 2 (Got 6)
-        ∷
+    ∷
     marked 2 (Sent 9 6 (messages.Answer 6 (answers.Closed 2))) ∷ marked 6 (Got 8) ∷ marked 8 (Got 4) ∷
     marked 8 (Lost 1) ∷ marked 8 (Sent 10 3 (messages.Close 2)) ∷ marked 3 (Got 10) ∷ marked 6 (Got 9) ∷
     marked 3 (Wrote (records.Close 2))
-        ∷ marked 3 (Sent 11 8 (messages.Answer 10 (answers.Shut (snapshot_with 0 [] [])))) ∷
+    ∷ marked 3 (Sent 11 8 (messages.Answer 10 (answers.Shut (snapshot_with 0 [] [])))) ∷
     marked 8 (Got 11) ∷ marked 8 (Wrote (records.Decide (start_with 2 0 [])))
-        ∷ marked 8 (Sent 12 0 (messages.Install (start_with 2 0 []))) ∷
+    ∷ marked 8 (Sent 12 0 (messages.Install (start_with 2 0 []))) ∷
     marked 8 (Sent 13 1 (messages.Install (start_with 2 0 [])))
-        ∷ marked 8 (Sent 14 2 (messages.Install (start_with 2 0 []))) ∷
+    ∷ marked 8 (Sent 14 2 (messages.Install (start_with 2 0 []))) ∷
     marked 8 (Sent 15 3 (messages.Install (start_with 2 0 [])))
-        ∷ marked 8 (Sent 16 4 (messages.Install (start_with 2 0 []))) ∷
+    ∷ marked 8 (Sent 16 4 (messages.Install (start_with 2 0 []))) ∷
     marked 3 (Got 15) ∷ marked 8 (Lost 13) ∷ marked 0 (Got 12) ∷ marked 3 (Wrote (records.Install (start_with 2 0 [])))
-        ∷
+    ∷
     marked 3 (Sent 17 8 (messages.Answer 15 answers.Installed)) ∷ marked 6 (Lost 5) ∷
     marked 0 (Wrote (records.Install (start_with 2 0 []))) ∷ marked 0 (Sent 18 8 (messages.Answer 12 answers.Installed))
-        ∷
+    ∷
     marked 6 (Told (replies.Closed 2 2)) ∷ marked 2 (Got 14) ∷
     marked 2 (Fell falls.Stop (Some (records.Install (start_with 2 0 [])))) ∷ marked 8 (Got 17) ∷ marked 8 (Got 18) ∷
     marked 8 (Lost 14) ∷ marked 8 (Lost 16) ∷ marked 8 (Told (replies.Moved 13 9)) ∷ marked 9 (Phase 2) ∷
@@ -72,7 +72,7 @@ history =
     marked 7 (Sent 23 2 (messages.Request (tx 2 1) 1 0 (wants.Read (read_of 0 0)))) ∷
     marked 7 (Sent 24 3 (messages.Request (tx 2 1) 1 0 (wants.Read (read_of 0 0)))) ∷
     marked 7 (Sent 25 4 (messages.Request (tx 2 1) 1 0 (wants.Read (read_of 0 0)))) ∷ marked 5 (Got 22)
-        ∷ marked 7 (Lost 23) ∷
+    ∷ marked 7 (Lost 23) ∷
     marked 3 (Got 24) ∷ marked 3 (Sent 26 7 (messages.Answer 24 (answers.Closed 2))) ∷ marked 5 (Lost 20) ∷
     marked 7 (Got 26) ∷ marked 5 (Lost 21) ∷ marked 5 (Told (replies.Closed 2 0)) ∷ marked 7 (Lost 25) ∷
     marked 7 (Told (replies.Closed 2 3)) ∷ marked 7 (Called commands.Commit) ∷

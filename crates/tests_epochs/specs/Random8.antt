@@ -35,7 +35,7 @@ history =
     marked 0 (Sent 1 5 (messages.Answer 0 (answers.Shut (snapshot_with 0 [] [])))) ∷ marked 5 (Got 1) ∷
     marked 5 (Wrote (records.Decide (start_with 2 0 []))) ∷ marked 5 (Sent 2 0 (messages.Install (start_with 2 0 []))) ∷
     marked 5 (Sent 3 1 (messages.Install (start_with 2 0 [])))
-        ∷ marked 5 (Sent 4 2 (messages.Install (start_with 2 0 []))) ∷ marked 0 (Got 2) ∷
+    ∷ marked 5 (Sent 4 2 (messages.Install (start_with 2 0 []))) ∷ marked 0 (Got 2) ∷
     marked 0 (Wrote (records.Install (start_with 2 0 []))) ∷ marked 0 (Sent 5 5 (messages.Answer 2 answers.Installed)) ∷
     marked 1 (Got 3) ∷ marked 1 (Wrote (records.Install (start_with 2 0 []))) ∷
     marked 1 (Sent 6 5 (messages.Answer 3 answers.Installed)) ∷ marked 5 (Got 5) ∷ marked 5 (Got 6) ∷
@@ -58,7 +58,7 @@ history =
     marked 3 (Called (commands.Do 1 0)) ∷ marked 3 (Told replies.Absent) ∷ marked 3 (Called (commands.Do 1 1)) ∷
     marked 3 (Told replies.Absent) ∷ marked 5 (Called (commands.Epoch 2)) ∷
     marked 5 (Sent 8 0 (messages.Install (start_with 2 0 [])))
-        ∷ marked 5 (Sent 9 1 (messages.Install (start_with 2 0 []))) ∷
+    ∷ marked 5 (Sent 9 1 (messages.Install (start_with 2 0 []))) ∷
     marked 5 (Sent 10 2 (messages.Install (start_with 2 0 []))) ∷ marked 3 (Called (commands.Do 1 0)) ∷
     marked 3 (Told replies.Absent) ∷ marked 3 (Called (commands.Do 0 0)) ∷ marked 3 (Told replies.Absent) ∷
     marked 1 (Got 9) ∷ marked 1 (Sent 11 5 (messages.Answer 9 answers.Installed)) ∷ marked 3 (Called commands.Commit) ∷

@@ -31,10 +31,10 @@ history =
     marked 7 (Phase 1) ∷ marked 7 (Armed 5 arms.Fail 3) ∷ marked 3 (Called commands.Begin) ∷
     marked 3 (Told (replies.Began (tx 1 1))) ∷ marked 3 (Called (commands.Do 0 0)) ∷ marked 2 (Called commands.Begin) ∷
     marked 2 (Told (replies.Began (tx 0 1)))
-        ∷ marked 3 (Sent 0 1 (messages.Request (tx 1 1) 1 0 (wants.Read (read_of 0 0)))) ∷
+    ∷ marked 3 (Sent 0 1 (messages.Request (tx 1 1) 1 0 (wants.Read (read_of 0 0)))) ∷
     marked 1 (Got 0) ∷ marked 5 (Called commands.Begin) ∷ marked 5 (Told (replies.Began (tx 3 1))) ∷
     marked 1 (Sent 1 3 (messages.Answer 0 (answers.Granted (grant_with 1 0 [])))) ∷ marked 5 (Called (commands.Do 0 2))
-        ∷
+    ∷
     marked 5 (Sent 2 1 (messages.Request (tx 3 1) 1 0 (wants.Append 0 [] (own_line 1 0 4 ∷ [])))) ∷
     marked 2 (Called (commands.Do 0 2)) ∷ marked 3 (Got 1) ∷
     marked 3 (Sent 3 1 (messages.Request (tx 1 1) 1 1 (wants.Append 0 [] (own_line 1 0 0 ∷ [])))) ∷ marked 1 (Got 2) ∷
@@ -44,9 +44,9 @@ history =
     marked 2 (Sent 7 0 (messages.Request (tx 0 1) 1 0 (wants.Append 0 [] (own_line 1 0 4 ∷ [])))) ∷
     marked 2 (Sent 8 1 (messages.Request (tx 0 1) 1 0 (wants.Append 0 [] (own_line 1 0 4 ∷ [])))) ∷ marked 0 (Got 7) ∷
     marked 1 (Got 3) ∷ marked 1 (Sent 9 3 (messages.Answer 3 (answers.Granted (grant_with 1 0 [])))) ∷ marked 1 (Got 6)
-        ∷
+    ∷
     marked 0 (Sent 10 2 (messages.Answer 7 (answers.Granted (grant_with 1 0 [])))) ∷ marked 1 (Got 8) ∷ marked 3 (Got 9)
-        ∷
+    ∷
     marked 3 (Told (replies.Response 0)) ∷ marked 3 (Called commands.Commit) ∷
     marked 1 (Sent 11 2 (messages.Answer 8 (answers.Clash (tx 1 1) 0 4))) ∷
     marked 1 (Sent 12 3 (messages.Inquiry (tx 1 1))) ∷ marked 5 (Told (replies.Conflict (tx 1 1) 1)) ∷
@@ -73,7 +73,7 @@ history =
     marked 2 (Sent 23 1 (messages.Request (tx 0 2) 1 0 (wants.Read (read_of 0 1)))) ∷ marked 2 (Lost 22) ∷
     marked 1 (Wrote (records.Close 2)) ∷
     marked 1 (Sent 24 6 (messages.Answer 20 (answers.Shut (snapshot_with 1 (line 1 1 1 1 0 0 ∷ []) []))))
-        ∷ marked 1 (Got 23) ∷
+    ∷ marked 1 (Got 23) ∷
     marked 6 (Got 24) ∷ marked 6 (Wrote (records.Decide (start_with 2 1 (line 1 1 1 1 0 0 ∷ [])))) ∷
     marked 6 (Sent 25 0 (messages.Install (start_with 2 1 (line 1 1 1 1 0 0 ∷ [])))) ∷
     marked 6 (Sent 26 1 (messages.Install (start_with 2 1 (line 1 1 1 1 0 0 ∷ [])))) ∷ marked 6 (Lost 25) ∷
@@ -82,13 +82,13 @@ history =
     marked 1 (Wrote (records.Install (start_with 2 1 (line 1 1 1 1 0 0 ∷ [])))) ∷
     marked 1 (Sent 28 6 (messages.Answer 26 answers.Installed)) ∷ marked 6 (Got 28) ∷
     marked 6 (Told (replies.Moved 2 2))
-        ∷ marked 2 (Sent 29 0 (messages.Request (tx 0 2) 1 0 (wants.Read (read_of 0 1)))) ∷
+    ∷ marked 2 (Sent 29 0 (messages.Request (tx 0 2) 1 0 (wants.Read (read_of 0 1)))) ∷
     marked 2 (Sent 30 1 (messages.Request (tx 0 2) 1 0 (wants.Read (read_of 0 1)))) ∷ marked 1 (Got 30)
-        ∷ marked 2 (Lost 29) ∷
+    ∷ marked 2 (Lost 29) ∷
     marked 1 (Sent 31 2 (messages.Answer 30 (answers.Closed 2))) ∷ marked 2 (Got 31) ∷
     marked 2 (Told (replies.Closed 2 1)) ∷ marked 2 (Called (commands.Do 0 1)) ∷
     marked 2 (Sent 32 0 (messages.Request (tx 0 2) 1 0 (wants.Read (read_of 0 1)))) ∷
     marked 2 (Sent 33 1 (messages.Request (tx 0 2) 1 0 (wants.Read (read_of 0 1)))) ∷ marked 1 (Got 33)
-        ∷ marked 2 (Lost 32) ∷
+    ∷ marked 2 (Lost 32) ∷
     marked 1 (Sent 34 2 (messages.Answer 33 (answers.Closed 2))) ∷ marked 2 (Got 34) ∷
     marked 2 (Told (replies.Closed 2 1)) ∷ []

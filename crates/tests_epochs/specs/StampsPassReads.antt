@@ -27,7 +27,7 @@ history =
     marked 3 (Sent 1 1 (messages.Request (tx 0 4) 1 0 (wants.Read (read_of 0 0)))) ∷ marked 0 (Got 0) ∷
     marked 0 (Sent 2 3 (messages.Answer 0 (answers.Granted (grant_with 1 0 [])))) ∷ marked 1 (Got 1) ∷
     marked 1 (Sent 3 3 (messages.Answer 1 (answers.Granted (grant_with 1 0 [])))) ∷ marked 3 (Got 2) ∷ marked 3 (Got 3)
-        ∷
+    ∷
     marked 3 (Told (replies.Response 0)) ∷ marked 3 (Called commands.Commit) ∷
     marked 3 (Sent 4 0 (messages.Request (tx 0 4) 1 1 wants.Prepare)) ∷
     marked 3 (Sent 5 1 (messages.Request (tx 0 4) 1 1 wants.Prepare)) ∷ marked 0 (Got 4) ∷
@@ -49,13 +49,13 @@ history =
     marked 6 (Got 12) ∷ marked 6 (Got 13) ∷ marked 6 (Sent 14 3 (messages.Ask (tx 0 4))) ∷ marked 3 (Got 14) ∷
     marked 3 (Sent 15 6 (messages.Answer 14 (answers.Answered (outcomes.Committed (stamp 4 0))))) ∷ marked 6 (Got 15) ∷
     marked 6 (Wrote (records.Decide (start_with 2 4 []))) ∷ marked 6 (Sent 16 0 (messages.Install (start_with 2 4 [])))
-        ∷
+    ∷
     marked 6 (Sent 17 1 (messages.Install (start_with 2 4 [])))
-        ∷ marked 6 (Sent 18 2 (messages.Install (start_with 2 4 []))) ∷
+    ∷ marked 6 (Sent 18 2 (messages.Install (start_with 2 4 []))) ∷
     marked 0 (Got 16) ∷ marked 0 (Wrote (records.Install (start_with 2 4 []))) ∷
     marked 0 (Sent 19 6 (messages.Answer 16 answers.Installed)) ∷ marked 1 (Got 17) ∷
     marked 1 (Wrote (records.Install (start_with 2 4 []))) ∷ marked 1 (Sent 20 6 (messages.Answer 17 answers.Installed))
-        ∷
+    ∷
     marked 2 (Got 18) ∷ marked 2 (Wrote (records.Install (start_with 2 4 []))) ∷
     marked 2 (Sent 21 6 (messages.Answer 18 answers.Installed)) ∷ marked 6 (Got 19) ∷ marked 6 (Got 20) ∷
     marked 6 (Got 21) ∷ marked 6 (Told (replies.Moved 3 7)) ∷ marked 7 (Phase 3) ∷ marked 4 (Called commands.Begin) ∷
@@ -75,7 +75,7 @@ history =
     marked 1 (Sent 31 4 (messages.Answer 28 (answers.Granted (grant_with 2 4 [])))) ∷ marked 2 (Got 29) ∷
     marked 2 (Sent 32 4 (messages.Answer 29 (answers.Granted (grant_with 1 4 [])))) ∷ marked 0 (Got 30) ∷
     marked 0 (Sent 33 4 (messages.Answer 30 (answers.Granted (grant_with 2 4 [])))) ∷ marked 4 (Got 31)
-        ∷ marked 4 (Got 32) ∷
+    ∷ marked 4 (Got 32) ∷
     marked 4 (Got 33) ∷ marked 4 (Told (replies.Response 2)) ∷ marked 4 (Called commands.Commit) ∷
     marked 4 (Sent 34 1 (messages.Request (tx 1 2) 2 2 wants.Prepare)) ∷
     marked 4 (Sent 35 2 (messages.Request (tx 1 2) 2 1 wants.Prepare)) ∷

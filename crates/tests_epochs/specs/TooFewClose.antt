@@ -25,7 +25,7 @@ history =
     marked 3 (Sent 5 1 (messages.Request (tx 0 1) 1 0 (wants.Append 0 [] (own_line 1 0 3 ∷ [])))) ∷ marked 0 (Got 4) ∷
     marked 0 (Sent 6 3 (messages.Answer 4 (answers.Granted (grant_with 1 0 [])))) ∷ marked 1 (Got 5) ∷
     marked 1 (Sent 7 3 (messages.Answer 5 (answers.Granted (grant_with 1 0 [])))) ∷ marked 3 (Got 6) ∷ marked 3 (Got 7)
-        ∷
+    ∷
     marked 3 (Told (replies.Response 2)) ∷ marked 3 (Called commands.Commit) ∷
     marked 3 (Sent 8 0 (messages.Request (tx 0 1) 1 1 wants.Prepare)) ∷
     marked 3 (Sent 9 1 (messages.Request (tx 0 1) 1 1 wants.Prepare)) ∷ marked 0 (Got 8) ∷
@@ -41,7 +41,7 @@ history =
     marked 6 (Called (commands.Epoch 2)) ∷ marked 6 (Sent 14 0 (messages.Close 2)) ∷
     marked 6 (Sent 15 1 (messages.Close 2)) ∷ marked 0 (Got 14) ∷ marked 0 (Wrote (records.Close 2)) ∷
     marked 0 (Sent 16 6 (messages.Answer 14 (answers.Shut (snapshot_with 1 (line 1 0 1 1 0 3 ∷ []) []))))
-        ∷ marked 6 (Got 16) ∷
+    ∷ marked 6 (Got 16) ∷
     marked 6 (Lost 15) ∷ marked 6 (Sent 17 2 (messages.Close 2)) ∷ marked 2 (Got 17) ∷
     marked 2 (Sent 18 6 (messages.Answer 17 (answers.Shut (snapshot_with 0 [] [])))) ∷ marked 6 (Got 18) ∷
     marked 6 (Wrote (records.Decide (start_with 2 1 (line 1 0 1 1 0 3 ∷ [])))) ∷
@@ -57,11 +57,11 @@ history =
     marked 4 (Sent 24 1 (messages.Request (tx 1 1) 1 0 (wants.Read (read_of 0 0)))) ∷
     marked 4 (Sent 25 2 (messages.Request (tx 1 1) 1 0 (wants.Read (read_of 0 0)))) ∷ marked 1 (Got 24) ∷
     marked 1 (Sent 26 4 (messages.Answer 24 (answers.Granted (grant_with 1 1 (line 1 0 1 1 0 3 ∷ [])))))
-        ∷ marked 2 (Got 25) ∷
+    ∷ marked 2 (Got 25) ∷
     marked 2 (Sent 27 4 (messages.Answer 25 (answers.Closed 2))) ∷ marked 4 (Got 26) ∷ marked 4 (Got 27) ∷
     marked 4 (Told (replies.Closed 2 2)) ∷ marked 7 (Phase 4) ∷ marked 7 (Heal 6 1) ∷
     marked 6 (Called (commands.Epoch 2))
-        ∷ marked 6 (Sent 28 0 (messages.Install (start_with 2 1 (line 1 0 1 1 0 3 ∷ [])))) ∷
+    ∷ marked 6 (Sent 28 0 (messages.Install (start_with 2 1 (line 1 0 1 1 0 3 ∷ [])))) ∷
     marked 6 (Sent 29 1 (messages.Install (start_with 2 1 (line 1 0 1 1 0 3 ∷ [])))) ∷
     marked 6 (Sent 30 2 (messages.Install (start_with 2 1 (line 1 0 1 1 0 3 ∷ [])))) ∷ marked 0 (Got 28) ∷
     marked 0 (Sent 31 6 (messages.Answer 28 answers.Installed)) ∷ marked 1 (Got 29) ∷

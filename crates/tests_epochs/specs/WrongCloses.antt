@@ -28,9 +28,9 @@ a_site_asked_twice =
     take 35 moved_once.history ++
     marked 6 (Sent 11 0 (messages.Close 2)) ∷ marked 0 (Got 10) ∷ marked 0 (Wrote (records.Close 2)) ∷
     marked 0 (Sent 12 6 (messages.Answer 10 (answers.Shut (snapshot_with 1 (line 1 0 1 1 0 3 ∷ []) []))))
-        ∷ marked 0 (Got 11) ∷
+    ∷ marked 0 (Got 11) ∷
     marked 0 (Sent 13 6 (messages.Answer 11 (answers.Shut (snapshot_with 1 (line 1 0 1 1 0 3 ∷ []) []))))
-        ∷ marked 6 (Got 12) ∷
+    ∷ marked 6 (Got 12) ∷
     marked 6 (Got 13) ∷ marked 6 (Wrote (records.Decide (start_with 2 1 (line 1 0 1 1 0 3 ∷ [])))) ∷ []
 
 -- Another site is asked than the next one of the round.
@@ -39,7 +39,7 @@ another_site_asked =
     take 35 moved_once.history ++
     marked 6 (Sent 11 2 (messages.Close 2)) ∷ marked 0 (Got 10) ∷ marked 0 (Wrote (records.Close 2)) ∷
     marked 0 (Sent 12 6 (messages.Answer 10 (answers.Shut (snapshot_with 1 (line 1 0 1 1 0 3 ∷ []) []))))
-        ∷ marked 2 (Got 11) ∷
+    ∷ marked 2 (Got 11) ∷
     marked 2 (Sent 13 6 (messages.Answer 11 (answers.Shut (snapshot_with 1 (line 1 0 1 1 0 3 ∷ []) []))))
-        ∷ marked 6 (Got 12) ∷
+    ∷ marked 6 (Got 12) ∷
     marked 6 (Got 13) ∷ marked 6 (Wrote (records.Decide (start_with 2 1 (line 1 0 1 1 0 3 ∷ [])))) ∷ []

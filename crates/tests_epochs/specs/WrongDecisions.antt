@@ -31,7 +31,7 @@ abbrev pub aborted_lines_merged : List Entry
 aborted_lines_merged =
     take 108 several_promises.history ++
     marked 6 (Wrote (records.Decide (start_with 2 2 (line 1 0 1 1 0 3 ∷ line 1 2 1 1 0 3 ∷ line 2 1 1 1 0 2 ∷ []))))
-        ∷ []
+    ∷ []
 
 -- A line is there that no site told.
 abbrev pub a_line_that_nobody_told : List Entry
@@ -50,12 +50,12 @@ abbrev pub another_log_installed : List Entry
 another_log_installed =
     take 45 moved_once.history ++
     marked 6 (Sent 14 0 (messages.Install (start_with 2 1 [])))
-        ∷ marked 6 (Sent 15 1 (messages.Install (start_with 2 1 []))) ∷
+    ∷ marked 6 (Sent 15 1 (messages.Install (start_with 2 1 []))) ∷
     marked 6 (Sent 16 2 (messages.Install (start_with 2 1 []))) ∷ marked 0 (Got 14)
-        ∷ marked 0 (Wrote (records.Install (start_with 2 1 []))) ∷
+    ∷ marked 0 (Wrote (records.Install (start_with 2 1 []))) ∷
     marked 0 (Sent 17 6 (messages.Answer 14 answers.Installed)) ∷ marked 1 (Got 15) ∷
     marked 1 (Wrote (records.Install (start_with 2 1 []))) ∷ marked 1 (Sent 18 6 (messages.Answer 15 answers.Installed))
-        ∷
+    ∷
     marked 2 (Got 16) ∷ marked 2 (Wrote (records.Install (start_with 2 1 []))) ∷
     marked 2 (Sent 19 6 (messages.Answer 16 answers.Installed)) ∷ marked 6 (Got 17) ∷ marked 6 (Got 18) ∷
     marked 6 (Got 19) ∷ marked 6 (Told (replies.Moved 3 7)) ∷ []

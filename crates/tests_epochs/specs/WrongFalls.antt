@@ -25,7 +25,7 @@ abbrev pub fault_before_a_fall : List Entry
 fault_before_a_fall =
     take 45 moved_once.history ++
     marked 6 (Told replies.Fault)
-        ∷ marked 6 (Fell falls.Disk (Some (records.Decide (start_with 2 1 (line 1 0 1 1 0 3 ∷ []))))) ∷ []
+    ∷ marked 6 (Fell falls.Disk (Some (records.Decide (start_with 2 1 (line 1 0 1 1 0 3 ∷ []))))) ∷ []
 
 -- Fault is told as his disk stops, and he doesn't fall.
 abbrev pub fault_and_no_fall : List Entry
@@ -47,9 +47,9 @@ decided_again_though_it_rose =
     marked 6 (Called (commands.Epoch 2)) ∷ marked 6 (Sent 14 0 (messages.Close 2)) ∷
     marked 6 (Sent 15 1 (messages.Close 2)) ∷ marked 0 (Got 14) ∷
     marked 0 (Sent 16 6 (messages.Answer 14 (answers.Shut (snapshot_with 1 (line 1 0 1 1 0 3 ∷ []) []))))
-        ∷ marked 1 (Got 15) ∷
+    ∷ marked 1 (Got 15) ∷
     marked 1 (Sent 17 6 (messages.Answer 15 (answers.Shut (snapshot_with 1 (line 1 0 1 1 0 3 ∷ []) []))))
-        ∷ marked 6 (Got 16) ∷
+    ∷ marked 6 (Got 16) ∷
     marked 6 (Got 17) ∷ marked 6 (Wrote (records.Decide (start_with 2 1 (line 1 0 1 1 0 3 ∷ [])))) ∷ []
 
 -- A risen administrator decides an epoch again that his records have.

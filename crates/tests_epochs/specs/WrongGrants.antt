@@ -46,15 +46,15 @@ refused_for_what_was_dropped =
     marked 6 (Sent 5 1 (messages.Close 2)) ∷ marked 0 (Got 4) ∷ marked 0 (Wrote (records.Close 2)) ∷
     marked 0 (Sent 6 6 (messages.Answer 4 (answers.Shut (snapshot_with 0 [] [])))) ∷ marked 1 (Got 5) ∷
     marked 1 (Wrote (records.Close 2)) ∷ marked 1 (Sent 7 6 (messages.Answer 5 (answers.Shut (snapshot_with 0 [] []))))
-        ∷
+    ∷
     marked 6 (Got 6) ∷ marked 6 (Got 7) ∷ marked 6 (Wrote (records.Decide (start_with 2 0 []))) ∷
     marked 6 (Sent 8 0 (messages.Install (start_with 2 0 [])))
-        ∷ marked 6 (Sent 9 1 (messages.Install (start_with 2 0 []))) ∷
+    ∷ marked 6 (Sent 9 1 (messages.Install (start_with 2 0 []))) ∷
     marked 6 (Sent 10 2 (messages.Install (start_with 2 0 []))) ∷ marked 0 (Got 8)
-        ∷ marked 0 (Wrote (records.Install (start_with 2 0 []))) ∷
+    ∷ marked 0 (Wrote (records.Install (start_with 2 0 []))) ∷
     marked 0 (Sent 11 6 (messages.Answer 8 answers.Installed)) ∷ marked 1 (Got 9) ∷
     marked 1 (Wrote (records.Install (start_with 2 0 []))) ∷ marked 1 (Sent 12 6 (messages.Answer 9 answers.Installed))
-        ∷
+    ∷
     marked 2 (Got 10) ∷ marked 2 (Wrote (records.Install (start_with 2 0 []))) ∷
     marked 2 (Sent 13 6 (messages.Answer 10 answers.Installed)) ∷ marked 6 (Got 11) ∷ marked 6 (Got 12) ∷
     marked 6 (Got 13) ∷ marked 6 (Told (replies.Moved 3 7)) ∷ marked 7 (Phase 3) ∷ marked 4 (Called commands.Begin) ∷

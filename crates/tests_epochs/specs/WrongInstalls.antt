@@ -29,7 +29,7 @@ abbrev pub earlier_installs_count : List Entry
 earlier_installs_count =
     take 65 installed_again.history ++
     marked 6 (Called (commands.Epoch 3))
-        ∷ marked 6 (Sent 20 0 (messages.Install (start_with 2 1 (line 1 0 1 1 0 3 ∷ [])))) ∷
+    ∷ marked 6 (Sent 20 0 (messages.Install (start_with 2 1 (line 1 0 1 1 0 3 ∷ [])))) ∷
     marked 6 (Sent 21 1 (messages.Install (start_with 2 1 (line 1 0 1 1 0 3 ∷ [])))) ∷
     marked 6 (Sent 22 2 (messages.Install (start_with 2 1 (line 1 0 1 1 0 3 ∷ [])))) ∷ marked 0 (Got 20) ∷
     marked 0 (Sent 23 6 (messages.Answer 20 answers.Installed)) ∷ marked 1 (Got 21) ∷
@@ -39,13 +39,13 @@ earlier_installs_count =
     marked 6 (Sent 27 1 (messages.Close 3)) ∷ marked 6 (Sent 28 2 (messages.Close 3)) ∷ marked 0 (Got 26) ∷
     marked 0 (Wrote (records.Close 3)) ∷
     marked 0 (Sent 29 6 (messages.Answer 26 (answers.Shut (snapshot_with 1 (line 1 0 1 1 0 3 ∷ []) []))))
-        ∷ marked 1 (Got 27) ∷
+    ∷ marked 1 (Got 27) ∷
     marked 1 (Wrote (records.Close 3)) ∷
     marked 1 (Sent 30 6 (messages.Answer 27 (answers.Shut (snapshot_with 1 (line 1 0 1 1 0 3 ∷ []) []))))
-        ∷ marked 2 (Got 28) ∷
+    ∷ marked 2 (Got 28) ∷
     marked 2 (Wrote (records.Close 3)) ∷
     marked 2 (Sent 31 6 (messages.Answer 28 (answers.Shut (snapshot_with 1 (line 1 0 1 1 0 3 ∷ []) []))))
-        ∷ marked 6 (Got 29) ∷
+    ∷ marked 6 (Got 29) ∷
     marked 6 (Got 30) ∷ marked 6 (Got 31) ∷ marked 6 (Wrote (records.Decide (start_with 3 1 (line 1 0 1 1 0 3 ∷ [])))) ∷
     marked 6 (Told (replies.Moved 7 7)) ∷ []
 

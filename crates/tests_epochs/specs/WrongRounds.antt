@@ -20,7 +20,7 @@ abbrev pub decided_twice : List Entry
 decided_twice =
     take 62 moved_once.history ++
     marked 6 (Called (commands.Epoch 2)) ∷ marked 6 (Wrote (records.Decide (start_with 2 1 (line 1 0 1 1 0 3 ∷ []))))
-        ∷ []
+    ∷ []
 
 -- An epoch is decided, though too few sites have closed.
 abbrev pub decided_by_too_few : List Entry
@@ -36,13 +36,13 @@ decided_by_another_plan =
     marked 6 (Sent 21 1 (messages.Close 3)) ∷ marked 6 (Sent 22 2 (messages.Close 3)) ∷ marked 0 (Got 20) ∷
     marked 0 (Wrote (records.Close 3)) ∷
     marked 0 (Sent 23 6 (messages.Answer 20 (answers.Shut (snapshot_with 1 (line 1 0 1 1 0 3 ∷ []) []))))
-        ∷ marked 1 (Got 21) ∷
+    ∷ marked 1 (Got 21) ∷
     marked 1 (Wrote (records.Close 3)) ∷
     marked 1 (Sent 24 6 (messages.Answer 21 (answers.Shut (snapshot_with 1 (line 1 0 1 1 0 3 ∷ []) []))))
-        ∷ marked 2 (Got 22) ∷
+    ∷ marked 2 (Got 22) ∷
     marked 2 (Wrote (records.Close 3)) ∷
     marked 2 (Sent 25 6 (messages.Answer 22 (answers.Shut (snapshot_with 1 (line 1 0 1 1 0 3 ∷ []) []))))
-        ∷ marked 6 (Got 23) ∷
+    ∷ marked 6 (Got 23) ∷
     marked 6 (Got 24) ∷ marked 6 (Wrote (records.Decide (start_with 3 1 (line 1 0 1 1 0 3 ∷ [])))) ∷ []
 
 -- What a site told for an earlier command counts.

@@ -59,15 +59,15 @@ promised_once_closed =
     marked 6 (Sent 5 1 (messages.Close 2)) ∷ marked 0 (Got 4) ∷ marked 0 (Wrote (records.Close 2)) ∷
     marked 0 (Sent 6 6 (messages.Answer 4 (answers.Shut (snapshot_with 0 [] [])))) ∷ marked 1 (Got 5) ∷
     marked 1 (Wrote (records.Close 2)) ∷ marked 1 (Sent 7 6 (messages.Answer 5 (answers.Shut (snapshot_with 0 [] []))))
-        ∷
+    ∷
     marked 6 (Got 6) ∷ marked 6 (Got 7) ∷ marked 6 (Wrote (records.Decide (start_with 2 0 []))) ∷
     marked 6 (Sent 8 0 (messages.Install (start_with 2 0 [])))
-        ∷ marked 6 (Sent 9 1 (messages.Install (start_with 2 0 []))) ∷
+    ∷ marked 6 (Sent 9 1 (messages.Install (start_with 2 0 []))) ∷
     marked 6 (Sent 10 2 (messages.Install (start_with 2 0 []))) ∷ marked 1 (Got 9)
-        ∷ marked 1 (Wrote (records.Install (start_with 2 0 []))) ∷
+    ∷ marked 1 (Wrote (records.Install (start_with 2 0 []))) ∷
     marked 1 (Sent 11 6 (messages.Answer 9 answers.Installed)) ∷ marked 2 (Got 10) ∷
     marked 2 (Wrote (records.Install (start_with 2 0 []))) ∷ marked 2 (Sent 12 6 (messages.Answer 10 answers.Installed))
-        ∷
+    ∷
     marked 6 (Got 11) ∷ marked 6 (Got 12) ∷ marked 6 (Lost 8) ∷ marked 6 (Told (replies.Moved 3 6)) ∷
     marked 7 (Phase 3) ∷ marked 3 (Called commands.Commit) ∷
     marked 3 (Sent 13 0 (messages.Request (tx 0 1) 1 1 wants.Prepare)) ∷
@@ -86,7 +86,7 @@ abbrev pub installed_without_a_line : List Entry
 installed_without_a_line =
     take 49 moved_once.history ++
     marked 0 (Wrote (records.Install (start_with 2 1 []))) ∷ marked 0 (Sent 17 6 (messages.Answer 14 answers.Installed))
-        ∷ []
+    ∷ []
 
 -- A site installs an earlier epoch than its own.
 abbrev pub an_earlier_epoch_installed : List Entry
@@ -109,7 +109,7 @@ redeemed_once_installed =
     ∷
     marked 1 (Got 13) ∷ marked 1 (Wrote (records.Close 2)) ∷
     marked 1 (Sent 15 6 (messages.Answer 13 (answers.Shut (snapshot_with 1 (line 1 0 1 1 0 3 ∷ []) []))))
-        ∷ marked 6 (Got 14) ∷
+    ∷ marked 6 (Got 14) ∷
     marked 6 (Got 15) ∷ marked 6 (Sent 16 3 (messages.Ask (tx 0 1))) ∷ marked 3 (Got 16) ∷
     marked 3 (Sent 17 6 (messages.Answer 16 (answers.Answered (outcomes.Committed (stamp 1 0))))) ∷ marked 6 (Got 17) ∷
     marked 6 (Wrote (records.Decide (start_with 2 1 (line 1 0 1 1 0 3 ∷ [])))) ∷

@@ -21,7 +21,7 @@ old_grant_refused =
 pub old_grant_unwritten_refused : IsNoPost three 1 wrong_sites.old_grant_unwritten wrong_sites.old_grant_unwritten_then
 old_grant_unwritten_refused =
     refused three 1 wrong_sites.old_grant_unwritten wrong_sites.old_grant_unwritten_then refl
-        (λ e. let never : ⊥ = cc in never)
+    (λ e. let never : ⊥ = cc in never)
     (λ e. let never : ⊥ = cc in never) (λ e. let never : ⊥ = cc in never)
 
 pub nothing_asked_refused : IsNoPost three 0 wrong_sites.nothing_asked wrong_sites.nothing_asked_then
@@ -63,7 +63,7 @@ pub committed_unwritten_refused : IsNoPost three 3 wrong_clients.committed_unwri
     wrong_clients.committed_unwritten_then
 committed_unwritten_refused =
     refused three 3 wrong_clients.committed_unwritten wrong_clients.committed_unwritten_then refl
-        (λ e. let never : ⊥ = cc in never)
+    (λ e. let never : ⊥ = cc in never)
     (λ e. let never : ⊥ = cc in never) (λ e. let never : ⊥ = cc in never)
 
 pub old_name_refused : IsNoPost three 3 wrong_clients.old_name wrong_clients.old_name_then
@@ -99,7 +99,7 @@ record_more_refused (inr e) = let never : ⊥ = cc in never
 pub begun_while_down_refused : IsNoPost three 3 wrong_clients.begun_while_down wrong_clients.begun_while_down_then
 begun_while_down_refused =
     refused three 3 wrong_clients.begun_while_down wrong_clients.begun_while_down_then refl
-        (λ e. let never : ⊥ = cc in never)
+    (λ e. let never : ⊥ = cc in never)
     (λ e. let never : ⊥ = cc in never) (λ e. let never : ⊥ = cc in never)
 
 pub stamp_again_refused : IsNoPost three 3 wrong_clients.stamp_again wrong_clients.stamp_again_then

@@ -34,7 +34,7 @@ history =
     marked 3 (Sent 1 1 (messages.Request (tx 0 1) 1 0 (wants.Append 0 [] (own_line 1 0 3 ∷ [])))) ∷ marked 0 (Got 0) ∷
     marked 0 (Sent 2 3 (messages.Answer 0 (answers.Granted (grant_with 1 0 [])))) ∷ marked 1 (Got 1) ∷
     marked 1 (Sent 3 3 (messages.Answer 1 (answers.Granted (grant_with 1 0 [])))) ∷ marked 3 (Got 2) ∷ marked 3 (Got 3)
-        ∷
+    ∷
     marked 3 (Told (replies.Response 2)) ∷ marked 3 (Called commands.Commit) ∷
     marked 3 (Sent 4 0 (messages.Request (tx 0 1) 1 1 wants.Prepare)) ∷
     marked 3 (Sent 5 1 (messages.Request (tx 0 1) 1 1 wants.Prepare)) ∷ marked 0 (Got 4) ∷
@@ -53,16 +53,16 @@ history =
     marked 1 (Sent 12 4 (messages.Answer 10 (answers.Clash (tx 0 1) 0 3))) ∷
     marked 1 (Sent 13 3 (messages.Inquiry (tx 0 1))) ∷ marked 2 (Got 11) ∷
     marked 2 (Sent 14 4 (messages.Answer 11 (answers.Granted (grant_with 1 0 [])))) ∷ marked 4 (Got 12)
-        ∷ marked 3 (Got 13) ∷
+    ∷ marked 3 (Got 13) ∷
     marked 3 (Sent 15 1 (messages.Decision (tx 0 1) (outcomes.Committed (stamp 1 0)))) ∷ marked 4 (Got 14) ∷
     marked 4 (Told (replies.Conflict (tx 0 1) 1)) ∷ marked 1 (Got 15) ∷ marked 1 (Wrote (records.Done (tx 0 1) 1)) ∷
     marked 7 (Phase 3) ∷ marked 4 (Called (commands.Do 0 0)) ∷
     marked 4 (Sent 16 1 (messages.Request (tx 1 1) 1 0 (wants.Read (read_of 0 0)))) ∷
     marked 4 (Sent 17 2 (messages.Request (tx 1 1) 1 1 (wants.Read (read_of 0 0)))) ∷ marked 1 (Got 16) ∷
     marked 1 (Sent 18 4 (messages.Answer 16 (answers.Granted (grant_with 1 1 (line 1 0 1 1 0 3 ∷ [])))))
-        ∷ marked 2 (Got 17) ∷
+    ∷ marked 2 (Got 17) ∷
     marked 2 (Sent 19 4 (messages.Answer 17 (answers.Granted (grant_with 1 0 [])))) ∷ marked 4 (Got 18)
-        ∷ marked 4 (Got 19) ∷
+    ∷ marked 4 (Got 19) ∷
     marked 4 (Told (replies.Response 1)) ∷ marked 4 (Called commands.Commit) ∷
     marked 4 (Sent 20 1 (messages.Request (tx 1 1) 1 1 wants.Prepare)) ∷
     marked 4 (Sent 21 2 (messages.Request (tx 1 1) 1 1 wants.Prepare)) ∷ marked 1 (Got 20) ∷

@@ -42,7 +42,7 @@ history =
     marked 4 (Sent 0 1 (messages.Request (tx 1 1) 1 0 (wants.Read (read_of 0 1)))) ∷
     marked 4 (Sent 1 2 (messages.Request (tx 1 1) 1 0 (wants.Read (read_of 0 1)))) ∷ marked 1 (Got 0) ∷
     marked 1 (Sent 2 4 (messages.Answer 0 (answers.Granted (grant_with 1 0 [])))) ∷ marked 4 (Got 2) ∷ marked 2 (Got 1)
-        ∷
+    ∷
     marked 2 (Sent 3 4 (messages.Answer 1 (answers.Granted (grant_with 1 0 [])))) ∷ marked 4 (Got 3) ∷
     marked 4 (Sent 4 1 (messages.Request (tx 1 1) 1 1 (wants.Append 0 [] (own_line 1 0 1 ∷ [])))) ∷
     marked 4 (Sent 5 2 (messages.Request (tx 1 1) 1 1 (wants.Append 0 [] (own_line 1 0 1 ∷ [])))) ∷
@@ -50,7 +50,7 @@ history =
     marked 1 (Sent 7 4 (messages.Answer 4 (answers.Granted (grant_with 1 0 [])))) ∷ marked 2 (Got 5) ∷
     marked 2 (Sent 8 4 (messages.Answer 5 (answers.Granted (grant_with 1 0 [])))) ∷ marked 0 (Got 6) ∷
     marked 0 (Sent 9 4 (messages.Answer 6 (answers.Granted (grant_with 1 0 [])))) ∷ marked 4 (Got 7) ∷ marked 4 (Got 8)
-        ∷
+    ∷
     marked 4 (Got 9) ∷ marked 4 (Told (replies.Response 0)) ∷ marked 4 (Called commands.Commit) ∷
     marked 4 (Sent 10 1 (messages.Request (tx 1 1) 1 1 wants.Prepare)) ∷
     marked 4 (Sent 11 2 (messages.Request (tx 1 1) 1 1 wants.Prepare)) ∷

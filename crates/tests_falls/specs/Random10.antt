@@ -44,7 +44,7 @@ history =
     marked 1 (Told (replies.Began (tx 0 1))) ∷ marked 1 (Called (commands.Do 1 0)) ∷
     marked 1 (Sent 0 0 (messages.Request (tx 0 1) 1 0 (wants.Read (read_of 1 0)))) ∷ marked 4 (Told replies.Dropped) ∷
     marked 0 (Got 0) ∷ marked 0 (Sent 1 1 (messages.Answer 0 (answers.Granted (grant_with 1 0 [])))) ∷ marked 1 (Got 1)
-        ∷
+    ∷
     marked 1 (Sent 2 0 (messages.Request (tx 0 1) 1 1 (wants.Append 1 [] (own_line 1 1 0 ∷ [])))) ∷ marked 0 (Got 2) ∷
     marked 0 (Sent 3 1 (messages.Answer 2 (answers.Granted (grant_with 1 0 [])))) ∷ marked 1 (Got 3) ∷
     marked 1 (Told (replies.Response 0)) ∷ marked 1 (Called (commands.Do 1 0)) ∷
@@ -63,12 +63,12 @@ history =
     marked 2 (Called commands.Begin) ∷ marked 1 (Called commands.Begin) ∷ marked 2 (Told replies.Down) ∷
     marked 2 (Called (commands.Do 1 0)) ∷ marked 1 (Told (replies.Began (tx 0 3))) ∷
     marked 1 (Called (commands.Do 1 0)) ∷ marked 1 (Sent 9 0 (messages.Request (tx 0 3) 1 0 (wants.Read (read_of 1 0))))
-        ∷
+    ∷
     marked 0 (Got 9) ∷ marked 2 (Told replies.Down) ∷ marked 2 (Called (commands.Do 0 0)) ∷
     marked 2 (Told replies.Down) ∷ marked 0 (Sent 10 1 (messages.Answer 9 (answers.Granted (grant_with 2 0 [])))) ∷
     marked 1 (Got 10) ∷ marked 1 (Sent 11 0 (messages.Request (tx 0 3) 1 2 (wants.Append 1 [] (own_line 1 1 0 ∷ [])))) ∷
     marked 0 (Got 11) ∷ marked 0 (Sent 12 1 (messages.Answer 11 (answers.Granted (grant_with 2 0 []))))
-        ∷ marked 1 (Got 12) ∷
+    ∷ marked 1 (Got 12) ∷
     marked 1 (Told (replies.Response 0)) ∷ marked 1 (Called commands.Commit) ∷
     marked 1 (Sent 13 0 (messages.Request (tx 0 3) 1 2 wants.Prepare)) ∷ marked 0 (Got 13) ∷
     marked 0 (Sent 14 1 (messages.Answer 13 answers.Fault)) ∷

@@ -41,9 +41,9 @@ history =
     marked 3 (Told (replies.Began (tx 0 1))) ∷ marked 5 (Phase 2) ∷ marked 5 (Heal 3 2) ∷
     marked 0 (Fell falls.Script None) ∷ marked 0 (Rose []) ∷ marked 0 (Wrote records.Life) ∷
     marked 3 (Called (commands.Do 0 0)) ∷ marked 3 (Sent 0 1 (messages.Request (tx 0 1) 1 0 (wants.Read (read_of 0 0))))
-        ∷
+    ∷
     marked 1 (Got 0) ∷ marked 1 (Sent 1 3 (messages.Answer 0 (answers.Granted (grant_with 1 0 [])))) ∷ marked 3 (Got 1)
-        ∷
+    ∷
     marked 3 (Told (replies.Response 0)) ∷ marked 3 (Called commands.Commit) ∷
     marked 3 (Sent 2 1 (messages.Request (tx 0 1) 1 1 wants.Prepare)) ∷ marked 1 (Got 2) ∷
     marked 1 (Wrote (prepare (tx 0 1) 1 (read_lock 0 0 ∷ []) [] [])) ∷

@@ -53,7 +53,7 @@ history =
     marked 3 (Sent 2 0 (messages.Request (tx 0 2) 1 2 (wants.Append 0 [] (own_line 1 0 2 ∷ [])))) ∷
     marked 3 (Sent 3 1 (messages.Request (tx 0 2) 1 0 (wants.Append 0 [] (own_line 1 0 2 ∷ [])))) ∷ marked 1 (Got 3) ∷
     marked 1 (Sent 4 3 (messages.Answer 3 (answers.Granted (grant_with 1 0 [])))) ∷ marked 0 (Got 2) ∷ marked 3 (Got 4)
-        ∷
+    ∷
     marked 0 (Sent 5 3 (messages.Answer 2 (answers.Granted (grant_with 2 0 [])))) ∷ marked 3 (Got 5) ∷
     marked 3 (Told (replies.Response 2)) ∷ marked 3 (Called (commands.Do 1 1)) ∷
     marked 3 (Sent 6 0 (messages.Request (tx 0 2) 1 2 (wants.Read (read_of 1 1)))) ∷ marked 0 (Got 6) ∷

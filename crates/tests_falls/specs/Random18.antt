@@ -48,7 +48,7 @@ history =
     marked 2 (Sent 0 0 (messages.Request (tx 0 1) 1 0 (wants.Append 0 [] (own_line 1 0 2 ∷ [])))) ∷
     marked 2 (Sent 1 1 (messages.Request (tx 0 1) 1 0 (wants.Append 0 [] (own_line 1 0 2 ∷ [])))) ∷ marked 1 (Got 1) ∷
     marked 1 (Sent 2 2 (messages.Answer 1 (answers.Granted (grant_with 1 0 [])))) ∷ marked 2 (Got 2) ∷ marked 0 (Got 0)
-        ∷
+    ∷
     marked 0 (Sent 3 2 (messages.Answer 0 (answers.Granted (grant_with 1 0 [])))) ∷ marked 2 (Got 3) ∷
     marked 2 (Told (replies.Response 1)) ∷ marked 5 (Phase 3) ∷ marked 5 (Cut 2 0) ∷ marked 1 (Fell falls.Script None) ∷
     marked 1 (Rose []) ∷ marked 1 (Wrote records.Life) ∷ marked 2 (Called (commands.Do 0 2)) ∷
@@ -58,7 +58,7 @@ history =
     marked 2 (Told (replies.Quorum halves.Read 0 2)) ∷ marked 2 (Called (commands.Do 0 0)) ∷
     marked 2 (Sent 7 0 (messages.Request (tx 0 1) 1 1 (wants.Read (read_of 0 0)))) ∷
     marked 2 (Sent 8 1 (messages.Request (tx 0 1) 1 1 (wants.Read (read_of 0 0)))) ∷ marked 2 (Lost 7)
-        ∷ marked 1 (Got 8) ∷
+    ∷ marked 1 (Got 8) ∷
     marked 1 (Sent 9 2 (messages.Answer 8 (answers.Restarted 2))) ∷ marked 2 (Got 9) ∷
     marked 2 (Told (replies.Quorum halves.Read 0 2)) ∷ marked 2 (Called (commands.Do 0 1)) ∷
     marked 2 (Sent 10 0 (messages.Request (tx 0 1) 1 1 (wants.Append 0 [] (own_line 1 0 2 ∷ own_line 2 0 2 ∷ [])))) ∷
@@ -78,7 +78,7 @@ history =
     marked 3 (Sent 18 1 (messages.Request (tx 1 2) 1 2 (wants.Read (read_of 0 2)))) ∷
     marked 3 (Sent 19 0 (messages.Request (tx 1 2) 1 0 (wants.Read (read_of 0 2)))) ∷ marked 1 (Got 18) ∷
     marked 1 (Sent 20 3 (messages.Answer 18 (answers.Granted (grant_with 2 0 [])))) ∷ marked 3 (Got 20)
-        ∷ marked 0 (Got 19) ∷
+    ∷ marked 0 (Got 19) ∷
     marked 0 (Sent 21 3 (messages.Answer 19 (answers.Clash (tx 0 1) 2 2))) ∷
     marked 0 (Sent 22 2 (messages.Inquiry (tx 0 1))) ∷ marked 3 (Got 21) ∷
     marked 3 (Told (replies.Conflict (tx 0 1) 0)) ∷ marked 5 (Phase 4) ∷ marked 5 (Heal 2 0) ∷ marked 5 (Cut 3 1) ∷

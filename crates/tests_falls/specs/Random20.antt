@@ -58,7 +58,7 @@ history =
     marked 3 (Called commands.Begin) ∷ marked 3 (Told (replies.Began (tx_in 1 2 1))) ∷
     marked 2 (Called commands.Begin) ∷ marked 2 (Told (replies.Began (tx 0 1))) ∷ marked 2 (Called (commands.Do 0 1)) ∷
     marked 3 (Called (commands.Do 0 0))
-        ∷ marked 3 (Sent 4 1 (messages.Request (tx_in 1 2 1) 1 0 (wants.Read (read_of 0 0)))) ∷
+    ∷ marked 3 (Sent 4 1 (messages.Request (tx_in 1 2 1) 1 0 (wants.Read (read_of 0 0)))) ∷
     marked 3 (Sent 5 0 (messages.Request (tx_in 1 2 1) 1 0 (wants.Read (read_of 0 0)))) ∷ marked 1 (Got 4) ∷
     marked 1 (Sent 6 3 (messages.Answer 4 (answers.Clash (tx 1 1) 0 2))) ∷
     marked 1 (Sent 7 3 (messages.Inquiry (tx 1 1))) ∷ marked 0 (Got 5) ∷ marked 3 (Got 6) ∷
@@ -77,7 +77,7 @@ history =
     marked 2 (Called commands.Begin) ∷ marked 2 (Told (replies.Began (tx 0 2))) ∷ marked 2 (Called (commands.Do 0 0)) ∷
     marked 2 (Sent 16 0 (messages.Request (tx 0 2) 1 0 (wants.Read (read_of 0 0)))) ∷
     marked 2 (Sent 17 1 (messages.Request (tx 0 2) 1 0 (wants.Read (read_of 0 0)))) ∷ marked 1 (Got 17)
-        ∷ marked 2 (Lost 16) ∷
+    ∷ marked 2 (Lost 16) ∷
     marked 1 (Sent 18 2 (messages.Answer 17 (answers.Granted (grant_with 1 0 [])))) ∷ marked 3 (Lost 14) ∷
     marked 3 (Sent 19 0 (messages.Decision (tx_in 1 2 1) outcomes.Aborted)) ∷
     marked 3 (Sent 20 1 (messages.Decision (tx_in 1 2 1) outcomes.Aborted)) ∷

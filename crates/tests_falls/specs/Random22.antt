@@ -51,7 +51,7 @@ history =
     marked 5 (Sent 0 0 (messages.Request (tx 0 1) 1 0 (wants.Read (read_of 0 1)))) ∷
     marked 5 (Sent 1 1 (messages.Request (tx 0 1) 1 0 (wants.Read (read_of 0 1)))) ∷
     marked 5 (Sent 2 2 (messages.Request (tx 0 1) 1 0 (wants.Read (read_of 0 1)))) ∷ marked 2 (Got 2) ∷ marked 0 (Got 0)
-        ∷
+    ∷
     marked 1 (Got 1) ∷ marked 0 (Sent 3 5 (messages.Answer 0 (answers.Granted (grant_with 2 0 [])))) ∷
     marked 2 (Sent 4 5 (messages.Answer 2 (answers.Granted (grant_with 1 0 [])))) ∷
     marked 1 (Sent 5 5 (messages.Answer 1 (answers.Granted (grant_with 1 0 [])))) ∷ marked 6 (Called commands.Begin) ∷
@@ -59,11 +59,11 @@ history =
     marked 6 (Sent 6 1 (messages.Request (tx 1 1) 1 0 (wants.Read (read_of 0 0)))) ∷
     marked 6 (Sent 7 2 (messages.Request (tx 1 1) 1 0 (wants.Read (read_of 0 0)))) ∷
     marked 6 (Sent 8 3 (messages.Request (tx 1 1) 1 0 (wants.Read (read_of 0 0)))) ∷ marked 3 (Got 8) ∷ marked 1 (Got 6)
-        ∷
+    ∷
     marked 1 (Sent 9 6 (messages.Answer 6 (answers.Granted (grant_with 1 0 [])))) ∷ marked 2 (Got 7) ∷
     marked 2 (Sent 10 6 (messages.Answer 7 (answers.Granted (grant_with 1 0 [])))) ∷
     marked 3 (Sent 11 6 (messages.Answer 8 (answers.Granted (grant_with 1 0 [])))) ∷ marked 5 (Got 4) ∷ marked 5 (Got 5)
-        ∷
+    ∷
     marked 5 (Told (replies.Response 1)) ∷ marked 6 (Got 9) ∷ marked 6 (Got 10) ∷ marked 6 (Got 11) ∷
     marked 6 (Sent 12 1 (messages.Request (tx 1 1) 1 1 (wants.Append 0 [] (own_line 1 0 0 ∷ [])))) ∷
     marked 6 (Sent 13 2 (messages.Request (tx 1 1) 1 1 (wants.Append 0 [] (own_line 1 0 0 ∷ [])))) ∷
@@ -86,12 +86,12 @@ history =
     marked 5 (Sent 25 0 (messages.Request (tx 0 1) 1 2 (wants.Read (read_of 0 1)))) ∷
     marked 5 (Sent 26 1 (messages.Request (tx 0 1) 1 1 (wants.Read (read_of 0 1)))) ∷
     marked 5 (Sent 27 2 (messages.Request (tx 0 1) 1 1 (wants.Read (read_of 0 1)))) ∷ marked 2 (Got 27)
-        ∷ marked 1 (Got 26) ∷
+    ∷ marked 1 (Got 26) ∷
     marked 2 (Sent 28 5 (messages.Answer 27 (answers.Granted (grant_with 1 0 [])))) ∷
     marked 1 (Sent 29 5 (messages.Answer 26 (answers.Granted (grant_with 1 0 [])))) ∷ marked 0 (Got 25)
-        ∷ marked 5 (Got 28) ∷
+    ∷ marked 5 (Got 28) ∷
     marked 5 (Got 29) ∷ marked 0 (Sent 30 5 (messages.Answer 25 (answers.Granted (grant_with 2 0 []))))
-        ∷ marked 5 (Got 30) ∷
+    ∷ marked 5 (Got 30) ∷
     marked 5 (Told (replies.Response 1)) ∷ marked 5 (Called commands.Commit) ∷
     marked 5 (Sent 31 0 (messages.Request (tx 0 1) 1 2 wants.Prepare)) ∷
     marked 5 (Sent 32 1 (messages.Request (tx 0 1) 1 1 wants.Prepare)) ∷

@@ -71,7 +71,7 @@ history =
     marked 3 (Called (commands.Do 0 0)) ∷
     marked 3 (Sent 4 0 (messages.Request (tx 2 2) 1 1 (wants.Append 0 [] (own_line 1 0 0 ∷ own_line 3 0 0 ∷ [])))) ∷
     marked 0 (Got 4) ∷ marked 0 (Sent 5 3 (messages.Answer 4 (answers.Granted (grant_with 1 0 [])))) ∷ marked 3 (Got 5)
-        ∷
+    ∷
     marked 3 (Told (replies.Response 0)) ∷ marked 5 (Phase 2) ∷ marked 5 (Cut 1 0) ∷ marked 2 (Rose []) ∷
     marked 2 (Wrote records.Life) ∷ marked 5 (Phase 3) ∷ marked 5 (Heal 1 0) ∷ marked 0 (Fell falls.Script None) ∷
     marked 0 (Rose []) ∷ marked 0 (Wrote records.Life) ∷ marked 5 (Armed 1 arms.Fail 1) ∷
@@ -98,7 +98,7 @@ history =
     marked 3 (Called (commands.Do 1 0)) ∷ marked 3 (Told (replies.Response 0)) ∷ marked 3 (Called (commands.Do 0 0)) ∷
     marked 3 (Sent 11 0 (messages.Request (tx_in 2 2 1) 1 0 (wants.Append 0 [] (own_line 2 0 0 ∷ [])))) ∷
     marked 0 (Got 11) ∷ marked 0 (Sent 12 3 (messages.Answer 11 (answers.Granted (grant_with 2 0 []))))
-        ∷ marked 3 (Got 12) ∷
+    ∷ marked 3 (Got 12) ∷
     marked 3 (Told (replies.Response 0)) ∷ marked 3 (Called (commands.Do 1 0)) ∷ marked 3 (Told (replies.Response 0)) ∷
     marked 3 (Called commands.Commit) ∷ marked 3 (Sent 13 0 (messages.Request (tx_in 2 2 1) 1 2 wants.Prepare)) ∷
     marked 3 (Lost 13) ∷ marked 3 (Sent 14 0 (messages.Decision (tx_in 2 2 1) outcomes.Aborted)) ∷

@@ -56,19 +56,19 @@ history =
     marked 3 (Called (commands.Do 0 1)) ∷ marked 2 (Called (commands.Do 0 2)) ∷
     marked 2 (Sent 1 0 (messages.Request (tx_in 1 2 1) 1 0 (wants.Append 0 [] (own_line 1 0 1 ∷ [])))) ∷
     marked 0 (Sent 2 1 (messages.Answer 0 (answers.Granted (grant_with 1 0 [])))) ∷ marked 1 (Got 2) ∷ marked 0 (Got 1)
-        ∷
+    ∷
     marked 0 (Sent 3 2 (messages.Answer 1 (answers.Granted (grant_with 1 0 [])))) ∷ marked 2 (Got 3) ∷
     marked 3 (Sent 4 0 (messages.Request (tx 2 1) 1 0 (wants.Read (read_of 0 1))))
-        ∷ marked 1 (Told (replies.Response 0)) ∷
+    ∷ marked 1 (Told (replies.Response 0)) ∷
     marked 1 (Called (commands.Do 0 0)) ∷ marked 0 (Got 4) ∷
     marked 1 (Sent 5 0 (messages.Request (tx 0 2) 1 1 (wants.Read (read_of 0 0)))) ∷
     marked 0 (Sent 6 3 (messages.Answer 4 (answers.Granted (grant_with 1 0 [])))) ∷ marked 0 (Got 5) ∷ marked 3 (Got 6)
-        ∷
+    ∷
     marked 3 (Sent 7 0 (messages.Request (tx 2 1) 1 1 (wants.Append 0 [] (own_line 1 0 0 ∷ [])))) ∷
     marked 0 (Sent 8 1 (messages.Answer 5 (answers.Clash (tx_in 1 2 1) 0 1))) ∷
     marked 0 (Sent 9 2 (messages.Inquiry (tx_in 1 2 1))) ∷ marked 0 (Got 7) ∷ marked 1 (Got 8) ∷
     marked 2 (Told (replies.Response 0))
-        ∷ marked 0 (Sent 10 3 (messages.Answer 7 (answers.Granted (grant_with 1 0 [])))) ∷
+    ∷ marked 0 (Sent 10 3 (messages.Answer 7 (answers.Granted (grant_with 1 0 [])))) ∷
     marked 2 (Got 9) ∷ marked 3 (Got 10) ∷ marked 3 (Told (replies.Response 0)) ∷ marked 3 (Called commands.Commit) ∷
     marked 2 (Sent 11 0 (messages.Decision (tx_in 1 2 1) outcomes.Active)) ∷ marked 0 (Got 11) ∷
     marked 2 (Called (commands.Do 0 0)) ∷ marked 3 (Sent 12 0 (messages.Request (tx 2 1) 1 1 wants.Prepare)) ∷
@@ -103,11 +103,11 @@ history =
     marked 2 (Wrote (commit (stamp 3 1) (tx_in 1 2 2) [])) ∷ marked 2 (Told (replies.Committed (stamp 3 1))) ∷
     marked 4 (Sent 25 0 (messages.Request (tx 3 1) 1 0 (wants.Read (read_of 1 0)))) ∷ marked 0 (Got 25) ∷
     marked 0 (Sent 26 4 (messages.Answer 25 (answers.Granted (grant_with 1 2 (line 2 0 2 1 1 0 ∷ [])))))
-        ∷ marked 4 (Got 26) ∷
+    ∷ marked 4 (Got 26) ∷
     marked 4 (Sent 27 0 (messages.Request (tx 3 1) 1 1 (wants.Append 1 (line 2 0 2 1 1 0 ∷ []) (own_line 1 1 2 ∷ []))))
     ∷
     marked 0 (Got 27) ∷ marked 0 (Sent 28 4 (messages.Answer 27 (answers.Granted (grant_with 1 2 []))))
-        ∷ marked 4 (Got 28) ∷
+    ∷ marked 4 (Got 28) ∷
     marked 4 (Told (replies.Response 0)) ∷ marked 4 (Called commands.Commit) ∷
     marked 4 (Sent 29 0 (messages.Request (tx 3 1) 1 1 wants.Prepare)) ∷ marked 0 (Got 29) ∷
     marked 0 (Wrote (prepare (tx 3 1) 1 (read_lock 1 0 ∷ []) (own_line 1 1 2 ∷ []) [])) ∷

@@ -43,12 +43,12 @@ history =
     marked 4 (Phase 1) ∷ marked 0 (Fell falls.Script None) ∷ marked 0 (Rose []) ∷ marked 0 (Wrote records.Life) ∷
     marked 4 (Armed 2 arms.Fail 1) ∷ marked 2 (Called commands.Begin) ∷ marked 2 (Told (replies.Began (tx 0 1))) ∷
     marked 2 (Called (commands.Do 1 0)) ∷ marked 2 (Sent 0 0 (messages.Request (tx 0 1) 1 0 (wants.Read (read_of 1 0))))
-        ∷
+    ∷
     marked 0 (Got 0) ∷ marked 0 (Sent 1 2 (messages.Answer 0 (answers.Granted (grant_with 2 0 [])))) ∷ marked 2 (Got 1)
-        ∷
+    ∷
     marked 2 (Sent 2 0 (messages.Request (tx 0 1) 1 2 (wants.Append 1 [] (own_line 1 1 0 ∷ [])))) ∷ marked 0 (Got 2) ∷
     marked 0 (Sent 3 2 (messages.Answer 2 (answers.Granted (grant_with 2 0 [])))) ∷ marked 2 (Got 1) ∷ marked 2 (Got 3)
-        ∷
+    ∷
     marked 2 (Told (replies.Response 0)) ∷ marked 2 (Got 3) ∷ marked 2 (Called commands.Commit) ∷
     marked 2 (Sent 4 0 (messages.Request (tx 0 1) 1 2 wants.Prepare)) ∷ marked 0 (Got 4) ∷
     marked 0 (Wrote (prepare (tx 0 1) 1 (read_lock 1 0 ∷ []) (own_line 1 1 0 ∷ []) [])) ∷

@@ -80,35 +80,35 @@ history =
     marked 5 (Sent 8 3 (messages.Request (tx 0 2) 1 0 (wants.Read (read_of 0 2)))) ∷
     marked 5 (Sent 9 4 (messages.Request (tx 0 2) 1 0 (wants.Read (read_of 0 2)))) ∷ marked 1 (Got 6) ∷
     marked 1 (Sent 10 5 (messages.Answer 6 (answers.Granted (grant_with 1 0 [])))) ∷ marked 3 (Got 8) ∷ marked 0 (Got 5)
-        ∷
+    ∷
     marked 2 (Got 7)
-        ∷ marked 0 (Sent 11 5 (messages.Answer 5 (answers.Granted (grant_with 2 1 (line 1 0 1 1 0 1 ∷ []))))) ∷
+    ∷ marked 0 (Sent 11 5 (messages.Answer 5 (answers.Granted (grant_with 2 1 (line 1 0 1 1 0 1 ∷ []))))) ∷
     marked 3 (Sent 12 5 (messages.Answer 8 (answers.Granted (grant_with 1 0 [])))) ∷
     marked 2 (Sent 13 5 (messages.Answer 7 (answers.Granted (grant_with 1 0 [])))) ∷ marked 5 (Got 10)
-        ∷ marked 4 (Got 9) ∷
+    ∷ marked 4 (Got 9) ∷
     marked 4 (Sent 14 5 (messages.Answer 9 (answers.Granted (grant_with 1 0 [])))) ∷ marked 5 (Got 11)
-        ∷ marked 5 (Got 12) ∷
+    ∷ marked 5 (Got 12) ∷
     marked 5 (Got 13) ∷ marked 5 (Got 14) ∷ marked 5 (Told replies.Absent) ∷ marked 5 (Called (commands.Do 1 1)) ∷
     marked 5 (Sent 15 0 (messages.Request (tx 0 2) 1 2 (wants.Read (read_of 1 1)))) ∷
     marked 5 (Sent 16 1 (messages.Request (tx 0 2) 1 1 (wants.Read (read_of 1 1)))) ∷
     marked 5 (Sent 17 2 (messages.Request (tx 0 2) 1 1 (wants.Read (read_of 1 1)))) ∷ marked 0 (Got 15) ∷
     marked 0 (Sent 18 5 (messages.Answer 15 (answers.Granted (grant_with 2 1 [])))) ∷ marked 2 (Got 17)
-        ∷ marked 1 (Got 16) ∷
+    ∷ marked 1 (Got 16) ∷
     marked 1 (Sent 19 5 (messages.Answer 16 (answers.Granted (grant_with 1 0 [])))) ∷
     marked 2 (Sent 20 5 (messages.Answer 17 (answers.Granted (grant_with 1 0 [])))) ∷ marked 5 (Got 18)
-        ∷ marked 5 (Got 19) ∷
+    ∷ marked 5 (Got 19) ∷
     marked 5 (Got 20) ∷ marked 5 (Sent 21 0 (messages.Request (tx 0 2) 1 2 (wants.Append 1 [] (own_line 2 1 2 ∷ [])))) ∷
     marked 5 (Sent 22 1 (messages.Request (tx 0 2) 1 1 (wants.Append 1 [] (own_line 2 1 2 ∷ [])))) ∷
     marked 5 (Sent 23 2 (messages.Request (tx 0 2) 1 1 (wants.Append 1 [] (own_line 2 1 2 ∷ [])))) ∷ marked 1 (Got 22) ∷
     marked 2 (Got 23) ∷ marked 1 (Sent 24 5 (messages.Answer 22 (answers.Granted (grant_with 1 0 []))))
-        ∷ marked 5 (Got 24) ∷
+    ∷ marked 5 (Got 24) ∷
     marked 5 (Lost 21) ∷ marked 2 (Sent 25 5 (messages.Answer 23 (answers.Granted (grant_with 1 0 []))))
-        ∷ marked 5 (Got 25) ∷
+    ∷ marked 5 (Got 25) ∷
     marked 5 (Told (replies.Response 2)) ∷ marked 5 (Called (commands.Do 0 0)) ∷
     marked 5 (Sent 26 0 (messages.Request (tx 0 2) 1 2 (wants.Append 0 (line 1 0 1 1 0 1 ∷ []) (own_line 3 0 1 ∷ []))))
     ∷
     marked 0 (Got 26) ∷ marked 0 (Sent 27 5 (messages.Answer 26 (answers.Granted (grant_with 2 1 []))))
-        ∷ marked 5 (Got 27) ∷
+    ∷ marked 5 (Got 27) ∷
     marked 5 (Told (replies.Response 0)) ∷ marked 5 (Called commands.Commit) ∷
     marked 5 (Sent 28 0 (messages.Request (tx 0 2) 1 2 wants.Prepare)) ∷
     marked 5 (Sent 29 1 (messages.Request (tx 0 2) 1 1 wants.Prepare)) ∷
@@ -138,9 +138,9 @@ history =
     marked 5 (Sent 44 1 (messages.Request (tx 0 3) 1 0 (wants.Read (read_of 1 2)))) ∷
     marked 5 (Sent 45 2 (messages.Request (tx 0 3) 1 0 (wants.Read (read_of 1 2)))) ∷ marked 0 (Got 43) ∷
     marked 0 (Sent 46 5 (messages.Answer 43 (answers.Granted (grant_with 2 1 [])))) ∷ marked 5 (Got 46)
-        ∷ marked 5 (Lost 44) ∷
+    ∷ marked 5 (Lost 44) ∷
     marked 5 (Lost 45) ∷ marked 5 (Sent 47 3 (messages.Request (tx 0 3) 1 0 (wants.Read (read_of 1 2))))
-        ∷ marked 3 (Got 47) ∷
+    ∷ marked 3 (Got 47) ∷
     marked 3 (Sent 48 5 (messages.Answer 47 (answers.Granted (grant_with 1 0 [])))) ∷ marked 5 (Got 48) ∷
     marked 5 (Sent 49 4 (messages.Request (tx 0 3) 1 0 (wants.Read (read_of 1 2)))) ∷ marked 4 (Got 49) ∷
     marked 4 (Sent 50 5 (messages.Answer 49 (answers.Granted (grant_with 1 0 [])))) ∷ marked 5 (Got 50) ∷

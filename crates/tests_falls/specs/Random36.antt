@@ -56,9 +56,9 @@ abbrev pub history : List Entry
 history =
     marked 5 (Phase 1) ∷ marked 2 (Called commands.Begin) ∷ marked 2 (Told (replies.Began (tx 0 1))) ∷
     marked 2 (Called (commands.Do 1 0)) ∷ marked 2 (Sent 0 0 (messages.Request (tx 0 1) 1 0 (wants.Read (read_of 1 0))))
-        ∷
+    ∷
     marked 2 (Sent 1 1 (messages.Request (tx 0 1) 1 0 (wants.Read (read_of 1 0)))) ∷ marked 1 (Got 1) ∷ marked 0 (Got 0)
-        ∷
+    ∷
     marked 1 (Sent 2 2 (messages.Answer 1 (answers.Granted (grant_with 1 0 [])))) ∷ marked 2 (Got 2) ∷
     marked 0 (Sent 3 2 (messages.Answer 0 (answers.Granted (grant_with 1 0 [])))) ∷ marked 2 (Got 3) ∷
     marked 2 (Sent 4 0 (messages.Request (tx 0 1) 1 1 (wants.Append 1 [] (own_line 1 1 0 ∷ [])))) ∷ marked 0 (Got 4) ∷
@@ -66,7 +66,7 @@ history =
     marked 2 (Told (replies.Response 0)) ∷ marked 2 (Called (commands.Do 1 0)) ∷
     marked 2 (Sent 6 0 (messages.Request (tx 0 1) 1 1 (wants.Read (read_of 1 0)))) ∷
     marked 2 (Sent 7 1 (messages.Request (tx 0 1) 1 1 (wants.Read (read_of 1 0)))) ∷ marked 0 (Got 6) ∷ marked 1 (Got 7)
-        ∷
+    ∷
     marked 1 (Sent 8 2 (messages.Answer 7 (answers.Granted (grant_with 1 0 [])))) ∷ marked 2 (Got 8) ∷
     marked 0 (Sent 9 2 (messages.Answer 6 (answers.Granted (grant_with 1 0 [])))) ∷ marked 2 (Got 9) ∷
     marked 2 (Told (replies.Response 1)) ∷ marked 2 (Called commands.Commit) ∷
@@ -87,9 +87,9 @@ history =
     marked 3 (Told (replies.Began (tx 1 1))) ∷ marked 3 (Called (commands.Do 1 0)) ∷
     marked 3 (Sent 16 1 (messages.Request (tx 1 1) 1 0 (wants.Read (read_of 1 0)))) ∷
     marked 3 (Sent 17 0 (messages.Request (tx 1 1) 1 0 (wants.Read (read_of 1 0)))) ∷ marked 0 (Got 17)
-        ∷ marked 3 (Lost 16) ∷
+    ∷ marked 3 (Lost 16) ∷
     marked 0 (Sent 18 3 (messages.Answer 17 (answers.Granted (grant_with 1 1 (line 1 0 1 1 1 0 ∷ [])))))
-        ∷ marked 3 (Got 18) ∷
+    ∷ marked 3 (Got 18) ∷
     marked 3 (Told (replies.Quorum halves.Read 1 2)) ∷ marked 3 (Called (commands.Do 0 1)) ∷
     marked 3 (Sent 19 1 (messages.Request (tx 1 1) 1 0 (wants.Append 0 [] (own_line 1 0 2 ∷ [])))) ∷
     marked 3 (Lost 19) ∷
@@ -107,15 +107,15 @@ history =
     marked 3 (Rose ((commit (stamp 2 1) (tx 1 1) (operation 0 1 (Some 2) ∷ [])) ∷ [])) ∷ marked 3 (Wrote records.Life) ∷
     marked 2 (Called commands.Begin) ∷ marked 3 (Called commands.Begin) ∷ marked 2 (Told (replies.Began (tx 0 3))) ∷
     marked 2 (Called (commands.Do 0 0))
-        ∷ marked 2 (Sent 26 0 (messages.Request (tx 0 3) 1 0 (wants.Read (read_of 0 0)))) ∷
+    ∷ marked 2 (Sent 26 0 (messages.Request (tx 0 3) 1 0 (wants.Read (read_of 0 0)))) ∷
     marked 2 (Sent 27 1 (messages.Request (tx 0 3) 1 0 (wants.Read (read_of 0 0)))) ∷ marked 0 (Got 26)
-        ∷ marked 2 (Lost 27) ∷
+    ∷ marked 2 (Lost 27) ∷
     marked 3 (Told (replies.Began (tx_in 1 2 1))) ∷ marked 3 (Called (commands.Do 0 0)) ∷
     marked 0 (Sent 28 2 (messages.Answer 26 (answers.Granted (grant_with 1 2 (line 2 1 1 1 0 2 ∷ []))))) ∷
     marked 3 (Sent 29 1 (messages.Request (tx_in 1 2 1) 1 0 (wants.Read (read_of 0 0)))) ∷
     marked 3 (Sent 30 0 (messages.Request (tx_in 1 2 1) 1 0 (wants.Read (read_of 0 0)))) ∷ marked 3 (Lost 29) ∷
     marked 0 (Got 30)
-        ∷ marked 0 (Sent 31 3 (messages.Answer 30 (answers.Granted (grant_with 1 2 (line 2 1 1 1 0 2 ∷ []))))) ∷
+    ∷ marked 0 (Sent 31 3 (messages.Answer 30 (answers.Granted (grant_with 1 2 (line 2 1 1 1 0 2 ∷ []))))) ∷
     marked 2 (Got 28) ∷ marked 2 (Told (replies.Quorum halves.Read 1 2)) ∷ marked 2 (Called commands.Commit) ∷
     marked 2 (Sent 32 0 (messages.Request (tx 0 3) 1 1 wants.Prepare)) ∷ marked 0 (Got 32) ∷ marked 3 (Got 31) ∷
     marked 3 (Told (replies.Quorum halves.Read 1 2)) ∷ marked 3 (Called (commands.Do 0 1)) ∷
@@ -146,18 +146,18 @@ history =
     marked 1 (Wrote (records.Done (tx 0 1) 1)) ∷
     marked 3 (Sent 45 1 (messages.Request (tx_in 1 2 2) 1 0 (wants.Append 0 [] (own_line 1 0 2 ∷ [])))) ∷
     marked 1 (Got 45) ∷ marked 1 (Sent 46 3 (messages.Answer 45 (answers.Granted (grant_with 2 1 []))))
-        ∷ marked 3 (Got 46) ∷
+    ∷ marked 3 (Got 46) ∷
     marked 3 (Told (replies.Response 2)) ∷ marked 3 (Called (commands.Do 0 0)) ∷
     marked 3 (Sent 47 1 (messages.Request (tx_in 1 2 2) 1 2 (wants.Read (read_of 0 0)))) ∷
     marked 3 (Sent 48 0 (messages.Request (tx_in 1 2 2) 1 0 (wants.Read (read_of 0 0)))) ∷ marked 1 (Got 47)
-        ∷ marked 0 (Got 48) ∷
+    ∷ marked 0 (Got 48) ∷
     marked 0 (Sent 49 3 (messages.Answer 48 (answers.Granted (grant_with 1 3 (line 2 1 1 1 0 2 ∷ [])))))
-        ∷ marked 3 (Got 49) ∷
+    ∷ marked 3 (Got 49) ∷
     marked 1 (Sent 50 3 (messages.Answer 47 (answers.Granted (grant_with 2 1 [])))) ∷ marked 3 (Got 50) ∷
     marked 3 (Sent 51 1 (messages.Request (tx_in 1 2 2) 1 2 (wants.Append 0 (line 2 1 1 1 0 2 ∷ []) (own_line 1 0 2 ∷
     own_line 2 0 0 ∷ [])))) ∷
     marked 1 (Got 51) ∷ marked 1 (Sent 52 3 (messages.Answer 51 (answers.Granted (grant_with 2 2 []))))
-        ∷ marked 3 (Got 52) ∷
+    ∷ marked 3 (Got 52) ∷
     marked 3 (Told (replies.Response 0)) ∷ marked 3 (Called commands.Commit) ∷
     marked 3 (Sent 53 1 (messages.Request (tx_in 1 2 2) 1 2 wants.Prepare)) ∷
     marked 3 (Sent 54 0 (messages.Request (tx_in 1 2 2) 1 1 wants.Prepare)) ∷ marked 0 (Got 54) ∷ marked 1 (Got 53) ∷

@@ -61,7 +61,7 @@ history =
     marked 2 (Sent 0 0 (messages.Request (tx 0 1) 1 0 (wants.Read (read_of 0 1)))) ∷
     marked 2 (Sent 1 1 (messages.Request (tx 0 1) 1 0 (wants.Read (read_of 0 1)))) ∷ marked 0 (Got 0) ∷
     marked 0 (Sent 2 2 (messages.Answer 0 (answers.Granted (grant_with 1 0 [])))) ∷ marked 2 (Got 2) ∷ marked 1 (Got 1)
-        ∷
+    ∷
     marked 1 (Sent 3 2 (messages.Answer 1 (answers.Granted (grant_with 1 0 [])))) ∷ marked 2 (Got 3) ∷
     marked 2 (Told replies.Absent) ∷ marked 2 (Called (commands.Do 0 2)) ∷
     marked 2 (Sent 4 0 (messages.Request (tx 0 1) 1 1 (wants.Append 0 [] (own_line 2 0 4 ∷ [])))) ∷
@@ -69,7 +69,7 @@ history =
     marked 1 (Got 5) ∷ marked 0 (Sent 6 2 (messages.Answer 4 (answers.Granted (grant_with 1 0 [])))) ∷
     marked 1 (Sent 7 2 (messages.Answer 5 (answers.Granted (grant_with 1 0 [])))) ∷ marked 1 (Got 5) ∷
     marked 1 (Sent 8 2 (messages.Answer 5 (answers.Granted (grant_with 1 0 [])))) ∷ marked 2 (Got 6) ∷ marked 2 (Got 7)
-        ∷
+    ∷
     marked 2 (Told (replies.Response 2)) ∷ marked 2 (Got 8) ∷ marked 2 (Called commands.Commit) ∷
     marked 2 (Sent 9 0 (messages.Request (tx 0 1) 1 1 wants.Prepare)) ∷
     marked 2 (Sent 10 1 (messages.Request (tx 0 1) 1 1 wants.Prepare)) ∷ marked 1 (Got 10) ∷
@@ -89,11 +89,11 @@ history =
     marked 3 (Told (replies.Response 2)) ∷ marked 3 (Called (commands.Do 0 1)) ∷
     marked 3 (Sent 17 1 (messages.Request (tx 1 1) 1 1 (wants.Read (read_of 0 1)))) ∷ marked 1 (Got 17) ∷
     marked 1 (Sent 18 3 (messages.Answer 17 (answers.Granted (grant_with 1 1 (line 1 0 1 2 0 4 ∷ [])))))
-        ∷ marked 3 (Got 18) ∷
+    ∷ marked 3 (Got 18) ∷
     marked 3 (Told replies.Absent) ∷ marked 3 (Called (commands.Do 0 1)) ∷
     marked 3 (Sent 19 1 (messages.Request (tx 1 1) 1 1 (wants.Read (read_of 0 1)))) ∷ marked 1 (Got 19) ∷
     marked 1 (Sent 20 3 (messages.Answer 19 (answers.Granted (grant_with 1 1 (line 1 0 1 2 0 4 ∷ [])))))
-        ∷ marked 3 (Got 20) ∷
+    ∷ marked 3 (Got 20) ∷
     marked 3 (Told replies.Absent) ∷ marked 5 (Phase 3) ∷ marked 5 (Heal 3 0) ∷ marked 5 (Armed 3 arms.Fail 5) ∷
     marked 2 (Called commands.Begin) ∷ marked 2 (Told replies.Down) ∷ marked 2 (Called (commands.Do 0 1)) ∷
     marked 2 (Told replies.Down) ∷ marked 2 (Called (commands.Do 0 1)) ∷ marked 2 (Told replies.Down) ∷
@@ -105,7 +105,7 @@ history =
     marked 2 (Sent 21 0 (messages.Request (tx_in 0 2 1) 1 0 (wants.Read (read_of 0 0)))) ∷
     marked 2 (Sent 22 1 (messages.Request (tx_in 0 2 1) 1 0 (wants.Read (read_of 0 0)))) ∷ marked 0 (Got 21) ∷
     marked 0 (Sent 23 2 (messages.Answer 21 (answers.Granted (grant_with 1 1 (line 1 0 1 2 0 4 ∷ [])))))
-        ∷ marked 2 (Got 23) ∷
+    ∷ marked 2 (Got 23) ∷
     marked 1 (Got 22) ∷ marked 1 (Sent 24 2 (messages.Answer 22 (answers.Clash (tx 1 1) 0 4))) ∷
     marked 1 (Sent 25 3 (messages.Inquiry (tx 1 1))) ∷ marked 2 (Got 24) ∷
     marked 2 (Told (replies.Conflict (tx 1 1) 1)) ∷ marked 2 (Called (commands.Do 0 2)) ∷ marked 3 (Got 25) ∷
@@ -115,7 +115,7 @@ history =
     marked 2 (Sent 28 1 (messages.Request (tx_in 0 2 1) 1 0 (wants.Append 0 (line 1 0 1 2 0 4 ∷ []) (own_line 1 0 4 ∷
     [])))) ∷
     marked 0 (Got 27) ∷ marked 0 (Sent 29 2 (messages.Answer 27 (answers.Granted (grant_with 1 1 []))))
-        ∷ marked 2 (Got 29) ∷
+    ∷ marked 2 (Got 29) ∷
     marked 1 (Got 26) ∷ marked 1 (Got 28) ∷ marked 1 (Sent 30 2 (messages.Answer 28 (answers.Clash (tx 1 1) 1 4))) ∷
     marked 1 (Sent 31 3 (messages.Inquiry (tx 1 1))) ∷ marked 2 (Got 30) ∷ marked 3 (Got 31) ∷
     marked 3 (Sent 32 1 (messages.Decision (tx 1 1) outcomes.Active)) ∷ marked 2 (Told (replies.Conflict (tx 1 1) 1)) ∷
@@ -130,7 +130,7 @@ history =
     marked 1 (Sent 37 2 (messages.Answer 36 (answers.Clash (tx 1 1) 0 4))) ∷
     marked 1 (Sent 38 3 (messages.Inquiry (tx 1 1))) ∷ marked 2 (Got 37) ∷ marked 0 (Got 35) ∷
     marked 0 (Sent 39 2 (messages.Answer 35 (answers.Granted (grant_with 1 1 (line 1 0 1 2 0 4 ∷ [])))))
-        ∷ marked 2 (Got 39) ∷
+    ∷ marked 2 (Got 39) ∷
     marked 2 (Told (replies.Conflict (tx 1 1) 1)) ∷ marked 2 (Called (commands.Do 0 1)) ∷
     marked 2 (Sent 40 0 (messages.Request (tx_in 0 2 2) 1 1 (wants.Read (read_of 0 1)))) ∷
     marked 2 (Sent 41 1 (messages.Request (tx_in 0 2 2) 1 0 (wants.Read (read_of 0 1)))) ∷ marked 1 (Got 41) ∷
@@ -142,7 +142,7 @@ history =
     marked 3 (Sent 46 1 (messages.Decision (tx 1 1) outcomes.Active)) ∷ marked 1 (Got 46) ∷ marked 3 (Got 43) ∷
     marked 3 (Sent 47 1 (messages.Decision (tx 1 1) outcomes.Active)) ∷ marked 1 (Got 47) ∷ marked 0 (Got 40) ∷
     marked 0 (Sent 48 2 (messages.Answer 40 (answers.Granted (grant_with 1 1 (line 1 0 1 2 0 4 ∷ [])))))
-        ∷ marked 2 (Got 48) ∷
+    ∷ marked 2 (Got 48) ∷
     marked 3 (Got 45) ∷ marked 2 (Told (replies.Conflict (tx 1 1) 1)) ∷ marked 2 (Called (commands.Do 0 2)) ∷
     marked 2 (Sent 49 0 (messages.Request (tx_in 0 2 2) 1 1 (wants.Append 0 (line 1 0 1 2 0 4 ∷ []) (own_line 1 0 4 ∷
     [])))) ∷
@@ -155,7 +155,7 @@ history =
     marked 3 (Sent 53 1 (messages.Decision (tx 1 1) (outcomes.Committed (stamp 2 1)))) ∷
     marked 3 (Told (replies.Committed (stamp 2 1))) ∷ marked 1 (Got 53) ∷ marked 1 (Wrote (records.Done (tx 1 1) 2)) ∷
     marked 0 (Got 49) ∷ marked 0 (Sent 54 2 (messages.Answer 49 (answers.Granted (grant_with 1 1 []))))
-        ∷ marked 2 (Got 54) ∷
+    ∷ marked 2 (Got 54) ∷
     marked 3 (Got 52) ∷ marked 2 (Told (replies.Conflict (tx 1 1) 1)) ∷ marked 2 (Called (commands.Do 0 0)) ∷
     marked 2 (Told replies.Doomed) ∷ marked 2 (Called commands.Commit) ∷
     marked 2 (Sent 55 0 (messages.Decision (tx_in 0 2 2) outcomes.Aborted)) ∷

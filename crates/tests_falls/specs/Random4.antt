@@ -36,9 +36,9 @@ abbrev pub history : List Entry
 history =
     marked 3 (Phase 1) ∷ marked 1 (Called commands.Begin) ∷ marked 1 (Told (replies.Began (tx 0 1))) ∷
     marked 1 (Called (commands.Do 0 2)) ∷ marked 1 (Sent 0 0 (messages.Request (tx 0 1) 1 0 (wants.Read (read_of 0 2))))
-        ∷
+    ∷
     marked 0 (Got 0) ∷ marked 0 (Sent 1 1 (messages.Answer 0 (answers.Granted (grant_with 1 0 [])))) ∷ marked 1 (Got 1)
-        ∷
+    ∷
     marked 1 (Told replies.Absent) ∷ marked 1 (Called commands.Commit) ∷
     marked 1 (Sent 2 0 (messages.Request (tx 0 1) 1 1 wants.Prepare)) ∷ marked 0 (Got 2) ∷
     marked 0 (Wrote (prepare (tx 0 1) 1 (read_lock 0 2 ∷ []) [] [])) ∷

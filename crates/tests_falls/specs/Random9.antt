@@ -53,7 +53,7 @@ history =
     marked 1 (Sent 7 6 (messages.Answer 0 (answers.Granted (grant_with 2 0 [])))) ∷ marked 2 (Got 1) ∷
     marked 2 (Sent 8 6 (messages.Answer 1 (answers.Granted (grant_with 1 0 [])))) ∷ marked 0 (Got 4) ∷
     marked 0 (Sent 9 6 (messages.Answer 4 (answers.Granted (grant_with 1 0 [])))) ∷ marked 6 (Got 5) ∷ marked 6 (Got 6)
-        ∷
+    ∷
     marked 6 (Got 7) ∷ marked 6 (Got 8) ∷ marked 6 (Got 9) ∷ marked 6 (Told (replies.Response 2)) ∷
     marked 6 (Called commands.Commit) ∷ marked 6 (Sent 10 1 (messages.Request (tx 1 1) 1 2 wants.Prepare)) ∷
     marked 6 (Sent 11 2 (messages.Request (tx 1 1) 1 1 wants.Prepare)) ∷

@@ -37,14 +37,14 @@ history =
     marked 3 (Sent 1 1 (messages.Request (tx 0 1) 1 0 (wants.Append 0 [] (own_line 1 0 2 ∷ [])))) ∷ marked 0 (Got 0) ∷
     marked 0 (Sent 2 3 (messages.Answer 0 (answers.Granted (grant_with 1 0 [])))) ∷ marked 1 (Got 1) ∷
     marked 1 (Sent 3 3 (messages.Answer 1 (answers.Granted (grant_with 1 0 [])))) ∷ marked 3 (Got 2) ∷ marked 3 (Got 3)
-        ∷
+    ∷
     marked 3 (Told (replies.Response 2)) ∷ marked 7 (Phase 2) ∷ marked 4 (Called commands.Begin) ∷
     marked 4 (Told (replies.Began (tx 1 1))) ∷ marked 4 (Called (commands.Do 0 2)) ∷
     marked 4 (Sent 4 1 (messages.Request (tx 1 1) 1 0 (wants.Append 0 [] (own_line 1 0 3 ∷ [])))) ∷
     marked 4 (Sent 5 2 (messages.Request (tx 1 1) 1 0 (wants.Append 0 [] (own_line 1 0 3 ∷ [])))) ∷ marked 1 (Got 4) ∷
     marked 1 (Sent 6 4 (messages.Answer 4 (answers.Granted (grant_with 1 0 [])))) ∷ marked 2 (Got 5) ∷
     marked 2 (Sent 7 4 (messages.Answer 5 (answers.Granted (grant_with 1 0 [])))) ∷ marked 4 (Got 6) ∷ marked 4 (Got 7)
-        ∷
+    ∷
     marked 4 (Told (replies.Response 2)) ∷ marked 7 (Phase 3) ∷ marked 3 (Called commands.Commit) ∷
     marked 3 (Sent 8 0 (messages.Request (tx 0 1) 1 1 wants.Prepare)) ∷
     marked 3 (Sent 9 1 (messages.Request (tx 0 1) 1 1 wants.Prepare)) ∷ marked 0 (Got 8) ∷
@@ -72,9 +72,9 @@ history =
     marked 3 (Sent 20 0 (messages.Request (tx 0 2) 1 0 (wants.Read (read_of 0 0)))) ∷
     marked 3 (Sent 21 1 (messages.Request (tx 0 2) 1 0 (wants.Read (read_of 0 0)))) ∷ marked 0 (Got 20) ∷
     marked 0 (Sent 22 3 (messages.Answer 20 (answers.Granted (grant_with 1 1 (line 1 0 1 1 0 2 ∷ [])))))
-        ∷ marked 1 (Got 21) ∷
+    ∷ marked 1 (Got 21) ∷
     marked 1
-        (Sent 23 3 (messages.Answer 21 (answers.Granted (grant_with 1 2 (line 1 0 1 1 0 2 ∷ line 2 1 1 1 0 3 ∷ []))))) ∷
+    (Sent 23 3 (messages.Answer 21 (answers.Granted (grant_with 1 2 (line 1 0 1 1 0 2 ∷ line 2 1 1 1 0 3 ∷ []))))) ∷
     marked 3 (Got 22) ∷ marked 3 (Got 23) ∷ marked 3 (Told (replies.Response 1)) ∷ marked 3 (Called commands.Commit) ∷
     marked 3 (Sent 24 0 (messages.Request (tx 0 2) 1 1 wants.Prepare)) ∷
     marked 3 (Sent 25 1 (messages.Request (tx 0 2) 1 1 wants.Prepare)) ∷ marked 0 (Got 24) ∷

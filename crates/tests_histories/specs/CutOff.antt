@@ -25,6 +25,6 @@ history =
     marked 4 (Sent 0 1 (messages.Request (tx 1 1) 1 0 (wants.Read (read_of 0 0)))) ∷
     marked 4 (Sent 1 2 (messages.Request (tx 1 1) 1 0 (wants.Read (read_of 0 0)))) ∷ marked 2 (Got 1) ∷
     marked 2 (Sent 2 4 (messages.Answer 1 (answers.Granted (grant_with 1 0 [])))) ∷ marked 4 (Got 2) ∷ marked 4 (Lost 0)
-        ∷
+    ∷
     marked 4 (Sent 3 0 (messages.Request (tx 1 1) 1 0 (wants.Read (read_of 0 0)))) ∷ marked 4 (Lost 3) ∷
     marked 4 (Told (replies.Quorum halves.Read 1 2)) ∷ []

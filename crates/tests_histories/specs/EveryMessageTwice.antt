@@ -39,7 +39,7 @@ history =
     marked 0 (Sent 3 3 (messages.Answer 0 (answers.Granted (grant_with 1 0 [])))) ∷ marked 1 (Got 1) ∷
     marked 1 (Sent 4 3 (messages.Answer 1 (answers.Granted (grant_with 1 0 [])))) ∷ marked 1 (Got 1) ∷
     marked 1 (Sent 5 3 (messages.Answer 1 (answers.Granted (grant_with 1 0 [])))) ∷ marked 3 (Got 2) ∷ marked 3 (Got 2)
-        ∷
+    ∷
     marked 3 (Got 3) ∷ marked 3 (Got 3) ∷ marked 3 (Got 4) ∷ marked 3 (Told (replies.Response 2)) ∷ marked 3 (Got 4) ∷
     marked 3 (Got 5) ∷ marked 3 (Got 5) ∷ marked 3 (Called (commands.Do 0 0)) ∷
     marked 3 (Sent 6 0 (messages.Request (tx 0 1) 1 1 (wants.Read (read_of 0 0)))) ∷
@@ -48,7 +48,7 @@ history =
     marked 0 (Sent 9 3 (messages.Answer 6 (answers.Granted (grant_with 1 0 [])))) ∷ marked 1 (Got 7) ∷
     marked 1 (Sent 10 3 (messages.Answer 7 (answers.Granted (grant_with 1 0 [])))) ∷ marked 1 (Got 7) ∷
     marked 1 (Sent 11 3 (messages.Answer 7 (answers.Granted (grant_with 1 0 [])))) ∷ marked 3 (Got 8) ∷ marked 3 (Got 8)
-        ∷
+    ∷
     marked 3 (Got 9) ∷ marked 3 (Got 9) ∷ marked 3 (Got 10) ∷ marked 3 (Told (replies.Response 1)) ∷ marked 3 (Got 10) ∷
     marked 3 (Got 11) ∷ marked 3 (Got 11) ∷ marked 3 (Called commands.Commit) ∷
     marked 3 (Sent 12 0 (messages.Request (tx 0 1) 1 1 wants.Prepare)) ∷

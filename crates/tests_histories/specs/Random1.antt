@@ -39,7 +39,7 @@ history =
     marked 3 (Sent 1 0 (messages.Request (tx 1 1) 1 0 (wants.Read (read_of 0 1)))) ∷ marked 1 (Got 0) ∷
     marked 1 (Sent 2 3 (messages.Answer 0 (answers.Granted (grant_with 1 0 [])))) ∷ marked 0 (Got 1) ∷
     marked 0 (Sent 3 3 (messages.Answer 1 (answers.Granted (grant_with 1 0 [])))) ∷ marked 3 (Got 2) ∷ marked 3 (Got 3)
-        ∷
+    ∷
     marked 3 (Told replies.Absent) ∷ marked 3 (Called commands.Commit) ∷
     marked 3 (Sent 4 1 (messages.Request (tx 1 1) 1 1 wants.Prepare)) ∷
     marked 3 (Sent 5 0 (messages.Request (tx 1 1) 1 1 wants.Prepare)) ∷ marked 1 (Got 4) ∷

@@ -42,11 +42,11 @@ abbrev pub history : List Entry
 history =
     marked 4 (Phase 1) ∷ marked 2 (Called commands.Begin) ∷ marked 2 (Told (replies.Began (tx 0 1))) ∷
     marked 2 (Called (commands.Do 0 0)) ∷ marked 2 (Sent 0 0 (messages.Request (tx 0 1) 1 0 (wants.Read (read_of 0 0))))
-        ∷
+    ∷
     marked 2 (Sent 1 1 (messages.Request (tx 0 1) 1 0 (wants.Read (read_of 0 0)))) ∷ marked 0 (Got 0) ∷
     marked 0 (Sent 2 2 (messages.Answer 0 (answers.Granted (grant_with 1 0 [])))) ∷ marked 1 (Got 1) ∷
     marked 1 (Sent 3 2 (messages.Answer 1 (answers.Granted (grant_with 1 0 [])))) ∷ marked 2 (Got 2) ∷ marked 2 (Got 3)
-        ∷
+    ∷
     marked 2 (Told replies.Absent) ∷ marked 2 (Called commands.Abort) ∷
     marked 2 (Sent 4 0 (messages.Decision (tx 0 1) outcomes.Aborted)) ∷
     marked 2 (Sent 5 1 (messages.Decision (tx 0 1) outcomes.Aborted)) ∷ marked 2 (Told replies.Dropped) ∷
@@ -57,7 +57,7 @@ history =
     marked 2 (Told (replies.Response 0)) ∷ marked 2 (Called (commands.Do 0 1)) ∷
     marked 2 (Sent 8 0 (messages.Request (tx 0 2) 1 1 (wants.Append 0 [] (own_line 1 0 0 ∷ own_line 2 0 0 ∷ [])))) ∷
     marked 0 (Got 8) ∷ marked 0 (Sent 9 2 (messages.Answer 8 (answers.Granted (grant_with 1 0 [])))) ∷ marked 2 (Got 9)
-        ∷
+    ∷
     marked 2 (Told (replies.Response 0)) ∷ marked 2 (Called commands.Commit) ∷
     marked 2 (Sent 10 0 (messages.Request (tx 0 2) 1 1 wants.Prepare)) ∷ marked 0 (Got 10) ∷
     marked 0 (Wrote (prepare (tx 0 2) 1 [] (own_line 1 0 0 ∷ own_line 2 0 0 ∷ []) [])) ∷
@@ -78,5 +78,5 @@ history =
     marked 2 (Told (replies.Response 0)) ∷ marked 2 (Called (commands.Do 0 1)) ∷
     marked 2 (Sent 15 0 (messages.Request (tx 0 4) 1 1 (wants.Append 0 [] (own_line 1 0 0 ∷ own_line 2 0 0 ∷ [])))) ∷
     marked 0 (Got 15) ∷ marked 0 (Sent 16 2 (messages.Answer 15 (answers.Granted (grant_with 1 1 []))))
-        ∷ marked 2 (Got 16) ∷
+    ∷ marked 2 (Got 16) ∷
     marked 2 (Told (replies.Response 0)) ∷ []

@@ -50,16 +50,16 @@ history =
     marked 7 (Told (replies.Response 0)) ∷ marked 7 (Called (commands.Do 0 1)) ∷
     marked 7 (Sent 2 2 (messages.Request (tx 2 1) 1 1 (wants.Append 0 [] (own_line 1 0 1 ∷ own_line 2 0 1 ∷ [])))) ∷
     marked 2 (Got 2) ∷ marked 2 (Sent 3 7 (messages.Answer 2 (answers.Granted (grant_with 1 0 [])))) ∷ marked 7 (Got 3)
-        ∷
+    ∷
     marked 7 (Told (replies.Response 0)) ∷ marked 9 (Phase 2) ∷ marked 5 (Called commands.Begin) ∷
     marked 5 (Told (replies.Began (tx 0 1))) ∷ marked 5 (Called (commands.Do 0 1)) ∷
     marked 5 (Sent 4 0 (messages.Request (tx 0 1) 1 0 (wants.Append 0 [] (own_line 1 0 1 ∷ [])))) ∷
     marked 5 (Sent 5 1 (messages.Request (tx 0 1) 1 0 (wants.Append 0 [] (own_line 1 0 1 ∷ [])))) ∷
     marked 5 (Sent 6 2 (messages.Request (tx 0 1) 1 0 (wants.Append 0 [] (own_line 1 0 1 ∷ [])))) ∷ marked 2 (Got 6) ∷
     marked 1 (Got 5) ∷ marked 0 (Got 4) ∷ marked 1 (Sent 7 5 (messages.Answer 5 (answers.Granted (grant_with 1 0 []))))
-        ∷
+    ∷
     marked 5 (Got 7) ∷ marked 0 (Sent 8 5 (messages.Answer 4 (answers.Granted (grant_with 1 0 [])))) ∷ marked 5 (Got 8)
-        ∷
+    ∷
     marked 2 (Sent 9 5 (messages.Answer 6 (answers.Granted (grant_with 1 0 [])))) ∷ marked 5 (Got 9) ∷
     marked 5 (Told (replies.Response 0)) ∷ marked 5 (Called commands.Commit) ∷
     marked 5 (Sent 10 0 (messages.Request (tx 0 1) 1 1 wants.Prepare)) ∷
@@ -82,11 +82,11 @@ history =
     marked 5 (Sent 19 0 (messages.Request (tx 0 2) 1 0 (wants.Read (read_of 0 0)))) ∷
     marked 5 (Sent 20 1 (messages.Request (tx 0 2) 1 0 (wants.Read (read_of 0 0)))) ∷
     marked 5 (Sent 21 2 (messages.Request (tx 0 2) 1 0 (wants.Read (read_of 0 0)))) ∷ marked 2 (Got 21)
-        ∷ marked 1 (Got 20) ∷
+    ∷ marked 1 (Got 20) ∷
     marked 0 (Got 19)
-        ∷ marked 1 (Sent 22 5 (messages.Answer 20 (answers.Granted (grant_with 1 1 (line 1 0 1 1 0 1 ∷ []))))) ∷
+    ∷ marked 1 (Sent 22 5 (messages.Answer 20 (answers.Granted (grant_with 1 1 (line 1 0 1 1 0 1 ∷ []))))) ∷
     marked 5 (Got 22)
-        ∷ marked 0 (Sent 23 5 (messages.Answer 19 (answers.Granted (grant_with 1 1 (line 1 0 1 1 0 1 ∷ []))))) ∷
+    ∷ marked 0 (Sent 23 5 (messages.Answer 19 (answers.Granted (grant_with 1 1 (line 1 0 1 1 0 1 ∷ []))))) ∷
     marked 5 (Got 23) ∷ marked 2 (Sent 24 5 (messages.Answer 21 (answers.Clash (tx 2 1) 0 1))) ∷
     marked 2 (Sent 25 7 (messages.Inquiry (tx 2 1))) ∷ marked 5 (Got 24) ∷ marked 7 (Got 25) ∷
     marked 5 (Told (replies.Conflict (tx 2 1) 2)) ∷ marked 5 (Called (commands.Do 0 2)) ∷
@@ -101,5 +101,5 @@ history =
     marked 0 (Sent 30 5 (messages.Answer 27 (answers.Granted (grant_with 1 1 [])))) ∷ marked 5 (Got 30) ∷
     marked 2 (Sent 31 5 (messages.Answer 29 (answers.Granted (grant_with 1 1 [])))) ∷
     marked 1 (Sent 32 5 (messages.Answer 28 (answers.Granted (grant_with 1 1 [])))) ∷ marked 5 (Got 31)
-        ∷ marked 5 (Got 32) ∷
+    ∷ marked 5 (Got 32) ∷
     marked 5 (Told (replies.Response 0)) ∷ marked 9 (Phase 4) ∷ marked 9 (Cut 2 3) ∷ []

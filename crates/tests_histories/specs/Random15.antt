@@ -62,7 +62,7 @@ history =
     marked 0 (Sent 2 1 (messages.Answer 0 (answers.Granted (grant_with 1 0 [])))) ∷ marked 1 (Got 1) ∷
     marked 1 (Sent 3 0 (messages.Request (tx 0 2) 1 1 (wants.Append 1 [] (own_line 1 1 0 ∷ [])))) ∷ marked 1 (Got 1) ∷
     marked 0 (Got 3) ∷ marked 0 (Sent 4 1 (messages.Answer 3 (answers.Granted (grant_with 1 0 [])))) ∷ marked 1 (Got 2)
-        ∷
+    ∷
     marked 1 (Got 4) ∷ marked 1 (Told (replies.Response 0)) ∷ marked 1 (Called commands.Commit) ∷
     marked 1 (Sent 5 0 (messages.Request (tx 0 2) 1 1 wants.Prepare)) ∷ marked 0 (Got 5) ∷
     marked 0 (Wrote (prepare (tx 0 2) 1 (read_lock 1 0 ∷ []) (own_line 1 1 0 ∷ []) [])) ∷
@@ -74,9 +74,9 @@ history =
     marked 1 (Wrote (commit (stamp 2 0) (tx 0 3) [])) ∷ marked 1 (Told (replies.Committed (stamp 2 0))) ∷
     marked 3 (Phase 3) ∷ marked 1 (Called commands.Begin) ∷ marked 1 (Told (replies.Began (tx 0 4))) ∷
     marked 1 (Called (commands.Do 0 1)) ∷ marked 1 (Sent 8 0 (messages.Request (tx 0 4) 1 0 (wants.Read (read_of 0 1))))
-        ∷
+    ∷
     marked 0 (Got 8) ∷ marked 0 (Sent 9 1 (messages.Answer 8 (answers.Granted (grant_with 1 1 [])))) ∷ marked 1 (Got 9)
-        ∷
+    ∷
     marked 1 (Told replies.Absent) ∷ marked 1 (Called commands.Commit) ∷
     marked 1 (Sent 10 0 (messages.Request (tx 0 4) 1 1 wants.Prepare)) ∷ marked 0 (Got 10) ∷
     marked 0 (Wrote (prepare (tx 0 4) 1 (read_lock 0 1 ∷ []) [] [])) ∷
@@ -87,7 +87,7 @@ history =
     marked 1 (Called commands.Begin) ∷ marked 1 (Told (replies.Began (tx 0 5))) ∷ marked 1 (Called (commands.Do 1 1)) ∷
     marked 1 (Sent 13 0 (messages.Request (tx 0 5) 1 0 (wants.Read (read_of 1 1)))) ∷ marked 0 (Got 13) ∷
     marked 0 (Sent 14 1 (messages.Answer 13 (answers.Granted (grant_with 1 3 (line 1 0 2 1 1 0 ∷ [])))))
-        ∷ marked 1 (Got 14) ∷
+    ∷ marked 1 (Got 14) ∷
     marked 1 (Told (replies.Response 1)) ∷ marked 3 (Phase 4) ∷ marked 3 (Cut 0 1) ∷ marked 1 (Got 11) ∷
     marked 1 (Called commands.Commit) ∷ marked 1 (Sent 15 0 (messages.Request (tx 0 5) 1 1 wants.Prepare)) ∷
     marked 1 (Lost 15) ∷ marked 1 (Sent 16 0 (messages.Decision (tx 0 5) outcomes.Aborted)) ∷
@@ -109,11 +109,11 @@ history =
     marked 1 (Called commands.Begin) ∷ marked 1 (Told (replies.Began (tx 0 9))) ∷ marked 1 (Called (commands.Do 1 1)) ∷
     marked 1 (Sent 21 0 (messages.Request (tx 0 9) 1 0 (wants.Read (read_of 1 1)))) ∷ marked 0 (Got 21) ∷
     marked 0 (Sent 22 1 (messages.Answer 21 (answers.Granted (grant_with 1 3 (line 1 0 2 1 1 0 ∷ [])))))
-        ∷ marked 1 (Got 22) ∷
+    ∷ marked 1 (Got 22) ∷
     marked 1 (Told (replies.Response 1)) ∷ marked 1 (Called (commands.Do 1 0)) ∷
     marked 1 (Sent 23 0 (messages.Request (tx 0 9) 1 1 (wants.Read (read_of 1 0)))) ∷ marked 0 (Got 23) ∷
     marked 0 (Sent 24 1 (messages.Answer 23 (answers.Granted (grant_with 1 3 (line 1 0 2 1 1 0 ∷ [])))))
-        ∷ marked 1 (Got 24) ∷
+    ∷ marked 1 (Got 24) ∷
     marked 1 (Sent 25 0 (messages.Request (tx 0 9) 1 1 (wants.Append 1 (line 1 0 2 1 1 0 ∷ []) (own_line 2 1 0 ∷ []))))
     ∷
     marked 0 (Got 25) ∷ marked 0 (Sent 26 1 (messages.Answer 25 (answers.Clash (tx 0 5) 1 0))) ∷

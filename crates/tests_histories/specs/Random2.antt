@@ -43,10 +43,10 @@ history =
     marked 1 (Got 0) ∷ marked 4 (Sent 2 1 (messages.Request (tx 1 1) 1 0 (wants.Read (read_of 0 1)))) ∷
     marked 4 (Sent 3 2 (messages.Request (tx 1 1) 1 0 (wants.Read (read_of 0 1)))) ∷
     marked 2 (Sent 4 3 (messages.Answer 1 (answers.Granted (grant_with 1 0 [])))) ∷ marked 2 (Got 3) ∷ marked 3 (Got 4)
-        ∷
+    ∷
     marked 1 (Sent 5 3 (messages.Answer 0 (answers.Granted (grant_with 1 0 [])))) ∷ marked 1 (Got 2) ∷
     marked 1 (Sent 6 4 (messages.Answer 2 (answers.Granted (grant_with 1 0 [])))) ∷ marked 3 (Lost 0)
-        ∷ marked 4 (Lost 2) ∷
+    ∷ marked 4 (Lost 2) ∷
     marked 2 (Sent 7 4 (messages.Answer 3 (answers.Granted (grant_with 1 0 [])))) ∷ marked 4 (Got 7) ∷
     marked 4 (Told (replies.Quorum halves.Read 1 2)) ∷ marked 4 (Called commands.Commit) ∷
     marked 3 (Told (replies.Quorum halves.Append 1 2)) ∷ marked 3 (Called commands.Commit) ∷

@@ -65,9 +65,9 @@ history =
     marked 1 (Wrote (commit (stamp 3 0) (tx 0 3) [])) ∷ marked 1 (Told (replies.Committed (stamp 3 0))) ∷
     marked 4 (Phase 2) ∷ marked 1 (Called commands.Begin) ∷ marked 1 (Told (replies.Began (tx 0 4))) ∷
     marked 1 (Called (commands.Do 0 1)) ∷ marked 1 (Sent 0 0 (messages.Request (tx 0 4) 1 0 (wants.Read (read_of 0 1))))
-        ∷
+    ∷
     marked 0 (Got 0) ∷ marked 0 (Sent 1 1 (messages.Answer 0 (answers.Granted (grant_with 1 0 [])))) ∷ marked 1 (Got 1)
-        ∷
+    ∷
     marked 1 (Sent 2 0 (messages.Request (tx 0 4) 1 1 (wants.Append 0 [] (own_line 1 0 2 ∷ [])))) ∷ marked 0 (Got 2) ∷
     marked 0 (Sent 3 1 (messages.Answer 2 (answers.Granted (grant_with 1 0 [])))) ∷ marked 1 (Got 3) ∷
     marked 1 (Told (replies.Response 0)) ∷ marked 1 (Called commands.Commit) ∷
@@ -93,11 +93,11 @@ history =
     marked 2 (Told (replies.Began (tx 1 2))) ∷ marked 1 (Called (commands.Do 0 0)) ∷
     marked 1 (Sent 14 0 (messages.Request (tx 0 6) 1 0 (wants.Read (read_of 0 0)))) ∷ marked 0 (Got 14) ∷
     marked 0 (Sent 15 1 (messages.Answer 14 (answers.Granted (grant_with 1 4 (line 4 0 5 1 0 2 ∷ [])))))
-        ∷ marked 1 (Got 15) ∷
+    ∷ marked 1 (Got 15) ∷
     marked 1 (Sent 16 0 (messages.Request (tx 0 6) 1 1 (wants.Append 0 (line 4 0 5 1 0 2 ∷ []) (own_line 1 0 0 ∷ []))))
     ∷
     marked 0 (Got 16) ∷ marked 0 (Sent 17 1 (messages.Answer 16 (answers.Granted (grant_with 1 4 []))))
-        ∷ marked 1 (Got 17) ∷
+    ∷ marked 1 (Got 17) ∷
     marked 1 (Told (replies.Response 1)) ∷ marked 2 (Called (commands.Do 0 1)) ∷
     marked 2 (Sent 18 0 (messages.Request (tx 1 2) 1 0 (wants.Read (read_of 0 1)))) ∷ marked 0 (Got 18) ∷
     marked 0 (Sent 19 2 (messages.Answer 18 (answers.Clash (tx 0 6) 1 0))) ∷
@@ -108,17 +108,17 @@ history =
     marked 1 (Told replies.Dropped) ∷ marked 0 (Got 22) ∷ marked 2 (Called (commands.Do 0 2)) ∷
     marked 2 (Sent 23 0 (messages.Request (tx 1 2) 1 0 (wants.Read (read_of 0 2)))) ∷ marked 0 (Got 23) ∷
     marked 0 (Sent 24 2 (messages.Answer 23 (answers.Granted (grant_with 1 4 (line 4 0 5 1 0 2 ∷ [])))))
-        ∷ marked 2 (Got 24) ∷
+    ∷ marked 2 (Got 24) ∷
     marked 2 (Told replies.Absent) ∷ marked 1 (Called commands.Begin) ∷ marked 1 (Told (replies.Began (tx 0 7))) ∷
     marked 2 (Called commands.Abort) ∷ marked 2 (Sent 25 0 (messages.Decision (tx 1 2) outcomes.Aborted)) ∷
     marked 2 (Told replies.Dropped) ∷ marked 0 (Got 25) ∷ marked 1 (Called (commands.Do 0 1)) ∷
     marked 1 (Sent 26 0 (messages.Request (tx 0 7) 1 0 (wants.Read (read_of 0 1)))) ∷ marked 0 (Got 26) ∷
     marked 0 (Sent 27 1 (messages.Answer 26 (answers.Granted (grant_with 1 4 (line 4 0 5 1 0 2 ∷ [])))))
-        ∷ marked 1 (Got 27) ∷
+    ∷ marked 1 (Got 27) ∷
     marked 1 (Sent 28 0 (messages.Request (tx 0 7) 1 1 (wants.Append 0 (line 4 0 5 1 0 2 ∷ []) (own_line 1 0 2 ∷ []))))
     ∷
     marked 0 (Got 28) ∷ marked 0 (Sent 29 1 (messages.Answer 28 (answers.Granted (grant_with 1 4 []))))
-        ∷ marked 1 (Got 29) ∷
+    ∷ marked 1 (Got 29) ∷
     marked 1 (Told (replies.Response 0)) ∷ marked 2 (Called commands.Begin) ∷ marked 2 (Told (replies.Began (tx 1 3))) ∷
     marked 1 (Called commands.Commit) ∷ marked 1 (Sent 30 0 (messages.Request (tx 0 7) 1 1 wants.Prepare)) ∷
     marked 0 (Got 30) ∷ marked 0 (Wrote (prepare (tx 0 7) 1 (read_lock 0 1 ∷ []) (own_line 1 0 2 ∷ []) [])) ∷
@@ -127,15 +127,15 @@ history =
     marked 1 (Sent 32 0 (messages.Decision (tx 0 7) (outcomes.Committed (stamp 5 0)))) ∷
     marked 1 (Told (replies.Committed (stamp 5 0))) ∷ marked 0 (Got 32) ∷ marked 0 (Wrote (records.Done (tx 0 7) 5)) ∷
     marked 2 (Called (commands.Do 0 0))
-        ∷ marked 2 (Sent 33 0 (messages.Request (tx 1 3) 1 0 (wants.Read (read_of 0 0)))) ∷
+    ∷ marked 2 (Sent 33 0 (messages.Request (tx 1 3) 1 0 (wants.Read (read_of 0 0)))) ∷
     marked 0 (Got 33) ∷
     marked 0
-        (Sent 34 2 (messages.Answer 33 (answers.Granted (grant_with 1 5 (line 4 0 5 1 0 2 ∷ line 5 0 7 1 0 2 ∷ []))))) ∷
+    (Sent 34 2 (messages.Answer 33 (answers.Granted (grant_with 1 5 (line 4 0 5 1 0 2 ∷ line 5 0 7 1 0 2 ∷ []))))) ∷
     marked 2 (Got 34) ∷
     marked 2 (Sent 35 0 (messages.Request (tx 1 3) 1 1 (wants.Append 0 (line 4 0 5 1 0 2 ∷ line 5 0 7 1 0 2 ∷ [])
     (own_line 1 0 0 ∷ [])))) ∷
     marked 0 (Got 35) ∷ marked 0 (Sent 36 2 (messages.Answer 35 (answers.Granted (grant_with 1 5 []))))
-        ∷ marked 2 (Got 36) ∷
+    ∷ marked 2 (Got 36) ∷
     marked 2 (Told (replies.Response 1)) ∷ marked 2 (Called commands.Commit) ∷
     marked 2 (Sent 37 0 (messages.Request (tx 1 3) 1 1 wants.Prepare)) ∷ marked 0 (Got 37) ∷
     marked 0 (Wrote (prepare (tx 1 3) 1 (read_lock 0 0 ∷ []) (own_line 1 0 0 ∷ []) [])) ∷

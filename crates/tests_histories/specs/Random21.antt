@@ -59,7 +59,7 @@ history =
     marked 3 (Told (replies.Response 2)) ∷ marked 3 (Called (commands.Do 0 1)) ∷
     marked 3 (Sent 2 0 (messages.Request (tx 0 1) 1 1 (wants.Append 0 [] (own_line 1 0 3 ∷ own_line 2 0 2 ∷ [])))) ∷
     marked 0 (Got 2) ∷ marked 0 (Sent 3 3 (messages.Answer 2 (answers.Granted (grant_with 1 0 [])))) ∷ marked 3 (Got 3)
-        ∷
+    ∷
     marked 3 (Told (replies.Response 2)) ∷ marked 3 (Called commands.Commit) ∷
     marked 3 (Sent 4 0 (messages.Request (tx 0 1) 1 1 wants.Prepare)) ∷ marked 3 (Lost 4) ∷
     marked 3 (Sent 5 0 (messages.Decision (tx 0 1) outcomes.Aborted)) ∷
@@ -70,7 +70,7 @@ history =
     marked 3 (Told (replies.Response 2)) ∷ marked 3 (Called (commands.Do 0 2)) ∷
     marked 3 (Sent 8 0 (messages.Request (tx 0 2) 1 1 (wants.Append 0 [] (own_line 1 0 3 ∷ own_line 2 0 3 ∷ [])))) ∷
     marked 0 (Got 8) ∷ marked 0 (Sent 9 3 (messages.Answer 8 (answers.Granted (grant_with 1 0 [])))) ∷ marked 3 (Got 9)
-        ∷
+    ∷
     marked 3 (Told (replies.Response 2)) ∷ marked 3 (Called commands.Commit) ∷
     marked 3 (Sent 10 0 (messages.Request (tx 0 2) 1 1 wants.Prepare)) ∷ marked 0 (Got 10) ∷
     marked 0 (Wrote (prepare (tx 0 2) 1 [] (own_line 1 0 3 ∷ own_line 2 0 3 ∷ []) [])) ∷
@@ -85,7 +85,7 @@ history =
     marked 4 (Called (commands.Do 0 1)) ∷
     marked 4 (Sent 14 2 (messages.Request (tx 1 1) 1 0 (wants.Append 0 [] (own_line 1 0 2 ∷ [])))) ∷ marked 2 (Got 14) ∷
     marked 3 (Called (commands.Do 0 2))
-        ∷ marked 2 (Sent 15 4 (messages.Answer 14 (answers.Granted (grant_with 1 0 [])))) ∷
+    ∷ marked 2 (Sent 15 4 (messages.Answer 14 (answers.Granted (grant_with 1 0 [])))) ∷
     marked 3 (Sent 16 0 (messages.Request (tx 0 3) 1 0 (wants.Append 0 [] (own_line 1 0 3 ∷ [])))) ∷ marked 4 (Got 15) ∷
     marked 0 (Got 16) ∷ marked 4 (Told (replies.Response 2)) ∷
     marked 0 (Sent 17 3 (messages.Answer 16 (answers.Granted (grant_with 1 1 [])))) ∷ marked 4 (Called commands.Abort) ∷
@@ -95,7 +95,7 @@ history =
     marked 4 (Sent 19 2 (messages.Request (tx 1 2) 1 0 (wants.Append 0 [] (own_line 1 0 2 ∷ [])))) ∷ marked 2 (Got 19) ∷
     marked 3 (Called commands.Commit) ∷ marked 3 (Sent 20 0 (messages.Request (tx 0 3) 1 1 wants.Prepare)) ∷
     marked 2 (Sent 21 4 (messages.Answer 19 (answers.Granted (grant_with 1 0 [])))) ∷ marked 4 (Got 21)
-        ∷ marked 0 (Got 20) ∷
+    ∷ marked 0 (Got 20) ∷
     marked 4 (Told (replies.Response 2)) ∷ marked 4 (Called (commands.Do 0 1)) ∷
     marked 4 (Sent 22 2 (messages.Request (tx 1 2) 1 1 (wants.Append 0 [] (own_line 1 0 2 ∷ own_line 2 0 2 ∷ [])))) ∷
     marked 0 (Wrote (prepare (tx 0 3) 1 [] (own_line 1 0 3 ∷ []) [])) ∷
@@ -112,9 +112,9 @@ history =
     marked 2 (Sent 28 3 (messages.Answer 27 (answers.Clash (tx 1 2) 0 2))) ∷
     marked 2 (Sent 29 4 (messages.Inquiry (tx 1 2))) ∷ marked 0 (Got 26) ∷ marked 3 (Got 28) ∷
     marked 0
-        (Sent 30 3
-          (messages.Answer 26
-            (answers.Granted (grant_with 1 2 (line 1 0 2 1 0 3 ∷ line 1 0 2 2 0 3 ∷ line 2 0 3 1 0 3 ∷ []))))) ∷
+    (Sent 30 3
+    (messages.Answer 26
+    (answers.Granted (grant_with 1 2 (line 1 0 2 1 0 3 ∷ line 1 0 2 2 0 3 ∷ line 2 0 3 1 0 3 ∷ []))))) ∷
     marked 4 (Sent 31 2 (messages.Request (tx 1 2) 1 1 wants.Prepare)) ∷ marked 2 (Got 31) ∷
     marked 2 (Wrote (prepare (tx 1 2) 1 [] (own_line 1 0 2 ∷ own_line 2 0 2 ∷ []) [])) ∷
     marked 2 (Sent 32 4 (messages.Answer 31 (answers.Yes 0))) ∷ marked 4 (Got 29) ∷

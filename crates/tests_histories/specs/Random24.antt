@@ -87,22 +87,22 @@ history =
     marked 6 (Told (replies.Began (tx 3 2))) ∷ marked 6 (Called (commands.Do 0 1)) ∷
     marked 6 (Sent 16 0 (messages.Request (tx 3 2) 1 0 (wants.Append 0 [] (own_line 1 0 2 ∷ [])))) ∷ marked 0 (Got 13) ∷
     marked 0 (Got 16) ∷ marked 0 (Sent 17 6 (messages.Answer 16 (answers.Granted (grant_with 1 0 []))))
-        ∷ marked 2 (Got 15) ∷
+    ∷ marked 2 (Got 15) ∷
     marked 6 (Got 17) ∷ marked 6 (Told (replies.Response 2)) ∷ marked 6 (Called (commands.Do 0 0)) ∷
     marked 6 (Sent 18 0 (messages.Request (tx 3 2) 1 1 (wants.Read (read_of 0 0)))) ∷
     marked 6 (Sent 19 1 (messages.Request (tx 3 2) 1 0 (wants.Read (read_of 0 0)))) ∷ marked 1 (Got 19) ∷
     marked 1 (Sent 20 6 (messages.Answer 19 (answers.Granted (grant_with 1 0 [])))) ∷ marked 6 (Got 20)
-        ∷ marked 0 (Got 18) ∷
+    ∷ marked 0 (Got 18) ∷
     marked 0 (Sent 21 6 (messages.Answer 18 (answers.Granted (grant_with 1 0 [])))) ∷ marked 6 (Got 21) ∷
     marked 6 (Told (replies.Response 0)) ∷ marked 6 (Called (commands.Do 0 1)) ∷
     marked 6 (Sent 22 0 (messages.Request (tx 3 2) 1 1 (wants.Append 0 [] (own_line 1 0 2 ∷ own_line 3 0 2 ∷ [])))) ∷
     marked 6 (Lost 22) ∷
     marked 6 (Sent 23 1 (messages.Request (tx 3 2) 1 1 (wants.Append 0 [] (own_line 1 0 2 ∷ own_line 3 0 2 ∷ [])))) ∷
     marked 1 (Got 23) ∷ marked 1 (Sent 24 6 (messages.Answer 23 (answers.Granted (grant_with 1 0 []))))
-        ∷ marked 6 (Got 24) ∷
+    ∷ marked 6 (Got 24) ∷
     marked 6 (Sent 25 2 (messages.Request (tx 3 2) 1 0 (wants.Append 0 [] (own_line 1 0 2 ∷ own_line 3 0 2 ∷ [])))) ∷
     marked 2 (Got 25) ∷ marked 2 (Sent 26 6 (messages.Answer 25 (answers.Granted (grant_with 1 0 []))))
-        ∷ marked 6 (Got 26) ∷
+    ∷ marked 6 (Got 26) ∷
     marked 6 (Told (replies.Response 2)) ∷ marked 6 (Called commands.Commit) ∷
     marked 6 (Sent 27 0 (messages.Request (tx 3 2) 1 1 wants.Prepare)) ∷
     marked 6 (Sent 28 1 (messages.Request (tx 3 2) 1 1 wants.Prepare)) ∷
@@ -123,13 +123,13 @@ history =
     marked 4 (Called commands.Begin) ∷ marked 1 (Sent 36 6 (messages.Answer 9 answers.Stale)) ∷
     marked 4 (Told (replies.Began (tx 1 3))) ∷ marked 1 (Got 34) ∷ marked 0 (Got 22) ∷ marked 6 (Got 4) ∷
     marked 1 (Wrote (records.Done (tx 3 2) 1))
-        ∷ marked 0 (Sent 37 6 (messages.Answer 22 (answers.Granted (grant_with 1 1 [])))) ∷
+    ∷ marked 0 (Sent 37 6 (messages.Answer 22 (answers.Granted (grant_with 1 1 [])))) ∷
     marked 4 (Called commands.Commit) ∷ marked 4 (Wrote (commit (stamp 3 1) (tx 1 3) [])) ∷
     marked 4 (Told (replies.Committed (stamp 3 1))) ∷ marked 6 (Got 36) ∷ marked 5 (Called (commands.Do 0 1)) ∷
     marked 5 (Sent 38 2 (messages.Request (tx 2 1) 1 0 (wants.Append 0 [] (own_line 1 0 2 ∷ [])))) ∷
     marked 5 (Sent 39 0 (messages.Request (tx 2 1) 1 0 (wants.Append 0 [] (own_line 1 0 2 ∷ [])))) ∷ marked 0 (Got 39) ∷
     marked 2 (Got 38) ∷ marked 2 (Sent 40 5 (messages.Answer 38 (answers.Granted (grant_with 1 1 []))))
-        ∷ marked 6 (Got 37) ∷
+    ∷ marked 6 (Got 37) ∷
     marked 0 (Sent 41 5 (messages.Answer 39 (answers.Granted (grant_with 1 1 [])))) ∷ marked 5 (Got 40) ∷
     marked 6 (Called commands.Begin) ∷ marked 5 (Lost 39) ∷
     marked 5 (Sent 42 1 (messages.Request (tx 2 1) 1 0 (wants.Append 0 [] (own_line 1 0 2 ∷ [])))) ∷ marked 1 (Got 42) ∷
@@ -140,9 +140,9 @@ history =
     marked 5 (Sent 46 2 (messages.Decision (tx 2 1) outcomes.Aborted)) ∷ marked 5 (Told replies.Dropped) ∷
     marked 0 (Got 44) ∷ marked 2 (Got 46) ∷ marked 6 (Told (replies.Began (tx 3 3))) ∷
     marked 6 (Called (commands.Do 0 0))
-        ∷ marked 6 (Sent 47 0 (messages.Request (tx 3 3) 1 0 (wants.Read (read_of 0 0)))) ∷
+    ∷ marked 6 (Sent 47 0 (messages.Request (tx 3 3) 1 0 (wants.Read (read_of 0 0)))) ∷
     marked 6 (Sent 48 1 (messages.Request (tx 3 3) 1 0 (wants.Read (read_of 0 0)))) ∷ marked 0 (Got 47)
-        ∷ marked 1 (Got 48) ∷
+    ∷ marked 1 (Got 48) ∷
     marked 1 (Sent 49 6 (messages.Answer 48 (answers.Clash (tx 2 1) 0 2))) ∷
     marked 1 (Sent 50 5 (messages.Inquiry (tx 2 1))) ∷ marked 6 (Got 49) ∷
     marked 0 (Sent 51 6 (messages.Answer 47 (answers.Clash (tx 3 2) 0 2))) ∷

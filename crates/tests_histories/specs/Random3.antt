@@ -45,7 +45,7 @@ history =
     marked 1 (Told (replies.Response 2)) ∷ marked 1 (Called (commands.Do 0 1)) ∷
     marked 1 (Sent 2 0 (messages.Request (tx 0 1) 1 1 (wants.Append 0 [] (own_line 1 0 2 ∷ own_line 2 0 2 ∷ [])))) ∷
     marked 0 (Got 2) ∷ marked 0 (Sent 3 1 (messages.Answer 2 (answers.Granted (grant_with 1 0 [])))) ∷ marked 1 (Got 3)
-        ∷
+    ∷
     marked 1 (Told (replies.Response 2)) ∷ marked 1 (Got 3) ∷ marked 1 (Called commands.Commit) ∷
     marked 1 (Sent 4 0 (messages.Request (tx 0 1) 1 1 wants.Prepare)) ∷ marked 1 (Lost 4) ∷
     marked 1 (Sent 5 0 (messages.Decision (tx 0 1) outcomes.Aborted)) ∷
@@ -59,7 +59,7 @@ history =
     marked 1 (Told (replies.Response 0)) ∷ marked 1 (Called (commands.Do 0 1)) ∷
     marked 1 (Sent 11 0 (messages.Request (tx 0 2) 1 1 (wants.Append 0 [] (own_line 1 0 0 ∷ own_line 2 0 2 ∷ [])))) ∷
     marked 0 (Got 11) ∷ marked 0 (Sent 12 1 (messages.Answer 11 (answers.Granted (grant_with 1 0 []))))
-        ∷ marked 1 (Got 12) ∷
+    ∷ marked 1 (Got 12) ∷
     marked 1 (Told (replies.Response 2)) ∷ marked 1 (Called commands.Commit) ∷
     marked 1 (Sent 13 0 (messages.Request (tx 0 2) 1 1 wants.Prepare)) ∷ marked 0 (Got 13) ∷
     marked 0 (Wrote (prepare (tx 0 2) 1 (read_lock 0 0 ∷ []) (own_line 1 0 0 ∷ own_line 2 0 2 ∷ []) [])) ∷

@@ -75,34 +75,34 @@ history =
     marked 6 (Sent 1 2 (messages.Request (tx 1 2) 1 0 (wants.Read (read_of 0 0)))) ∷
     marked 6 (Sent 2 3 (messages.Request (tx 1 2) 1 0 (wants.Read (read_of 0 0)))) ∷
     marked 6 (Sent 3 4 (messages.Request (tx 1 2) 1 0 (wants.Read (read_of 0 0)))) ∷ marked 7 (Called (commands.Do 0 2))
-        ∷
+    ∷
     marked 1 (Got 0) ∷ marked 4 (Got 3) ∷ marked 7 (Sent 4 2 (messages.Request (tx 2 1) 1 0 (wants.Read (read_of 0 2))))
-        ∷
+    ∷
     marked 7 (Sent 5 3 (messages.Request (tx 2 1) 1 0 (wants.Read (read_of 0 2)))) ∷
     marked 7 (Sent 6 4 (messages.Request (tx 2 1) 1 0 (wants.Read (read_of 0 2)))) ∷
     marked 1 (Sent 7 6 (messages.Answer 0 (answers.Granted (grant_with 1 0 [])))) ∷ marked 6 (Got 7) ∷
     marked 4 (Sent 8 6 (messages.Answer 3 (answers.Granted (grant_with 1 0 []))))
-        ∷ marked 5 (Told (replies.Began (tx 0 2))) ∷
+    ∷ marked 5 (Told (replies.Began (tx 0 2))) ∷
     marked 2 (Got 1) ∷ marked 5 (Called (commands.Do 0 2)) ∷
     marked 2 (Sent 9 6 (messages.Answer 1 (answers.Granted (grant_with 1 0 [])))) ∷
     marked 5 (Sent 10 0 (messages.Request (tx 0 2) 1 0 (wants.Read (read_of 0 2)))) ∷
     marked 5 (Sent 11 1 (messages.Request (tx 0 2) 1 0 (wants.Read (read_of 0 2)))) ∷
     marked 5 (Sent 12 2 (messages.Request (tx 0 2) 1 0 (wants.Read (read_of 0 2)))) ∷
     marked 5 (Sent 13 3 (messages.Request (tx 0 2) 1 0 (wants.Read (read_of 0 2)))) ∷ marked 3 (Got 2)
-        ∷ marked 1 (Got 11) ∷
+    ∷ marked 1 (Got 11) ∷
     marked 4 (Got 6) ∷ marked 1 (Sent 14 5 (messages.Answer 11 (answers.Granted (grant_with 1 0 []))))
-        ∷ marked 5 (Got 14) ∷
+    ∷ marked 5 (Got 14) ∷
     marked 3 (Sent 15 6 (messages.Answer 2 (answers.Granted (grant_with 1 0 [])))) ∷ marked 2 (Got 4) ∷ marked 3 (Got 5)
-        ∷
+    ∷
     marked 4 (Sent 16 7 (messages.Answer 6 (answers.Granted (grant_with 1 0 [])))) ∷ marked 6 (Got 8)
-        ∷ marked 0 (Got 10) ∷
+    ∷ marked 0 (Got 10) ∷
     marked 0 (Sent 17 5 (messages.Answer 10 (answers.Granted (grant_with 1 0 [])))) ∷ marked 7 (Got 16) ∷
     marked 3 (Sent 18 7 (messages.Answer 5 (answers.Granted (grant_with 1 0 [])))) ∷
     marked 2 (Sent 19 7 (messages.Answer 4 (answers.Granted (grant_with 1 0 [])))) ∷ marked 3 (Got 13)
-        ∷ marked 5 (Got 17) ∷
+    ∷ marked 5 (Got 17) ∷
     marked 3 (Sent 20 5 (messages.Answer 13 (answers.Granted (grant_with 1 0 [])))) ∷ marked 2 (Got 12) ∷
     marked 2 (Sent 21 5 (messages.Answer 12 (answers.Granted (grant_with 1 0 [])))) ∷ marked 7 (Got 18)
-        ∷ marked 6 (Got 9) ∷
+    ∷ marked 6 (Got 9) ∷
     marked 5 (Got 20) ∷ marked 5 (Got 21) ∷
     marked 5 (Sent 22 0 (messages.Request (tx 0 2) 1 1 (wants.Append 0 [] (own_line 1 0 4 ∷ [])))) ∷
     marked 5 (Sent 23 1 (messages.Request (tx 0 2) 1 1 (wants.Append 0 [] (own_line 1 0 4 ∷ [])))) ∷
@@ -115,7 +115,7 @@ history =
     marked 6 (Sent 30 3 (messages.Request (tx 1 2) 1 1 (wants.Append 0 [] (own_line 1 0 0 ∷ [])))) ∷
     marked 6 (Sent 31 4 (messages.Request (tx 1 2) 1 1 (wants.Append 0 [] (own_line 1 0 0 ∷ [])))) ∷ marked 4 (Got 31) ∷
     marked 0 (Got 22) ∷ marked 4 (Sent 32 6 (messages.Answer 31 (answers.Granted (grant_with 1 0 []))))
-        ∷ marked 7 (Got 19) ∷
+    ∷ marked 7 (Got 19) ∷
     marked 5 (Got 26) ∷ marked 1 (Got 23) ∷ marked 6 (Got 27) ∷
     marked 6 (Sent 33 3 (messages.Decision (tx 1 2) outcomes.Active)) ∷
     marked 1 (Sent 34 5 (messages.Answer 23 (answers.Clash (tx 1 2) 0 4))) ∷
@@ -131,7 +131,7 @@ history =
     marked 4 (Sent 44 6 (messages.Inquiry (tx 1 2))) ∷
     marked 3 (Sent 45 6 (messages.Answer 30 (answers.Granted (grant_with 1 0 [])))) ∷
     marked 2 (Sent 46 6 (messages.Answer 29 (answers.Granted (grant_with 1 0 [])))) ∷ marked 2 (Got 36)
-        ∷ marked 3 (Got 33) ∷
+    ∷ marked 3 (Got 33) ∷
     marked 6 (Got 32) ∷ marked 7 (Got 43) ∷ marked 6 (Got 35) ∷
     marked 2 (Sent 47 7 (messages.Answer 36 (answers.Clash (tx 1 2) 0 4))) ∷
     marked 2 (Sent 48 6 (messages.Inquiry (tx 1 2))) ∷ marked 5 (Got 39) ∷
@@ -159,13 +159,13 @@ history =
     marked 5 (Sent 63 3 (messages.Request (tx 0 3) 1 0 (wants.Read (read_of 0 2)))) ∷ marked 6 (Got 44) ∷
     marked 6 (Sent 64 4 (messages.Decision (tx 1 2) outcomes.Active)) ∷ marked 0 (Got 60) ∷ marked 6 (Got 45) ∷
     marked 4 (Got 64) ∷ marked 2 (Got 55)
-        ∷ marked 0 (Sent 65 5 (messages.Answer 60 (answers.Granted (grant_with 1 0 [])))) ∷
+    ∷ marked 0 (Sent 65 5 (messages.Answer 60 (answers.Granted (grant_with 1 0 [])))) ∷
     marked 6 (Got 46) ∷ marked 5 (Got 65) ∷ marked 6 (Told (replies.Response 0)) ∷ marked 1 (Got 61) ∷
     marked 6 (Got 48) ∷ marked 2 (Got 57)
-        ∷ marked 1 (Sent 66 5 (messages.Answer 61 (answers.Granted (grant_with 1 0 [])))) ∷
+    ∷ marked 1 (Sent 66 5 (messages.Answer 61 (answers.Granted (grant_with 1 0 [])))) ∷
     marked 6 (Sent 67 2 (messages.Decision (tx 1 2) outcomes.Active)) ∷ marked 3 (Got 63) ∷ marked 6 (Got 51) ∷
     marked 3 (Sent 68 5 (messages.Answer 63 (answers.Granted (grant_with 1 0 [])))) ∷ marked 2 (Got 62)
-        ∷ marked 5 (Got 66) ∷
+    ∷ marked 5 (Got 66) ∷
     marked 6 (Sent 69 3 (messages.Decision (tx 1 2) outcomes.Active)) ∷ marked 3 (Got 69) ∷
     marked 6 (Called commands.Commit) ∷ marked 6 (Sent 70 1 (messages.Request (tx 1 2) 1 1 wants.Prepare)) ∷
     marked 6 (Sent 71 2 (messages.Request (tx 1 2) 1 1 wants.Prepare)) ∷
@@ -178,14 +178,14 @@ history =
     marked 3 (Wrote (prepare (tx 1 2) 1 (read_lock 0 0 ∷ []) (own_line 1 0 0 ∷ []) [])) ∷
     marked 3 (Sent 76 6 (messages.Answer 72 (answers.Yes 0))) ∷
     marked 2 (Sent 77 5 (messages.Answer 62 (answers.Granted (grant_with 1 0 [])))) ∷ marked 2 (Got 67)
-        ∷ marked 5 (Got 77) ∷
+    ∷ marked 5 (Got 77) ∷
     marked 2 (Got 71) ∷ marked 6 (Got 75) ∷ marked 6 (Got 76) ∷
     marked 5 (Sent 78 0 (messages.Request (tx 0 3) 1 1 (wants.Append 0 [] (own_line 1 0 4 ∷ [])))) ∷
     marked 5 (Sent 79 1 (messages.Request (tx 0 3) 1 1 (wants.Append 0 [] (own_line 1 0 4 ∷ [])))) ∷
     marked 5 (Sent 80 2 (messages.Request (tx 0 3) 1 1 (wants.Append 0 [] (own_line 1 0 4 ∷ [])))) ∷
     marked 5 (Sent 81 3 (messages.Request (tx 0 3) 1 1 (wants.Append 0 [] (own_line 1 0 4 ∷ [])))) ∷ marked 0 (Got 78) ∷
     marked 3 (Got 81) ∷ marked 1 (Got 79)
-        ∷ marked 0 (Sent 82 5 (messages.Answer 78 (answers.Granted (grant_with 1 0 [])))) ∷
+    ∷ marked 0 (Sent 82 5 (messages.Answer 78 (answers.Granted (grant_with 1 0 [])))) ∷
     marked 2 (Wrote (prepare (tx 1 2) 1 (read_lock 0 0 ∷ []) (own_line 1 0 0 ∷ []) [])) ∷
     marked 2 (Sent 83 6 (messages.Answer 71 (answers.Yes 0))) ∷
     marked 1 (Sent 84 5 (messages.Answer 79 (answers.Clash (tx 1 2) 0 4))) ∷

@@ -78,11 +78,11 @@ history =
     marked 8 (Phase 1) ∷ marked 5 (Called commands.Begin) ∷ marked 4 (Called commands.Begin) ∷
     marked 4 (Told (replies.Began (tx 1 1))) ∷ marked 4 (Called (commands.Do 0 2)) ∷
     marked 4 (Sent 0 1 (messages.Request (tx 1 1) 1 0 (wants.Read (read_of 0 2))))
-        ∷ marked 5 (Told (replies.Began (tx 2 1))) ∷
+    ∷ marked 5 (Told (replies.Began (tx 2 1))) ∷
     marked 1 (Got 0) ∷ marked 1 (Sent 1 4 (messages.Answer 0 (answers.Granted (grant_with 1 0 [])))) ∷ marked 4 (Got 1)
-        ∷
+    ∷
     marked 5 (Called (commands.Do 0 1)) ∷ marked 5 (Sent 2 2 (messages.Request (tx 2 1) 1 0 (wants.Read (read_of 0 1))))
-        ∷
+    ∷
     marked 2 (Got 2) ∷ marked 2 (Sent 3 5 (messages.Answer 2 (answers.Granted (grant_with 1 0 [])))) ∷
     marked 4 (Sent 4 1 (messages.Request (tx 1 1) 1 1 (wants.Append 0 [] (own_line 1 0 4 ∷ [])))) ∷
     marked 4 (Sent 5 2 (messages.Request (tx 1 1) 1 0 (wants.Append 0 [] (own_line 1 0 4 ∷ [])))) ∷
@@ -92,12 +92,12 @@ history =
     marked 5 (Sent 9 1 (messages.Request (tx 2 1) 1 0 (wants.Append 0 [] (own_line 1 0 2 ∷ [])))) ∷ marked 0 (Got 6) ∷
     marked 1 (Sent 10 4 (messages.Answer 4 (answers.Granted (grant_with 1 0 [])))) ∷ marked 1 (Got 9) ∷
     marked 0 (Sent 11 4 (messages.Answer 6 (answers.Granted (grant_with 1 0 [])))) ∷ marked 4 (Got 10)
-        ∷ marked 2 (Got 5) ∷
+    ∷ marked 2 (Got 5) ∷
     marked 4 (Got 11) ∷ marked 2 (Sent 12 4 (messages.Answer 5 (answers.Granted (grant_with 1 0 [])))) ∷
     marked 1 (Sent 13 5 (messages.Answer 9 (answers.Granted (grant_with 1 0 [])))) ∷ marked 0 (Got 8)
-        ∷ marked 4 (Got 12) ∷
+    ∷ marked 4 (Got 12) ∷
     marked 5 (Got 13) ∷ marked 0 (Sent 14 5 (messages.Answer 8 (answers.Granted (grant_with 1 0 []))))
-        ∷ marked 5 (Got 14) ∷
+    ∷ marked 5 (Got 14) ∷
     marked 4 (Told (replies.Response 2)) ∷ marked 2 (Got 7) ∷
     marked 2 (Sent 15 5 (messages.Answer 7 (answers.Granted (grant_with 1 0 [])))) ∷ marked 5 (Got 15) ∷
     marked 5 (Told (replies.Response 1)) ∷ marked 5 (Called (commands.Do 0 2)) ∷
@@ -112,11 +112,11 @@ history =
     marked 5 (Sent 23 0 (messages.Request (tx 2 1) 1 1 (wants.Append 0 [] (own_line 1 0 2 ∷ own_line 2 0 2 ∷ [])))) ∷
     marked 5 (Sent 24 1 (messages.Request (tx 2 1) 1 1 (wants.Append 0 [] (own_line 1 0 2 ∷ own_line 2 0 2 ∷ [])))) ∷
     marked 0 (Got 23) ∷ marked 2 (Got 22)
-        ∷ marked 0 (Sent 25 5 (messages.Answer 23 (answers.Granted (grant_with 1 0 [])))) ∷
+    ∷ marked 0 (Sent 25 5 (messages.Answer 23 (answers.Granted (grant_with 1 0 [])))) ∷
     marked 5 (Got 25) ∷ marked 1 (Got 24)
-        ∷ marked 2 (Sent 26 5 (messages.Answer 22 (answers.Granted (grant_with 1 0 [])))) ∷
+    ∷ marked 2 (Sent 26 5 (messages.Answer 22 (answers.Granted (grant_with 1 0 [])))) ∷
     marked 5 (Got 26) ∷ marked 1 (Sent 27 5 (messages.Answer 24 (answers.Granted (grant_with 1 0 []))))
-        ∷ marked 5 (Got 27) ∷
+    ∷ marked 5 (Got 27) ∷
     marked 5 (Told (replies.Response 1)) ∷ marked 5 (Called commands.Commit) ∷
     marked 5 (Sent 28 2 (messages.Request (tx 2 1) 1 1 wants.Prepare)) ∷
     marked 5 (Sent 29 0 (messages.Request (tx 2 1) 1 1 wants.Prepare)) ∷
@@ -134,15 +134,15 @@ history =
     marked 5 (Told (replies.Committed (stamp 1 2))) ∷ marked 2 (Got 36) ∷ marked 5 (Called commands.Begin) ∷
     marked 5 (Told (replies.Began (tx 2 2))) ∷ marked 5 (Called (commands.Do 0 0)) ∷
     marked 2 (Wrote (records.Done (tx 2 1) 1))
-        ∷ marked 5 (Sent 37 2 (messages.Request (tx 2 2) 1 0 (wants.Read (read_of 0 0)))) ∷
+    ∷ marked 5 (Sent 37 2 (messages.Request (tx 2 2) 1 0 (wants.Read (read_of 0 0)))) ∷
     marked 5 (Sent 38 0 (messages.Request (tx 2 2) 1 0 (wants.Read (read_of 0 0)))) ∷ marked 1 (Got 35)
-        ∷ marked 0 (Got 34) ∷
+    ∷ marked 0 (Got 34) ∷
     marked 1 (Wrote (records.Done (tx 2 1) 1)) ∷ marked 2 (Got 37) ∷
     marked 2
-        (Sent 39 5 (messages.Answer 37 (answers.Granted (grant_with 1 1 (line 1 2 1 1 0 2 ∷ line 1 2 1 2 0 2 ∷ []))))) ∷
+    (Sent 39 5 (messages.Answer 37 (answers.Granted (grant_with 1 1 (line 1 2 1 1 0 2 ∷ line 1 2 1 2 0 2 ∷ []))))) ∷
     marked 0 (Wrote (records.Done (tx 2 1) 1)) ∷ marked 0 (Got 38) ∷ marked 5 (Got 39) ∷
     marked 0
-        (Sent 40 5 (messages.Answer 38 (answers.Granted (grant_with 1 1 (line 1 2 1 1 0 2 ∷ line 1 2 1 2 0 2 ∷ []))))) ∷
+    (Sent 40 5 (messages.Answer 38 (answers.Granted (grant_with 1 1 (line 1 2 1 1 0 2 ∷ line 1 2 1 2 0 2 ∷ []))))) ∷
     marked 5 (Got 40) ∷
     marked 5 (Sent 41 2 (messages.Request (tx 2 2) 1 1 (wants.Append 0 (line 1 2 1 1 0 2 ∷ line 1 2 1 2 0 2 ∷ [])
     (own_line 1 0 0 ∷ [])))) ∷
@@ -155,7 +155,7 @@ history =
     marked 1 (Sent 45 5 (messages.Answer 43 (answers.Clash (tx 1 1) 2 0))) ∷
     marked 1 (Sent 46 4 (messages.Inquiry (tx 1 1))) ∷
     marked 2 (Sent 47 5 (messages.Answer 41 (answers.Granted (grant_with 1 1 [])))) ∷ marked 5 (Got 44)
-        ∷ marked 5 (Got 45) ∷
+    ∷ marked 5 (Got 45) ∷
     marked 4 (Got 46) ∷ marked 4 (Sent 48 1 (messages.Decision (tx 1 1) outcomes.Active)) ∷ marked 1 (Got 48) ∷
     marked 5 (Got 47) ∷ marked 5 (Told (replies.Conflict (tx 1 1) 1)) ∷ marked 8 (Phase 2) ∷
     marked 3 (Called commands.Begin) ∷ marked 3 (Told (replies.Began (tx 0 1))) ∷ marked 5 (Called (commands.Do 0 2)) ∷
@@ -171,22 +171,22 @@ history =
     marked 3 (Sent 54 1 (messages.Request (tx 0 1) 1 0 (wants.Read (read_of 0 0)))) ∷ marked 2 (Got 52) ∷
     marked 6 (Sent 55 0 (messages.Request (tx 3 1) 1 0 (wants.Read (read_of 0 1)))) ∷ marked 1 (Got 51) ∷
     marked 0 (Sent 56 5 (messages.Answer 8 (answers.Granted (grant_with 1 1 [])))) ∷ marked 0 (Got 23)
-        ∷ marked 5 (Got 56) ∷
+    ∷ marked 5 (Got 56) ∷
     marked 0 (Sent 57 5 (messages.Answer 23 (answers.Granted (grant_with 1 1 [])))) ∷ marked 5 (Got 57)
-        ∷ marked 1 (Got 54) ∷
+    ∷ marked 1 (Got 54) ∷
     marked 1
-        (Sent 58 3 (messages.Answer 54 (answers.Granted (grant_with 1 1 (line 1 2 1 1 0 2 ∷ line 1 2 1 2 0 2 ∷ []))))) ∷
+    (Sent 58 3 (messages.Answer 54 (answers.Granted (grant_with 1 1 (line 1 2 1 1 0 2 ∷ line 1 2 1 2 0 2 ∷ []))))) ∷
     marked 3 (Got 58) ∷ marked 0 (Got 29) ∷
     marked 0 (Wrote (prepare (tx 2 1) 1 [] (own_line 1 0 2 ∷ own_line 2 0 2 ∷ []) [])) ∷
     marked 0 (Sent 59 5 (messages.Answer 29 (answers.Yes 1))) ∷ marked 0 (Got 34) ∷
     marked 0 (Wrote (records.Done (tx 2 1) 1)) ∷ marked 0 (Got 38) ∷ marked 5 (Got 59) ∷
     marked 0
-        (Sent 60 5 (messages.Answer 38 (answers.Granted (grant_with 1 1 (line 1 2 1 1 0 2 ∷ line 1 2 1 2 0 2 ∷ []))))) ∷
+    (Sent 60 5 (messages.Answer 38 (answers.Granted (grant_with 1 1 (line 1 2 1 1 0 2 ∷ line 1 2 1 2 0 2 ∷ []))))) ∷
     marked 0 (Got 42) ∷ marked 5 (Got 60)
-        ∷ marked 0 (Sent 61 5 (messages.Answer 42 (answers.Granted (grant_with 1 1 [])))) ∷
+    ∷ marked 0 (Sent 61 5 (messages.Answer 42 (answers.Granted (grant_with 1 1 [])))) ∷
     marked 5 (Got 61) ∷ marked 0 (Got 50) ∷ marked 0 (Got 53) ∷
     marked 0
-        (Sent 62 3 (messages.Answer 53 (answers.Granted (grant_with 1 1 (line 1 2 1 1 0 2 ∷ line 1 2 1 2 0 2 ∷ []))))) ∷
+    (Sent 62 3 (messages.Answer 53 (answers.Granted (grant_with 1 1 (line 1 2 1 1 0 2 ∷ line 1 2 1 2 0 2 ∷ []))))) ∷
     marked 3 (Got 62) ∷
     marked 3 (Sent 63 0 (messages.Request (tx 0 1) 1 1 (wants.Append 0 (line 1 2 1 1 0 2 ∷ line 1 2 1 2 0 2 ∷ [])
     (own_line 1 0 0 ∷ [])))) ∷
@@ -199,7 +199,7 @@ history =
     marked 1 (Sent 67 3 (messages.Answer 64 (answers.Clash (tx 1 1) 2 0))) ∷
     marked 1 (Sent 68 4 (messages.Inquiry (tx 1 1))) ∷ marked 4 (Got 68) ∷
     marked 0
-        (Sent 69 6 (messages.Answer 55 (answers.Granted (grant_with 1 1 (line 1 2 1 1 0 2 ∷ line 1 2 1 2 0 2 ∷ []))))) ∷
+    (Sent 69 6 (messages.Answer 55 (answers.Granted (grant_with 1 1 (line 1 2 1 1 0 2 ∷ line 1 2 1 2 0 2 ∷ []))))) ∷
     marked 6 (Got 69) ∷ marked 4 (Sent 70 1 (messages.Decision (tx 1 1) outcomes.Active)) ∷ marked 0 (Got 63) ∷
     marked 6 (Sent 71 0 (messages.Request (tx 3 1) 1 1 (wants.Append 0 (line 1 2 1 1 0 2 ∷ line 1 2 1 2 0 2 ∷ [])
     (own_line 1 0 2 ∷ [])))) ∷
@@ -214,16 +214,16 @@ history =
     marked 3 (Told (replies.Conflict (tx 3 1) 0)) ∷ marked 3 (Called (commands.Do 0 2)) ∷ marked 0 (Got 71) ∷
     marked 1 (Got 72) ∷ marked 1 (Sent 78 6 (messages.Answer 72 (answers.Granted (grant_with 1 1 [])))) ∷
     marked 0 (Sent 79 6 (messages.Answer 71 (answers.Granted (grant_with 1 1 [])))) ∷ marked 6 (Got 78)
-        ∷ marked 0 (Got 76) ∷
+    ∷ marked 0 (Got 76) ∷
     marked 6 (Got 79) ∷ marked 3 (Told replies.Doomed) ∷ marked 6 (Told (replies.Response 1)) ∷
     marked 6 (Called (commands.Do 0 0))
-        ∷ marked 6 (Sent 80 0 (messages.Request (tx 3 1) 1 1 (wants.Read (read_of 0 0)))) ∷
+    ∷ marked 6 (Sent 80 0 (messages.Request (tx 3 1) 1 1 (wants.Read (read_of 0 0)))) ∷
     marked 6 (Sent 81 1 (messages.Request (tx 3 1) 1 1 (wants.Read (read_of 0 0)))) ∷ marked 1 (Got 81) ∷
     marked 1
-        (Sent 82 6 (messages.Answer 81 (answers.Granted (grant_with 1 1 (line 1 2 1 1 0 2 ∷ line 1 2 1 2 0 2 ∷ []))))) ∷
+    (Sent 82 6 (messages.Answer 81 (answers.Granted (grant_with 1 1 (line 1 2 1 1 0 2 ∷ line 1 2 1 2 0 2 ∷ []))))) ∷
     marked 6 (Got 82) ∷ marked 0 (Got 80) ∷
     marked 0
-        (Sent 83 6 (messages.Answer 80 (answers.Granted (grant_with 1 1 (line 1 2 1 1 0 2 ∷ line 1 2 1 2 0 2 ∷ []))))) ∷
+    (Sent 83 6 (messages.Answer 80 (answers.Granted (grant_with 1 1 (line 1 2 1 1 0 2 ∷ line 1 2 1 2 0 2 ∷ []))))) ∷
     marked 6 (Got 83) ∷
     marked 6 (Sent 84 0 (messages.Request (tx 3 1) 1 1 (wants.Append 0 (line 1 2 1 1 0 2 ∷ line 1 2 1 2 0 2 ∷ [])
     (own_line 1 0 2 ∷ own_line 2 0 0 ∷ [])))) ∷
@@ -248,19 +248,19 @@ history =
     marked 5 (Wrote (commit (stamp 2 2) (tx 2 3) [])) ∷ marked 5 (Told (replies.Committed (stamp 2 2))) ∷
     marked 6 (Told replies.NoTransaction) ∷ marked 0 (Got 50) ∷ marked 0 (Got 53) ∷
     marked 0
-        (Sent 97 3 (messages.Answer 53 (answers.Granted (grant_with 1 1 (line 1 2 1 1 0 2 ∷ line 1 2 1 2 0 2 ∷ []))))) ∷
+    (Sent 97 3 (messages.Answer 53 (answers.Granted (grant_with 1 1 (line 1 2 1 1 0 2 ∷ line 1 2 1 2 0 2 ∷ []))))) ∷
     marked 6 (Called commands.Abort) ∷ marked 0 (Got 55) ∷ marked 6 (Told replies.NoTransaction) ∷
     marked 0
-        (Sent 98 6 (messages.Answer 55 (answers.Granted (grant_with 1 1 (line 1 2 1 1 0 2 ∷ line 1 2 1 2 0 2 ∷ []))))) ∷
+    (Sent 98 6 (messages.Answer 55 (answers.Granted (grant_with 1 1 (line 1 2 1 1 0 2 ∷ line 1 2 1 2 0 2 ∷ []))))) ∷
     marked 0 (Got 63) ∷ marked 6 (Got 98) ∷ marked 0 (Sent 99 3 (messages.Answer 63 (answers.Clash (tx 3 1) 1 0))) ∷
     marked 0 (Sent 100 6 (messages.Inquiry (tx 3 1))) ∷ marked 0 (Got 71) ∷
     marked 0 (Sent 101 6 (messages.Answer 71 (answers.Granted (grant_with 1 1 [])))) ∷ marked 6 (Got 100)
-        ∷ marked 3 (Got 97) ∷
+    ∷ marked 3 (Got 97) ∷
     marked 6 (Sent 102 0 (messages.Decision (tx 3 1) outcomes.Aborted)) ∷ marked 6 (Got 101) ∷ marked 0 (Got 76) ∷
     marked 0 (Got 80) ∷
     marked 0
-        (Sent 103 6 (messages.Answer 80 (answers.Granted (grant_with 1 1 (line 1 2 1 1 0 2 ∷ line 1 2 1 2 0 2 ∷ [])))))
-        ∷
+    (Sent 103 6 (messages.Answer 80 (answers.Granted (grant_with 1 1 (line 1 2 1 1 0 2 ∷ line 1 2 1 2 0 2 ∷ [])))))
+    ∷
     marked 6 (Got 103) ∷ marked 0 (Got 84) ∷ marked 0 (Sent 104 6 (messages.Answer 84 (answers.Clash (tx 0 1) 0 0))) ∷
     marked 0 (Sent 105 3 (messages.Inquiry (tx 0 1))) ∷ marked 6 (Got 104) ∷ marked 0 (Got 93) ∷ marked 0 (Got 96) ∷
     marked 0 (Got 102) ∷ marked 3 (Got 99) ∷ marked 3 (Got 105) ∷

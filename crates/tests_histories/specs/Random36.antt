@@ -82,20 +82,20 @@ history =
     marked 3 (Told (replies.Began (tx 2 1))) ∷ marked 4 (Told (replies.Began (tx 3 1))) ∷
     marked 1 (Called commands.Begin) ∷ marked 3 (Called (commands.Do 1 2)) ∷
     marked 3 (Sent 0 0 (messages.Request (tx 2 1) 1 0 (wants.Read (read_of 1 2))))
-        ∷ marked 1 (Told (replies.Began (tx 0 1))) ∷
+    ∷ marked 1 (Told (replies.Began (tx 0 1))) ∷
     marked 4 (Called (commands.Do 0 1)) ∷
     marked 4 (Sent 1 0 (messages.Request (tx 3 1) 1 0 (wants.Append 0 [] (own_line 1 0 2 ∷ [])))) ∷
     marked 2 (Called commands.Begin) ∷ marked 1 (Called (commands.Do 0 0)) ∷ marked 2 (Told (replies.Began (tx 1 1))) ∷
     marked 0 (Got 0) ∷ marked 0 (Sent 2 3 (messages.Answer 0 (answers.Granted (grant_with 1 0 [])))) ∷ marked 3 (Got 2)
-        ∷
+    ∷
     marked 3 (Sent 3 0 (messages.Request (tx 2 1) 1 1 (wants.Append 1 [] (own_line 1 1 3 ∷ [])))) ∷
     marked 1 (Sent 4 0 (messages.Request (tx 0 1) 1 0 (wants.Read (read_of 0 0)))) ∷ marked 2 (Called (commands.Do 0 2))
-        ∷
+    ∷
     marked 2 (Sent 5 0 (messages.Request (tx 1 1) 1 0 (wants.Read (read_of 0 2)))) ∷ marked 0 (Got 1) ∷
     marked 0 (Sent 6 4 (messages.Answer 1 (answers.Granted (grant_with 1 0 [])))) ∷ marked 4 (Got 6) ∷
     marked 4 (Told (replies.Response 2)) ∷ marked 0 (Got 3) ∷
     marked 0 (Sent 7 3 (messages.Answer 3 (answers.Granted (grant_with 1 0 [])))) ∷ marked 0 (Got 4) ∷ marked 3 (Got 7)
-        ∷
+    ∷
     marked 3 (Told (replies.Response 2)) ∷ marked 3 (Called (commands.Do 1 0)) ∷
     marked 3 (Sent 8 0 (messages.Request (tx 2 1) 1 1 (wants.Read (read_of 1 0)))) ∷
     marked 0 (Sent 9 1 (messages.Answer 4 (answers.Clash (tx 3 1) 0 2))) ∷
@@ -108,17 +108,17 @@ history =
     marked 1 (Told (replies.Conflict (tx 3 1) 0)) ∷ marked 1 (Called (commands.Do 1 2)) ∷ marked 0 (Got 12) ∷
     marked 1 (Sent 16 0 (messages.Request (tx 0 1) 1 0 (wants.Read (read_of 1 2)))) ∷
     marked 0 (Sent 17 2 (messages.Answer 12 (answers.Granted (grant_with 1 0 [])))) ∷ marked 0 (Got 13)
-        ∷ marked 2 (Got 17) ∷
+    ∷ marked 2 (Got 17) ∷
     marked 0 (Got 15) ∷ marked 0 (Sent 18 3 (messages.Answer 15 (answers.Granted (grant_with 1 0 []))))
-        ∷ marked 3 (Got 18) ∷
+    ∷ marked 3 (Got 18) ∷
     marked 0 (Got 16) ∷ marked 3 (Told (replies.Response 1)) ∷ marked 3 (Called (commands.Do 1 2)) ∷
     marked 0 (Sent 19 1 (messages.Answer 16 (answers.Clash (tx 2 1) 2 1))) ∷
     marked 0 (Sent 20 3 (messages.Inquiry (tx 2 1))) ∷
     marked 3 (Sent 21 0 (messages.Request (tx 2 1) 1 1 (wants.Read (read_of 1 2)))) ∷ marked 0 (Got 21)
-        ∷ marked 3 (Got 20) ∷
+    ∷ marked 3 (Got 20) ∷
     marked 3 (Sent 22 0 (messages.Decision (tx 2 1) outcomes.Active)) ∷ marked 1 (Got 19) ∷
     marked 2 (Told (replies.Response 2))
-        ∷ marked 0 (Sent 23 3 (messages.Answer 21 (answers.Granted (grant_with 1 0 [])))) ∷
+    ∷ marked 0 (Sent 23 3 (messages.Answer 21 (answers.Granted (grant_with 1 0 [])))) ∷
     marked 2 (Called (commands.Do 1 2)) ∷ marked 3 (Lost 21) ∷
     marked 2 (Sent 24 0 (messages.Request (tx 1 1) 1 1 (wants.Read (read_of 1 2)))) ∷
     marked 3 (Told (replies.Quorum halves.Read 0 1)) ∷ marked 1 (Told (replies.Conflict (tx 2 1) 0)) ∷
@@ -151,9 +151,9 @@ history =
     marked 6 (Heal 0 2) ∷ marked 3 (Called commands.Begin) ∷ marked 3 (Told (replies.Began (tx 2 2))) ∷
     marked 1 (Called commands.Begin) ∷ marked 1 (Told (replies.Began (tx 0 2))) ∷ marked 4 (Called (commands.Do 1 2)) ∷
     marked 1 (Called (commands.Do 1 2))
-        ∷ marked 4 (Sent 38 0 (messages.Request (tx 3 1) 1 1 (wants.Read (read_of 1 2)))) ∷
+    ∷ marked 4 (Sent 38 0 (messages.Request (tx 3 1) 1 1 (wants.Read (read_of 1 2)))) ∷
     marked 1 (Sent 39 0 (messages.Request (tx 0 2) 1 0 (wants.Read (read_of 1 2))))
-        ∷ marked 3 (Called (commands.Do 1 1)) ∷
+    ∷ marked 3 (Called (commands.Do 1 1)) ∷
     marked 3 (Sent 40 0 (messages.Request (tx 2 2) 1 0 (wants.Append 1 [] (own_line 1 1 2 ∷ [])))) ∷ marked 0 (Got 38) ∷
     marked 0 (Sent 41 4 (messages.Answer 38 (answers.Granted (grant_with 1 3 [])))) ∷ marked 4 (Got 41) ∷
     marked 4 (Sent 42 0 (messages.Request (tx 3 1) 1 1 (wants.Append 1 [] (own_line 2 1 3 ∷ [])))) ∷ marked 0 (Got 39) ∷
@@ -162,11 +162,11 @@ history =
     marked 3 (Told (replies.Response 2)) ∷ marked 1 (Got 43) ∷
     marked 1 (Sent 45 0 (messages.Request (tx 0 2) 1 1 (wants.Append 1 [] (own_line 1 1 3 ∷ [])))) ∷ marked 0 (Got 42) ∷
     marked 3 (Called (commands.Do 0 0))
-        ∷ marked 3 (Sent 46 0 (messages.Request (tx 2 2) 1 1 (wants.Read (read_of 0 0)))) ∷
+    ∷ marked 3 (Sent 46 0 (messages.Request (tx 2 2) 1 1 (wants.Read (read_of 0 0)))) ∷
     marked 0 (Sent 47 4 (messages.Answer 42 (answers.Granted (grant_with 1 3 [])))) ∷ marked 0 (Got 45)
-        ∷ marked 4 (Got 47) ∷
+    ∷ marked 4 (Got 47) ∷
     marked 4 (Told (replies.Response 2))
-        ∷ marked 0 (Sent 48 1 (messages.Answer 45 (answers.Granted (grant_with 1 3 [])))) ∷
+    ∷ marked 0 (Sent 48 1 (messages.Answer 45 (answers.Granted (grant_with 1 3 [])))) ∷
     marked 1 (Got 48) ∷ marked 0 (Got 46) ∷ marked 4 (Called (commands.Do 0 1)) ∷ marked 1 (Told (replies.Response 2)) ∷
     marked 1 (Called (commands.Do 0 2)) ∷ marked 0 (Sent 49 3 (messages.Answer 46 (answers.Clash (tx 3 1) 0 2))) ∷
     marked 0 (Sent 50 4 (messages.Inquiry (tx 3 1))) ∷
@@ -174,16 +174,16 @@ history =
     marked 4 (Sent 52 0 (messages.Request (tx 3 1) 1 1 (wants.Append 0 [] (own_line 1 0 2 ∷ own_line 3 0 2 ∷ [])))) ∷
     marked 4 (Got 50) ∷ marked 4 (Sent 53 0 (messages.Decision (tx 3 1) outcomes.Active)) ∷ marked 3 (Got 49) ∷
     marked 0 (Got 51)
-        ∷ marked 0 (Sent 54 1 (messages.Answer 51 (answers.Granted (grant_with 1 3 (line 2 1 1 1 0 3 ∷ []))))) ∷
+    ∷ marked 0 (Sent 54 1 (messages.Answer 51 (answers.Granted (grant_with 1 3 (line 2 1 1 1 0 3 ∷ []))))) ∷
     marked 1 (Got 54) ∷ marked 0 (Got 52)
-        ∷ marked 0 (Sent 55 4 (messages.Answer 52 (answers.Granted (grant_with 1 3 [])))) ∷
+    ∷ marked 0 (Sent 55 4 (messages.Answer 52 (answers.Granted (grant_with 1 3 [])))) ∷
     marked 1 (Sent 56 0 (messages.Request (tx 0 2) 1 1 (wants.Append 0 (line 2 1 1 1 0 3 ∷ []) (own_line 2 0 3 ∷ []))))
     ∷
     marked 3 (Told (replies.Conflict (tx 3 1) 0)) ∷ marked 0 (Got 53) ∷ marked 3 (Called (commands.Do 0 0)) ∷
     marked 4 (Lost 52) ∷ marked 4 (Told (replies.Quorum halves.Append 0 1)) ∷
     marked 3 (Sent 57 0 (messages.Request (tx 2 2) 1 1 (wants.Read (read_of 0 0)))) ∷ marked 0 (Got 56) ∷
     marked 4 (Called (commands.Do 1 2))
-        ∷ marked 0 (Sent 58 1 (messages.Answer 56 (answers.Granted (grant_with 1 3 [])))) ∷
+    ∷ marked 0 (Sent 58 1 (messages.Answer 56 (answers.Granted (grant_with 1 3 [])))) ∷
     marked 1 (Lost 56) ∷ marked 1 (Told (replies.Quorum halves.Append 0 1)) ∷ marked 0 (Got 57) ∷
     marked 0 (Sent 59 3 (messages.Answer 57 (answers.Clash (tx 0 2) 0 3))) ∷
     marked 0 (Sent 60 1 (messages.Inquiry (tx 0 2))) ∷ marked 3 (Got 59) ∷
@@ -209,14 +209,14 @@ history =
     marked 1 (Told (replies.Committed (stamp 4 0))) ∷ marked 0 (Got 68) ∷ marked 1 (Called commands.Begin) ∷
     marked 1 (Told (replies.Began (tx 0 4))) ∷ marked 0 (Wrote (records.Done (tx 0 3) 4)) ∷
     marked 1 (Called (commands.Do 1 2))
-        ∷ marked 1 (Sent 69 0 (messages.Request (tx 0 4) 1 0 (wants.Read (read_of 1 2)))) ∷
+    ∷ marked 1 (Sent 69 0 (messages.Request (tx 0 4) 1 0 (wants.Read (read_of 1 2)))) ∷
     marked 0 (Got 69)
-        ∷ marked 0 (Sent 70 1 (messages.Answer 69 (answers.Granted (grant_with 1 4 (line 4 0 3 1 1 2 ∷ []))))) ∷
+    ∷ marked 0 (Sent 70 1 (messages.Answer 69 (answers.Granted (grant_with 1 4 (line 4 0 3 1 1 2 ∷ []))))) ∷
     marked 1 (Got 70) ∷
     marked 1 (Sent 71 0 (messages.Request (tx 0 4) 1 1 (wants.Append 1 (line 4 0 3 1 1 2 ∷ []) (own_line 1 1 3 ∷ []))))
     ∷
     marked 0 (Got 71) ∷ marked 0 (Sent 72 1 (messages.Answer 71 (answers.Granted (grant_with 1 4 []))))
-        ∷ marked 1 (Got 72) ∷
+    ∷ marked 1 (Got 72) ∷
     marked 1 (Told (replies.Response 2)) ∷ marked 1 (Called (commands.Do 0 1)) ∷
     marked 1 (Sent 73 0 (messages.Request (tx 0 4) 1 1 (wants.Append 0 [] (own_line 2 0 2 ∷ [])))) ∷ marked 0 (Got 73) ∷
     marked 0 (Sent 74 1 (messages.Answer 73 (answers.Granted (grant_with 1 4 [])))) ∷ marked 1 (Got 74) ∷
@@ -224,7 +224,7 @@ history =
     marked 1 (Sent 75 0 (messages.Request (tx 0 4) 1 1 (wants.Append 1 (line 4 0 3 1 1 2 ∷ []) (own_line 1 1 3 ∷
     own_line 3 1 2 ∷ [])))) ∷
     marked 0 (Got 75) ∷ marked 0 (Sent 76 1 (messages.Answer 75 (answers.Granted (grant_with 1 4 []))))
-        ∷ marked 1 (Got 76) ∷
+    ∷ marked 1 (Got 76) ∷
     marked 1 (Told (replies.Response 2)) ∷ marked 1 (Called commands.Commit) ∷
     marked 1 (Sent 77 0 (messages.Request (tx 0 4) 1 1 wants.Prepare)) ∷ marked 0 (Got 77) ∷
     marked 0 (Wrote (prepare (tx 0 4) 1 (read_lock 1 2 ∷ []) (own_line 1 1 3 ∷ own_line 2 0 2 ∷ own_line 3 1 2 ∷ [])
@@ -246,7 +246,7 @@ history =
     marked 1 (Sent 83 0 (messages.Request (tx 0 5) 1 0 (wants.Append 0 [] (own_line 1 0 2 ∷ [])))) ∷ marked 0 (Got 83) ∷
     marked 3 (Got 82) ∷ marked 3 (Sent 84 0 (messages.Decision (tx 2 2) outcomes.Active)) ∷
     marked 0 (Sent 85 1 (messages.Answer 83 (answers.Granted (grant_with 1 5 [])))) ∷ marked 0 (Got 84)
-        ∷ marked 1 (Got 85) ∷
+    ∷ marked 1 (Got 85) ∷
     marked 1 (Told (replies.Response 2)) ∷ marked 1 (Called commands.Commit) ∷
     marked 1 (Sent 86 0 (messages.Request (tx 0 5) 1 1 wants.Prepare)) ∷ marked 0 (Got 86) ∷
     marked 0 (Wrote (prepare (tx 0 5) 1 [] (own_line 1 0 2 ∷ []) [])) ∷

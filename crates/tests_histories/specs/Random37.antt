@@ -86,9 +86,9 @@ history =
     marked 3 (Told (replies.Began (tx 2 1))) ∷ marked 1 (Called (commands.Do 0 2)) ∷
     marked 1 (Sent 0 0 (messages.Request (tx 0 1) 1 0 (wants.Append 0 [] (own_line 1 0 4 ∷ [])))) ∷
     marked 3 (Called (commands.Do 0 0)) ∷ marked 3 (Sent 1 0 (messages.Request (tx 2 1) 1 0 (wants.Read (read_of 0 0))))
-        ∷
+    ∷
     marked 0 (Got 0) ∷ marked 0 (Sent 2 1 (messages.Answer 0 (answers.Granted (grant_with 1 0 [])))) ∷ marked 0 (Got 1)
-        ∷
+    ∷
     marked 2 (Called (commands.Do 0 0)) ∷ marked 0 (Sent 3 3 (messages.Answer 1 (answers.Clash (tx 0 1) 0 4))) ∷
     marked 0 (Sent 4 1 (messages.Inquiry (tx 0 1))) ∷
     marked 2 (Sent 5 0 (messages.Request (tx 1 1) 1 0 (wants.Read (read_of 0 0)))) ∷ marked 1 (Got 2) ∷
@@ -96,7 +96,7 @@ history =
     marked 1 (Sent 6 0 (messages.Decision (tx 0 1) outcomes.Active)) ∷ marked 3 (Got 3) ∷
     marked 3 (Told (replies.Conflict (tx 0 1) 0)) ∷ marked 1 (Called (commands.Do 0 1)) ∷
     marked 1 (Sent 7 0 (messages.Request (tx 0 1) 1 1 (wants.Read (read_of 0 1)))) ∷ marked 3 (Called (commands.Do 0 0))
-        ∷
+    ∷
     marked 3 (Sent 8 0 (messages.Request (tx 2 1) 1 0 (wants.Read (read_of 0 0)))) ∷ marked 0 (Got 5) ∷
     marked 0 (Sent 9 2 (messages.Answer 5 (answers.Clash (tx 0 1) 0 4))) ∷
     marked 0 (Sent 10 1 (messages.Inquiry (tx 0 1))) ∷ marked 2 (Got 9) ∷
@@ -122,11 +122,11 @@ history =
     marked 3 (Sent 21 0 (messages.Decision (tx 2 1) (outcomes.Committed (stamp 1 2)))) ∷
     marked 3 (Told (replies.Committed (stamp 1 2))) ∷ marked 0 (Got 21) ∷ marked 1 (Got 20) ∷ marked 5 (Phase 2) ∷
     marked 0 (Got 7)
-        ∷ marked 0 (Sent 22 1 (messages.Answer 7 (answers.Granted (grant_with 1 1 (line 1 0 1 1 0 4 ∷ []))))) ∷
+    ∷ marked 0 (Sent 22 1 (messages.Answer 7 (answers.Granted (grant_with 1 1 (line 1 0 1 1 0 4 ∷ []))))) ∷
     marked 1 (Got 10) ∷ marked 1 (Sent 23 0 (messages.Decision (tx 0 1) (outcomes.Committed (stamp 1 0)))) ∷
     marked 0 (Got 21) ∷ marked 2 (Called (commands.Do 0 1)) ∷
     marked 2 (Sent 24 0 (messages.Request (tx 1 1) 1 0 (wants.Read (read_of 0 1)))) ∷ marked 1 (Got 22)
-        ∷ marked 0 (Got 23) ∷
+    ∷ marked 0 (Got 23) ∷
     marked 3 (Called commands.Begin) ∷ marked 0 (Got 24) ∷
     marked 0 (Sent 25 2 (messages.Answer 24 (answers.Granted (grant_with 1 1 (line 1 0 1 1 0 4 ∷ []))))) ∷
     marked 3 (Told (replies.Began (tx 2 2))) ∷ marked 1 (Called commands.Begin) ∷
@@ -135,7 +135,7 @@ history =
     marked 2 (Sent 26 0 (messages.Request (tx 1 1) 1 1 (wants.Append 0 (line 1 0 1 1 0 4 ∷ []) (own_line 2 0 4 ∷ []))))
     ∷
     marked 0 (Got 26) ∷ marked 0 (Sent 27 2 (messages.Answer 26 (answers.Granted (grant_with 1 1 []))))
-        ∷ marked 2 (Got 27) ∷
+    ∷ marked 2 (Got 27) ∷
     marked 2 (Told (replies.Response 2)) ∷ marked 1 (Called (commands.Do 0 2)) ∷
     marked 1 (Sent 28 0 (messages.Request (tx 0 2) 1 0 (wants.Append 0 [] (own_line 1 0 4 ∷ [])))) ∷ marked 0 (Got 28) ∷
     marked 0 (Sent 29 1 (messages.Answer 28 (answers.Clash (tx 1 1) 1 4))) ∷
@@ -150,12 +150,12 @@ history =
     marked 1 (Called commands.Commit) ∷ marked 1 (Sent 35 0 (messages.Decision (tx 0 2) outcomes.Aborted)) ∷
     marked 1 (Told (replies.Aborted causes.Doomed)) ∷ marked 0 (Got 35) ∷ marked 2 (Got 34) ∷
     marked 3 (Called (commands.Do 0 1))
-        ∷ marked 3 (Sent 36 0 (messages.Request (tx 2 2) 1 0 (wants.Read (read_of 0 1)))) ∷
+    ∷ marked 3 (Sent 36 0 (messages.Request (tx 2 2) 1 0 (wants.Read (read_of 0 1)))) ∷
     marked 2 (Called commands.Begin) ∷ marked 2 (Told (replies.Began (tx 1 2))) ∷ marked 1 (Called commands.Begin) ∷
     marked 1 (Told (replies.Began (tx 0 3))) ∷ marked 1 (Called commands.Commit) ∷
     marked 1 (Wrote (commit (stamp 2 0) (tx 0 3) [])) ∷ marked 1 (Told (replies.Committed (stamp 2 0))) ∷
     marked 2 (Called (commands.Do 0 1))
-        ∷ marked 2 (Sent 37 0 (messages.Request (tx 1 2) 1 0 (wants.Read (read_of 0 1)))) ∷
+    ∷ marked 2 (Sent 37 0 (messages.Request (tx 1 2) 1 0 (wants.Read (read_of 0 1)))) ∷
     marked 0 (Got 36) ∷ marked 0 (Sent 38 3 (messages.Answer 36 (answers.Clash (tx 1 1) 1 4))) ∷
     marked 0 (Sent 39 2 (messages.Inquiry (tx 1 1))) ∷ marked 3 (Got 38) ∷
     marked 3 (Told (replies.Conflict (tx 1 1) 0)) ∷ marked 3 (Called commands.Commit) ∷
@@ -201,21 +201,21 @@ history =
     marked 1 (Told (replies.Committed (stamp 4 0))) ∷ marked 1 (Called commands.Begin) ∷ marked 0 (Got 58) ∷
     marked 0 (Wrote (records.Done (tx 0 4) 4)) ∷ marked 1 (Told (replies.Began (tx 0 5))) ∷
     marked 1 (Called (commands.Do 0 0))
-        ∷ marked 1 (Sent 59 0 (messages.Request (tx 0 5) 1 0 (wants.Read (read_of 0 0)))) ∷
+    ∷ marked 1 (Sent 59 0 (messages.Request (tx 0 5) 1 0 (wants.Read (read_of 0 0)))) ∷
     marked 0 (Got 59) ∷
     marked 0
-        (Sent 60 1 (messages.Answer 59 (answers.Granted (grant_with 1 4 (line 1 0 1 1 0 4 ∷ line 4 0 4 1 0 4 ∷ []))))) ∷
+    (Sent 60 1 (messages.Answer 59 (answers.Granted (grant_with 1 4 (line 1 0 1 1 0 4 ∷ line 4 0 4 1 0 4 ∷ []))))) ∷
     marked 1 (Got 60) ∷
     marked 1 (Sent 61 0 (messages.Request (tx 0 5) 1 1 (wants.Append 0 (line 1 0 1 1 0 4 ∷ line 4 0 4 1 0 4 ∷ [])
     (own_line 1 0 0 ∷ [])))) ∷
     marked 0 (Got 61) ∷ marked 0 (Sent 62 1 (messages.Answer 61 (answers.Granted (grant_with 1 4 []))))
-        ∷ marked 1 (Got 62) ∷
+    ∷ marked 1 (Got 62) ∷
     marked 1 (Told (replies.Response 0)) ∷ marked 5 (Phase 6) ∷ marked 5 (Heal 1 3) ∷
     marked 1 (Called (commands.Do 0 1))
-        ∷ marked 1 (Sent 63 0 (messages.Request (tx 0 5) 1 1 (wants.Read (read_of 0 1)))) ∷
+    ∷ marked 1 (Sent 63 0 (messages.Request (tx 0 5) 1 1 (wants.Read (read_of 0 1)))) ∷
     marked 0 (Got 63) ∷
     marked 0
-        (Sent 64 1 (messages.Answer 63 (answers.Granted (grant_with 1 4 (line 1 0 1 1 0 4 ∷ line 4 0 4 1 0 4 ∷ []))))) ∷
+    (Sent 64 1 (messages.Answer 63 (answers.Granted (grant_with 1 4 (line 1 0 1 1 0 4 ∷ line 4 0 4 1 0 4 ∷ []))))) ∷
     marked 1 (Got 64) ∷ marked 1 (Told (replies.Response 0)) ∷ marked 1 (Called commands.Commit) ∷
     marked 1 (Sent 65 0 (messages.Request (tx 0 5) 1 1 wants.Prepare)) ∷ marked 0 (Got 65) ∷
     marked 0 (Wrote (prepare (tx 0 5) 1 (read_lock 0 0 ∷ read_lock 0 1 ∷ []) (own_line 1 0 0 ∷ []) [])) ∷
@@ -227,14 +227,14 @@ history =
     marked 1 (Sent 68 0 (messages.Request (tx 0 6) 1 0 (wants.Read (read_of 0 1)))) ∷ marked 0 (Got 67) ∷
     marked 0 (Wrote (records.Done (tx 0 5) 5)) ∷ marked 0 (Got 68) ∷
     marked 0
-        (Sent 69 1
-          (messages.Answer 68
-            (answers.Granted (grant_with 1 5 (line 1 0 1 1 0 4 ∷ line 4 0 4 1 0 4 ∷ line 5 0 5 1 0 0 ∷ []))))) ∷
+    (Sent 69 1
+    (messages.Answer 68
+    (answers.Granted (grant_with 1 5 (line 1 0 1 1 0 4 ∷ line 4 0 4 1 0 4 ∷ line 5 0 5 1 0 0 ∷ []))))) ∷
     marked 1 (Got 69) ∷ marked 1 (Told (replies.Response 0)) ∷ marked 1 (Called (commands.Do 0 2)) ∷
     marked 1 (Sent 70 0 (messages.Request (tx 0 6) 1 1 (wants.Append 0 (line 1 0 1 1 0 4 ∷ line 4 0 4 1 0 4 ∷ line 5 0 5
     1 0 0 ∷ []) (own_line 2 0 4 ∷ [])))) ∷
     marked 0 (Got 70) ∷ marked 0 (Sent 71 1 (messages.Answer 70 (answers.Granted (grant_with 1 5 []))))
-        ∷ marked 1 (Got 71) ∷
+    ∷ marked 1 (Got 71) ∷
     marked 1 (Told (replies.Response 2)) ∷ marked 1 (Called commands.Commit) ∷
     marked 1 (Sent 72 0 (messages.Request (tx 0 6) 1 1 wants.Prepare)) ∷ marked 0 (Got 72) ∷
     marked 0 (Wrote (prepare (tx 0 6) 1 (read_lock 0 1 ∷ []) (own_line 2 0 4 ∷ []) [])) ∷
@@ -244,25 +244,25 @@ history =
     marked 1 (Told (replies.Committed (stamp 6 0))) ∷ marked 0 (Got 74) ∷ marked 0 (Wrote (records.Done (tx 0 6) 6)) ∷
     marked 5 (Phase 7) ∷ marked 1 (Called commands.Begin) ∷ marked 1 (Told (replies.Began (tx 0 7))) ∷
     marked 1 (Called (commands.Do 0 1))
-        ∷ marked 1 (Sent 75 0 (messages.Request (tx 0 7) 1 0 (wants.Read (read_of 0 1)))) ∷
+    ∷ marked 1 (Sent 75 0 (messages.Request (tx 0 7) 1 0 (wants.Read (read_of 0 1)))) ∷
     marked 0 (Got 75) ∷
     marked 0
-        (Sent 76 1
-          (messages.Answer 75
-            (answers.Granted (grant_with 1 6
-              (line 1 0 1 1 0 4 ∷ line 4 0 4 1 0 4 ∷ line 5 0 5 1 0 0 ∷ line 6 0 6 2 0 4 ∷ []))))) ∷
+    (Sent 76 1
+    (messages.Answer 75
+    (answers.Granted (grant_with 1 6
+    (line 1 0 1 1 0 4 ∷ line 4 0 4 1 0 4 ∷ line 5 0 5 1 0 0 ∷ line 6 0 6 2 0 4 ∷ []))))) ∷
     marked 1 (Got 76) ∷ marked 1 (Told replies.Absent) ∷ marked 1 (Called (commands.Do 0 2)) ∷
     marked 1 (Sent 77 0 (messages.Request (tx 0 7) 1 1 (wants.Append 0 (line 1 0 1 1 0 4 ∷ line 4 0 4 1 0 4 ∷ line 5 0 5
     1 0 0 ∷ line 6 0 6 2 0 4 ∷ []) (own_line 2 0 4 ∷ [])))) ∷
     marked 0 (Got 77) ∷ marked 0 (Sent 78 1 (messages.Answer 77 (answers.Granted (grant_with 1 6 []))))
-        ∷ marked 1 (Got 78) ∷
+    ∷ marked 1 (Got 78) ∷
     marked 1 (Told (replies.Response 2)) ∷ marked 1 (Called (commands.Do 0 1)) ∷
     marked 1 (Sent 79 0 (messages.Request (tx 0 7) 1 1 (wants.Read (read_of 0 1)))) ∷ marked 0 (Got 79) ∷
     marked 0
-        (Sent 80 1
-          (messages.Answer 79
-            (answers.Granted (grant_with 1 6
-              (line 1 0 1 1 0 4 ∷ line 4 0 4 1 0 4 ∷ line 5 0 5 1 0 0 ∷ line 6 0 6 2 0 4 ∷ []))))) ∷
+    (Sent 80 1
+    (messages.Answer 79
+    (answers.Granted (grant_with 1 6
+    (line 1 0 1 1 0 4 ∷ line 4 0 4 1 0 4 ∷ line 5 0 5 1 0 0 ∷ line 6 0 6 2 0 4 ∷ []))))) ∷
     marked 1 (Got 80) ∷ marked 1 (Told replies.Absent) ∷ marked 1 (Called commands.Commit) ∷
     marked 1 (Sent 81 0 (messages.Request (tx 0 7) 1 1 wants.Prepare)) ∷ marked 0 (Got 81) ∷
     marked 0 (Wrote (prepare (tx 0 7) 1 (read_lock 0 1 ∷ []) (own_line 2 0 4 ∷ []) [])) ∷

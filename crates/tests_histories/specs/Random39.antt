@@ -79,9 +79,9 @@ history =
     marked 6 (Sent 1 2 (messages.Request (tx 1 1) 1 0 (wants.Append 0 [] (own_line 1 0 2 ∷ [])))) ∷
     marked 6 (Sent 2 3 (messages.Request (tx 1 1) 1 0 (wants.Append 0 [] (own_line 1 0 2 ∷ [])))) ∷ marked 2 (Got 1) ∷
     marked 1 (Got 0) ∷ marked 3 (Got 2) ∷ marked 3 (Sent 3 6 (messages.Answer 2 (answers.Granted (grant_with 1 0 []))))
-        ∷
+    ∷
     marked 6 (Got 3) ∷ marked 1 (Sent 4 6 (messages.Answer 0 (answers.Granted (grant_with 1 0 [])))) ∷ marked 6 (Got 4)
-        ∷
+    ∷
     marked 5 (Told (replies.Began (tx 0 1))) ∷ marked 5 (Called commands.Abort) ∷ marked 5 (Told replies.Dropped) ∷
     marked 5 (Called commands.Begin) ∷ marked 5 (Told (replies.Began (tx 0 2))) ∷ marked 5 (Called (commands.Do 1 0)) ∷
     marked 5 (Sent 5 0 (messages.Request (tx 0 2) 1 0 (wants.Read (read_of 1 0)))) ∷ marked 0 (Got 5) ∷
@@ -93,22 +93,22 @@ history =
     marked 5 (Sent 11 3 (messages.Request (tx 0 2) 1 0 (wants.Append 1 [] (own_line 1 1 0 ∷ [])))) ∷
     marked 5 (Sent 12 4 (messages.Request (tx 0 2) 1 0 (wants.Append 1 [] (own_line 1 1 0 ∷ [])))) ∷ marked 1 (Got 9) ∷
     marked 4 (Got 12) ∷ marked 3 (Got 11)
-        ∷ marked 4 (Sent 13 5 (messages.Answer 12 (answers.Granted (grant_with 1 0 [])))) ∷
+    ∷ marked 4 (Sent 13 5 (messages.Answer 12 (answers.Granted (grant_with 1 0 [])))) ∷
     marked 5 (Got 13) ∷ marked 0 (Got 8) ∷ marked 2 (Got 10) ∷
     marked 3 (Sent 14 5 (messages.Answer 11 (answers.Granted (grant_with 1 0 [])))) ∷ marked 5 (Got 14) ∷
     marked 1 (Sent 15 5 (messages.Answer 9 (answers.Granted (grant_with 1 0 [])))) ∷
     marked 0 (Sent 16 5 (messages.Answer 8 (answers.Granted (grant_with 1 0 []))))
-        ∷ marked 6 (Told (replies.Response 2)) ∷
+    ∷ marked 6 (Told (replies.Response 2)) ∷
     marked 5 (Got 15) ∷ marked 2 (Sent 17 5 (messages.Answer 10 (answers.Granted (grant_with 1 0 []))))
-        ∷ marked 5 (Got 16) ∷
+    ∷ marked 5 (Got 16) ∷
     marked 5 (Got 17) ∷ marked 5 (Told (replies.Response 0)) ∷ marked 5 (Called (commands.Do 0 1)) ∷
     marked 5 (Sent 18 0 (messages.Request (tx 0 2) 1 1 (wants.Append 0 [] (own_line 2 0 2 ∷ [])))) ∷
     marked 5 (Sent 19 1 (messages.Request (tx 0 2) 1 1 (wants.Append 0 [] (own_line 2 0 2 ∷ [])))) ∷
     marked 5 (Sent 20 2 (messages.Request (tx 0 2) 1 1 (wants.Append 0 [] (own_line 2 0 2 ∷ [])))) ∷ marked 0 (Got 18) ∷
     marked 2 (Got 20) ∷ marked 1 (Got 19)
-        ∷ marked 1 (Sent 21 5 (messages.Answer 19 (answers.Granted (grant_with 1 0 [])))) ∷
+    ∷ marked 1 (Sent 21 5 (messages.Answer 19 (answers.Granted (grant_with 1 0 [])))) ∷
     marked 5 (Got 21) ∷ marked 2 (Sent 22 5 (messages.Answer 20 (answers.Granted (grant_with 1 0 []))))
-        ∷ marked 5 (Got 22) ∷
+    ∷ marked 5 (Got 22) ∷
     marked 0 (Sent 23 5 (messages.Answer 18 (answers.Granted (grant_with 1 0 [])))) ∷ marked 5 (Got 23) ∷
     marked 5 (Told (replies.Response 2)) ∷ marked 8 (Phase 2) ∷ marked 5 (Called (commands.Do 1 0)) ∷
     marked 5 (Sent 24 0 (messages.Request (tx 0 2) 1 1 (wants.Read (read_of 1 0)))) ∷ marked 0 (Got 24) ∷
@@ -120,12 +120,12 @@ history =
     marked 5 (Sent 28 0 (messages.Request (tx 0 2) 1 1 (wants.Read (read_of 0 0)))) ∷
     marked 5 (Sent 29 1 (messages.Request (tx 0 2) 1 1 (wants.Read (read_of 0 0)))) ∷
     marked 5 (Sent 30 2 (messages.Request (tx 0 2) 1 1 (wants.Read (read_of 0 0)))) ∷ marked 1 (Got 29)
-        ∷ marked 2 (Got 30) ∷
+    ∷ marked 2 (Got 30) ∷
     marked 0 (Got 28) ∷ marked 1 (Sent 31 5 (messages.Answer 29 (answers.Clash (tx 1 1) 0 2))) ∷
     marked 1 (Sent 32 6 (messages.Inquiry (tx 1 1))) ∷ marked 6 (Got 32) ∷ marked 5 (Got 31) ∷
     marked 6 (Sent 33 1 (messages.Decision (tx 1 1) outcomes.Active)) ∷
     marked 0 (Sent 34 5 (messages.Answer 28 (answers.Granted (grant_with 1 0 [])))) ∷ marked 1 (Got 33)
-        ∷ marked 5 (Got 34) ∷
+    ∷ marked 5 (Got 34) ∷
     marked 2 (Sent 35 5 (messages.Answer 30 (answers.Clash (tx 1 1) 0 2))) ∷
     marked 2 (Sent 36 6 (messages.Inquiry (tx 1 1))) ∷ marked 6 (Got 36) ∷
     marked 6 (Sent 37 2 (messages.Decision (tx 1 1) outcomes.Active)) ∷ marked 2 (Got 37) ∷ marked 5 (Got 35) ∷
@@ -165,14 +165,14 @@ history =
     marked 5 (Sent 55 0 (messages.Request (tx 0 3) 1 0 (wants.Read (read_of 0 0)))) ∷
     marked 5 (Sent 56 1 (messages.Request (tx 0 3) 1 0 (wants.Read (read_of 0 0)))) ∷
     marked 5 (Sent 57 2 (messages.Request (tx 0 3) 1 0 (wants.Read (read_of 0 0)))) ∷ marked 2 (Got 57)
-        ∷ marked 1 (Got 56) ∷
+    ∷ marked 1 (Got 56) ∷
     marked 0 (Got 55) ∷ marked 2 (Sent 58 5 (messages.Answer 57 (answers.Clash (tx 1 1) 0 2))) ∷
     marked 2 (Sent 59 6 (messages.Inquiry (tx 1 1))) ∷ marked 6 (Got 59) ∷
     marked 1 (Sent 60 5 (messages.Answer 56 (answers.Clash (tx 1 1) 0 2))) ∷
     marked 1 (Sent 61 6 (messages.Inquiry (tx 1 1))) ∷ marked 5 (Got 58) ∷
     marked 6 (Sent 62 2 (messages.Decision (tx 1 1) outcomes.Active)) ∷ marked 2 (Got 62) ∷ marked 6 (Got 61) ∷
     marked 0 (Sent 63 5 (messages.Answer 55 (answers.Granted (grant_with 1 1 (line 1 0 2 2 0 2 ∷ [])))))
-        ∷ marked 5 (Got 60) ∷
+    ∷ marked 5 (Got 60) ∷
     marked 6 (Sent 64 1 (messages.Decision (tx 1 1) outcomes.Active)) ∷ marked 1 (Got 64) ∷ marked 5 (Got 63) ∷
     marked 5 (Told (replies.Conflict (tx 1 1) 1)) ∷ marked 5 (Called (commands.Do 0 1)) ∷
     marked 5 (Sent 65 0 (messages.Request (tx 0 3) 1 1 (wants.Append 0 (line 1 0 2 2 0 2 ∷ []) (own_line 1 0 2 ∷ []))))
@@ -185,7 +185,7 @@ history =
     marked 2 (Sent 68 5 (messages.Answer 67 (answers.Granted (grant_with 1 1 [])))) ∷ marked 5 (Got 68) ∷
     marked 1 (Sent 69 5 (messages.Answer 66 (answers.Granted (grant_with 1 1 [])))) ∷
     marked 0 (Sent 70 5 (messages.Answer 65 (answers.Granted (grant_with 1 1 [])))) ∷ marked 5 (Got 69)
-        ∷ marked 5 (Got 70) ∷
+    ∷ marked 5 (Got 70) ∷
     marked 5 (Told (replies.Response 2)) ∷ marked 5 (Called (commands.Do 0 1)) ∷
     marked 5 (Sent 71 0 (messages.Request (tx 0 3) 1 1 (wants.Append 0 (line 1 0 2 2 0 2 ∷ []) (own_line 1 0 2 ∷
     own_line 2 0 2 ∷ [])))) ∷
@@ -197,7 +197,7 @@ history =
     marked 1 (Sent 74 5 (messages.Answer 72 (answers.Granted (grant_with 1 1 [])))) ∷ marked 5 (Got 74) ∷
     marked 0 (Sent 75 5 (messages.Answer 71 (answers.Granted (grant_with 1 1 [])))) ∷
     marked 2 (Sent 76 5 (messages.Answer 73 (answers.Granted (grant_with 1 1 [])))) ∷ marked 5 (Got 75)
-        ∷ marked 5 (Got 76) ∷
+    ∷ marked 5 (Got 76) ∷
     marked 5 (Told (replies.Response 2)) ∷ marked 5 (Called commands.Commit) ∷
     marked 5 (Sent 77 0 (messages.Request (tx 0 3) 1 1 wants.Prepare)) ∷
     marked 5 (Sent 78 1 (messages.Request (tx 0 3) 1 1 wants.Prepare)) ∷
@@ -220,10 +220,10 @@ history =
     marked 5 (Sent 87 1 (messages.Request (tx 0 4) 1 0 (wants.Append 0 [] (own_line 1 0 2 ∷ [])))) ∷
     marked 5 (Sent 88 2 (messages.Request (tx 0 4) 1 0 (wants.Append 0 [] (own_line 1 0 2 ∷ [])))) ∷ marked 0 (Got 86) ∷
     marked 2 (Got 88) ∷ marked 1 (Got 87)
-        ∷ marked 0 (Sent 89 5 (messages.Answer 86 (answers.Granted (grant_with 1 2 [])))) ∷
+    ∷ marked 0 (Sent 89 5 (messages.Answer 86 (answers.Granted (grant_with 1 2 [])))) ∷
     marked 5 (Got 89) ∷ marked 1 (Sent 90 5 (messages.Answer 87 (answers.Granted (grant_with 1 2 [])))) ∷
     marked 2 (Sent 91 5 (messages.Answer 88 (answers.Granted (grant_with 1 2 [])))) ∷ marked 5 (Got 90)
-        ∷ marked 5 (Got 91) ∷
+    ∷ marked 5 (Got 91) ∷
     marked 5 (Told (replies.Response 2)) ∷ marked 5 (Called commands.Commit) ∷
     marked 5 (Sent 92 0 (messages.Request (tx 0 4) 1 1 wants.Prepare)) ∷
     marked 5 (Sent 93 1 (messages.Request (tx 0 4) 1 1 wants.Prepare)) ∷
@@ -242,9 +242,9 @@ history =
     marked 2 (Wrote (records.Done (tx 0 4) 3)) ∷ marked 0 (Wrote (records.Done (tx 0 4) 3)) ∷
     marked 1 (Wrote (records.Done (tx 0 4) 3)) ∷ marked 8 (Phase 4) ∷ marked 8 (Phase 5) ∷
     marked 6 (Called (commands.Do 1 0))
-        ∷ marked 6 (Sent 101 1 (messages.Request (tx 1 1) 1 1 (wants.Read (read_of 1 0)))) ∷
+    ∷ marked 6 (Sent 101 1 (messages.Request (tx 1 1) 1 1 (wants.Read (read_of 1 0)))) ∷
     marked 1 (Got 101)
-        ∷ marked 1 (Sent 102 6 (messages.Answer 101 (answers.Granted (grant_with 1 3 (line 1 0 2 1 1 0 ∷ []))))) ∷
+    ∷ marked 1 (Sent 102 6 (messages.Answer 101 (answers.Granted (grant_with 1 3 (line 1 0 2 1 1 0 ∷ []))))) ∷
     marked 6 (Got 102) ∷ marked 6 (Told (replies.Response 1)) ∷ marked 6 (Called (commands.Do 0 1)) ∷
     marked 6 (Sent 103 1 (messages.Request (tx 1 1) 1 1 (wants.Append 0 [] (own_line 1 0 2 ∷ own_line 3 0 2 ∷ [])))) ∷
     marked 6 (Sent 104 2 (messages.Request (tx 1 1) 1 1 (wants.Append 0 [] (own_line 1 0 2 ∷ own_line 3 0 2 ∷ [])))) ∷
@@ -253,11 +253,11 @@ history =
     marked 2 (Sent 106 6 (messages.Answer 104 (answers.Granted (grant_with 1 3 [])))) ∷ marked 6 (Got 106) ∷
     marked 3 (Sent 107 6 (messages.Answer 105 (answers.Granted (grant_with 1 1 [])))) ∷
     marked 1 (Sent 108 6 (messages.Answer 103 (answers.Granted (grant_with 1 3 [])))) ∷ marked 6 (Got 107)
-        ∷ marked 6 (Got 108) ∷
+    ∷ marked 6 (Got 108) ∷
     marked 6 (Told (replies.Response 2)) ∷ marked 6 (Called (commands.Do 1 0)) ∷
     marked 6 (Sent 109 1 (messages.Request (tx 1 1) 1 1 (wants.Read (read_of 1 0)))) ∷ marked 1 (Got 109) ∷
     marked 1 (Sent 110 6 (messages.Answer 109 (answers.Granted (grant_with 1 3 (line 1 0 2 1 1 0 ∷ [])))))
-        ∷ marked 6 (Got 110) ∷
+    ∷ marked 6 (Got 110) ∷
     marked 6 (Told (replies.Response 1)) ∷ marked 6 (Called commands.Commit) ∷
     marked 6 (Sent 111 1 (messages.Request (tx 1 1) 1 1 wants.Prepare)) ∷
     marked 6 (Sent 112 2 (messages.Request (tx 1 1) 1 1 wants.Prepare)) ∷

@@ -43,9 +43,9 @@ abbrev pub history : List Entry
 history =
     marked 4 (Phase 1) ∷ marked 2 (Called commands.Begin) ∷ marked 2 (Told (replies.Began (tx 1 1))) ∷
     marked 2 (Called (commands.Do 0 2)) ∷ marked 2 (Sent 0 0 (messages.Request (tx 1 1) 1 0 (wants.Read (read_of 0 2))))
-        ∷
+    ∷
     marked 0 (Got 0) ∷ marked 0 (Sent 1 2 (messages.Answer 0 (answers.Granted (grant_with 1 0 [])))) ∷ marked 2 (Got 1)
-        ∷
+    ∷
     marked 2 (Told (replies.Response 2)) ∷ marked 2 (Called (commands.Do 0 1)) ∷
     marked 2 (Sent 2 0 (messages.Request (tx 1 1) 1 1 (wants.Read (read_of 0 1)))) ∷ marked 0 (Got 2) ∷
     marked 0 (Sent 3 2 (messages.Answer 2 (answers.Granted (grant_with 1 0 [])))) ∷ marked 2 (Got 3) ∷

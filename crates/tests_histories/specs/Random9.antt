@@ -48,11 +48,11 @@ history =
     marked 3 (Sent 0 0 (messages.Request (tx 2 1) 1 0 (wants.Read (read_of 0 2)))) ∷ marked 1 (Called commands.Begin) ∷
     marked 2 (Told (replies.Began (tx 1 1))) ∷ marked 1 (Told (replies.Began (tx 0 1))) ∷ marked 0 (Got 0) ∷
     marked 1 (Called (commands.Do 0 0)) ∷ marked 1 (Sent 1 0 (messages.Request (tx 0 1) 1 0 (wants.Read (read_of 0 0))))
-        ∷
+    ∷
     marked 2 (Called commands.Abort) ∷ marked 0 (Sent 2 3 (messages.Answer 0 (answers.Granted (grant_with 1 0 [])))) ∷
     marked 3 (Got 2) ∷ marked 3 (Sent 3 0 (messages.Request (tx 2 1) 1 1 (wants.Append 0 [] (own_line 1 0 2 ∷ [])))) ∷
     marked 0 (Got 1) ∷ marked 0 (Sent 4 1 (messages.Answer 1 (answers.Granted (grant_with 1 0 [])))) ∷ marked 1 (Got 4)
-        ∷
+    ∷
     marked 1 (Sent 5 0 (messages.Request (tx 0 1) 1 1 (wants.Append 0 [] (own_line 1 0 0 ∷ [])))) ∷ marked 0 (Got 3) ∷
     marked 0 (Sent 6 3 (messages.Answer 3 (answers.Clash (tx 0 1) 0 2))) ∷
     marked 0 (Sent 7 1 (messages.Inquiry (tx 0 1))) ∷ marked 0 (Got 5) ∷ marked 3 (Got 6) ∷ marked 1 (Got 7) ∷

@@ -34,13 +34,13 @@ history =
     marked 3 (Sent 1 1 (messages.Request (tx 0 1) 1 0 (wants.Append 0 [] (own_line 1 0 3 ∷ [])))) ∷ marked 0 (Got 0) ∷
     marked 0 (Sent 2 3 (messages.Answer 0 (answers.Granted (grant_with 1 0 [])))) ∷ marked 1 (Got 1) ∷
     marked 1 (Sent 3 3 (messages.Answer 1 (answers.Granted (grant_with 1 0 [])))) ∷ marked 3 (Got 2) ∷ marked 3 (Got 3)
-        ∷
+    ∷
     marked 3 (Told (replies.Response 2)) ∷ marked 3 (Called (commands.Do 0 0)) ∷
     marked 3 (Sent 4 0 (messages.Request (tx 0 1) 1 1 (wants.Read (read_of 0 0)))) ∷
     marked 3 (Sent 5 1 (messages.Request (tx 0 1) 1 1 (wants.Read (read_of 0 0)))) ∷ marked 0 (Got 4) ∷
     marked 0 (Sent 6 3 (messages.Answer 4 (answers.Granted (grant_with 1 0 [])))) ∷ marked 1 (Got 5) ∷
     marked 1 (Sent 7 3 (messages.Answer 5 (answers.Granted (grant_with 1 0 [])))) ∷ marked 3 (Got 6) ∷ marked 3 (Got 7)
-        ∷
+    ∷
     marked 3 (Told (replies.Response 1)) ∷ marked 3 (Called commands.Commit) ∷
     marked 3 (Sent 8 0 (messages.Request (tx 0 1) 1 1 wants.Prepare)) ∷
     marked 3 (Sent 9 1 (messages.Request (tx 0 1) 1 1 wants.Prepare)) ∷ marked 0 (Got 8) ∷
@@ -57,9 +57,9 @@ history =
     marked 4 (Sent 14 1 (messages.Request (tx 1 1) 1 0 (wants.Read (read_of 0 0)))) ∷
     marked 4 (Sent 15 2 (messages.Request (tx 1 1) 1 0 (wants.Read (read_of 0 0)))) ∷ marked 1 (Got 14) ∷
     marked 1 (Sent 16 4 (messages.Answer 14 (answers.Granted (grant_with 1 1 (line 1 0 1 1 0 3 ∷ [])))))
-        ∷ marked 2 (Got 15) ∷
+    ∷ marked 2 (Got 15) ∷
     marked 2 (Sent 17 4 (messages.Answer 15 (answers.Granted (grant_with 1 0 [])))) ∷ marked 4 (Got 16)
-        ∷ marked 4 (Got 17) ∷
+    ∷ marked 4 (Got 17) ∷
     marked 4 (Told (replies.Response 1)) ∷ marked 4 (Called commands.Commit) ∷
     marked 4 (Sent 18 1 (messages.Request (tx 1 1) 1 1 wants.Prepare)) ∷
     marked 4 (Sent 19 2 (messages.Request (tx 1 1) 1 1 wants.Prepare)) ∷ marked 1 (Got 18) ∷

@@ -95,7 +95,7 @@ asks_in_order =
     Writes (prepare (tx 0 1 1) 1 [] ((own_line 1 0 3) ∷ []) []) ∷ Sends 13 3 (messages.Answer 12 (answers.Yes 0)) ∷
     Falls causes.Script None ∷
     Rises ((prepare (tx 1 1 1) 1 [] ((own_line 1 0 3) ∷ []) []) ∷ (prepare (tx 0 1 1) 1 [] ((own_line 1 0 3) ∷ []) [])
-        ∷ []) ∷
+    ∷ []) ∷
     Writes records.Life ∷ Sends 14 3 (messages.Inquiry (tx 0 1 1)) ∷ Sends 15 4 (messages.Inquiry (tx 1 1 1)) ∷ []
 
 -- refuses a Prepare that names its old life

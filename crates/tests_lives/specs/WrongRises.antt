@@ -167,7 +167,7 @@ asks_in_order_of_promises =
     Writes (prepare (tx 0 1 1) 1 [] ((own_line 1 0 3) ∷ []) []) ∷ Sends 13 3 (messages.Answer 12 (answers.Yes 0)) ∷
     Falls causes.Script None ∷
     Rises ((prepare (tx 1 1 1) 1 [] ((own_line 1 0 3) ∷ []) []) ∷ (prepare (tx 0 1 1) 1 [] ((own_line 1 0 3) ∷ []) [])
-        ∷ []) ∷
+    ∷ []) ∷
     Writes records.Life ∷ Sends 14 4 (messages.Inquiry (tx 1 1 1)) ∷ Sends 15 3 (messages.Inquiry (tx 0 1 1)) ∷ []
 
 -- asks about one of two promises
@@ -183,5 +183,5 @@ asks_about_one_of_two =
     Writes (prepare (tx 0 1 1) 1 [] ((own_line 1 0 3) ∷ []) []) ∷ Sends 13 3 (messages.Answer 12 (answers.Yes 0)) ∷
     Falls causes.Script None ∷
     Rises ((prepare (tx 1 1 1) 1 [] ((own_line 1 0 3) ∷ []) []) ∷ (prepare (tx 0 1 1) 1 [] ((own_line 1 0 3) ∷ []) [])
-        ∷ []) ∷
+    ∷ []) ∷
     Writes records.Life ∷ Sends 14 3 (messages.Inquiry (tx 0 1 1)) ∷ []

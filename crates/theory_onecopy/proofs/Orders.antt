@@ -69,7 +69,7 @@ op_first l m s t o =
     second_less (stamp_cmp l.stamp m.stamp) _
     (subst (λ (x : Stamp). stamp_cmp l.stamp x ≡ Equal) s (tied_itself stamps_are_ordered.total l.stamp))
     (second_less (tx_cmp l.tx m.tx) _
-        (subst (λ (x : TxId). tx_cmp l.tx x ≡ Equal) t (tied_itself transactions_are_ordered.total l.tx))
+    (subst (λ (x : TxId). tx_cmp l.tx x ≡ Equal) t (tied_itself transactions_are_ordered.total l.tx))
     (first_less (nat_cmp l.op m.op) _ (nat_less l.op m.op o)))
 
 pub earlier_line : (a b : Placed) → IsEarlier a b → IsLineBefore (line_of a) (line_of b)

@@ -12,4 +12,4 @@ pub returns-clause-exact : goal.returns-clause-exact
 returns-clause-exact c =
     let none : fault_of c.args.kind.now c.args.list.now ≡ None = search rules in
     inductive_lists_make_relations_exact c.args.kind.now c.args.list.now
-        (no_fault_is_inductive c.args.kind.now c.args.list.now c.tables_are_sound.ensures none)
+    (no_fault_is_inductive c.args.kind.now c.args.list.now c.tables_are_sound.ensures none)

@@ -20,8 +20,8 @@ returns c =
       turn = turn;
     } in
     let same : asks c.in_ok-want.want ≡ asks (append_want_of c.args.decl.now c.args.draft c.args.event 0) =
-      ap asks (c.in_ok-want.ensures 0) in
+    ap asks (c.in_ok-want.ensures 0) in
     ap (λ (draft : Draft). made draft c.ask.new.round c.in_ok-turn.turn) c.in_ok-turn.ensures.draft
     ∙ ap (λ (round : RoundState). made (asked_draft c.args.draft sites) round c.in_ok-turn.turn)
-      c.in_ok-turn.ensures.round
+    c.in_ok-turn.ensures.round
     ∙ ap (made (asked_draft c.args.draft sites) (asking_all c.args.open.round sites)) (c.in_ok-turn.ensures.turn ∙ same)

@@ -8,4 +8,4 @@ use Rattle.qc_recover.proofs.laws.installs_begin_anew.Goals as goal
 pub returns-clause-late : goal.returns-clause-late
 returns-clause-late c = λ number rs epoch clock done lines tx.
     ap (λ (s : SiteState). s.log)
-        (site_more number rs (records.Install (start_with epoch clock lines) ∷ records.Done tx done ∷ []))
+    (site_more number rs (records.Install (start_with epoch clock lines) ∷ records.Done tx done ∷ []))

@@ -8,7 +8,7 @@ returns-in_ok-go_on_reading-in-Reading c =
     reading_went c.args.decl.now c.args.self.now c.in-Some.transaction c.in-Reading.object c.in-Reading.inv
     c.args.number c.in-Reading.calls c.in-Reading.round
     c.in-Some-2.noted c.in_ok-draft-in-Reading.draft (option_copied c.args.answer)
-        c.in_ok-go_on_reading-in-Reading.field-0
+    c.in_ok-go_on_reading-in-Reading.field-0
     c.in-Some.is c.in-Reading.is (sym c.in-Some-2.is ∙ c.in_ok-noted-in-Reading.ensures)
     c.in_ok-draft-in-Reading.ensures c.in_ok-go_on_reading-in-Reading.ensures
 

@@ -29,7 +29,7 @@ crash-requires-clause-up g c κs within =
     let may : MayDo g.N.RunName.declaration g.N.RunName.script c.look.new.self.history c.look.new.self.open_inputs
     (controls.Crash (number c.look.new.pass)) = search rules in
     is_up g.N.RunName.tells g.N.RunName.table g.N.RunName.declaration g.N.RunName.script
-        c.requires.runnable.accepted
+    c.requires.runnable.accepted
     c.look.new.pass c.self.inside.process cell c.look.new.self.history
     c.look.new.self.open_inputs c.look.ensures.seen c.look.ensures.runs may
 

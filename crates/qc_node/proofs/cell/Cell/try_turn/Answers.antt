@@ -92,7 +92,7 @@ invariant_of-self-in_err-prepare g c =
     ap (λ d. actor_takes d c.self.inside.process.actor c.in-Some.field-0.given) (sym c.args.worker.now.declaration)
     ∙ c.in_ok-turn.ensures.ok in
     cell_unwritten g.N.RunName.tells g.N.RunName.table g.N.RunName.declaration g.N.RunName.script
-        c.requires.runnable
+    c.requires.runnable
     c.self.inside.pass c.take.new.pass c.in-Some.field-0.given c.self.inside.given_up c.self.inside.process
     c.self.invariant known took c.take-2.new.self c.in_ok-turn.turn acted c.take-2.ensures.same.0
     c.take-2.ensures.same.1 c.in_ok-turn.ensures.writes c.prepare.new.self
@@ -114,7 +114,7 @@ invariant_of-self-in_err-reserve g c =
     subst (λ (r : Pass Step). IsCell g.N.RunName.tells g.N.RunName.table g.N.RunName.declaration true c.prepare.new.self
     r) (sym c.in_err-reserve.ensures.err)
     (cell_unwritten g.N.RunName.tells g.N.RunName.table g.N.RunName.declaration g.N.RunName.script
-        c.requires.runnable
+    c.requires.runnable
     c.self.inside.pass c.take.new.pass c.in-Some.field-0.given c.self.inside.given_up c.self.inside.process
     c.self.invariant known took c.take-2.new.self c.in_ok-turn.turn acted c.take-2.ensures.same.0
     c.take-2.ensures.same.1 c.in_ok-turn.ensures.writes c.prepare.new.self spelt.told spelt.fuse spelt.journal)
@@ -224,7 +224,7 @@ invariant_of-self-2 g c =
     let saw : Sees c.take.new.pass c.reserve.new.pass = search rules in
     let posts : Posts (IsLawfulWithFalls g.N.RunName.declaration) (fits_of g.N.RunName.declaration) g.N.RunName.declaration g.N.RunName.script c.reserve.new.pass c.post-first.new.pass (record c.in_ok-turn.turn { append = c.append-turn.result }) c.post-first.result = search rules in
     cell_posted g.N.RunName.tells g.N.RunName.table g.N.RunName.declaration g.N.RunName.script
-        c.requires.runnable
+    c.requires.runnable
     c.self.inside.pass c.take.new.pass c.in-Some.field-0.given c.self.inside.given_up c.self.inside.process
     c.self.invariant known took c.take-2.new.self c.in_ok-turn.turn acted c.take-2.ensures.same.0
     c.take-2.ensures.same.1 c.in_ok-turn.ensures.writes c.prepare.new.self spelt c.append-turn.result
