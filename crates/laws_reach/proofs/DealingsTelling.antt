@@ -210,8 +210,10 @@ module _ (decl : Declaration) (c : CommitRecord) (p q : Place) (d : Account) (x 
       (Some resp) command f.current_is
       (response_gist decl d f.t f.object f.inv f.event command f.current_is f.answer_is
       ∙ ap (λ (r : ℕ). record (gist d) {
-        begun =
-            Some (record { tx = f.t.tx; ops = f.t.ops ++ record { object = f.object; inv = f.inv; resp = Some r } ∷ [] });
+        begun = Some (record {
+          tx = f.t.tx;
+          ops = f.t.ops ++ record { object = f.object; inv = f.inv; resp = Some r } ∷ [];
+        });
       }) (sym f.resp_is)) none))
       (λ r unbegun uncommitted over place none run s. ended r s (deal_by c.tx x r None None true).ends none)
       (λ place pending run s. unknown pending s)

@@ -4,15 +4,16 @@ use Rattle.std.proofs.Common.{refl, sym, ap, subst, arith}
 use Rattle.qc_stamp.specs.declared.stamp.TxId.{TxId}
 use Rattle.qc_decl.specs.declared.declaration.Declaration.{Declaration}
 use Rattle.qc_msg.specs.declared.message.Message.{Message}
-use Rattle.qc_msg.specs.declared.reply.Half.{Half}
 use Rattle.qc_msg.specs.declared.step.Command.{Command}
 use Rattle.qc_msg.specs.declared.step.Input.{Input}
 use Rattle.qc_msg.specs.declared.step.Input.TheVariants as inputs
-use Rattle.qc_msg.specs.Vocabulary.{Invocation, do_in}
-use Rattle.qc_promise.specs.Vocabulary.{Account, Current, account_sent, account_taken, answer_of, found_absent, refused}
-use Rattle.qc_promise.specs.Vocabulary.{responded, short_of, with_absent, with_current, with_response}
+use Rattle.qc_msg.specs.Vocabulary.{Invocation, do_in, began_in}
+use Rattle.qc_msg.specs.declared.reply.Reply.{Reply}
+use Rattle.qc_promise.specs.Vocabulary.{Account, Current, account_sent, account_taken, answer_of, found_absent}
+use Rattle.qc_promise.specs.Vocabulary.{responded, with_absent, with_current, with_response, account_told}
 use Rattle.laws_turns.proofs.ReadingCases.{mapped}
-use Rattle.laws_reach.proofs.Gists.{Gist, counted_same, gist, heard_same, refused_same, sent_same, short_same}
+use Rattle.laws_reach.proofs.Gists.{Gist, counted_same, gist, heard_same, sent_same}
+use Rattle.laws_reach.proofs.ToldCases.{account_by, stays_same, told_cases}
 
 -- a transaction of this client that it has begun: in an earlier life, or in the present one, among those that began
 -- there. Before the record of a rise is written, and while it is down, no more is known than that the life isn't a
@@ -102,14 +103,15 @@ response_as decl d o =
     (λ (t : Current). with_response decl t i.object i.inv (answer_of decl t i.object i.inv))) d
     (option_and_then do_in o) (λ i. (refl, refl)) (refl, refl)
 
-pub refused_counts : (d : Account) → SameCounts d (refused d)
-refused_counts d = by_gist d (refused d) (refused_same d)
-
-pub short_counts : (d : Account) (half : Half) → SameCounts d (short_of d half)
-short_counts d half = by_gist d (short_of d half) (short_same d half)
-
-pub absent_counts : (d : Account) → SameCounts d (found_absent d d.command)
-absent_counts d = absent_as d d.command
-
-pub response_counts : (decl : Declaration) (d : Account) → SameCounts d (responded decl d d.command)
-response_counts decl d = response_as decl d d.command
+-- a reply that begins none
+pub told_counts : (decl : Declaration) (d : Account) (r : Reply) → began_in r ≡ None
+    → SameCounts d (account_told decl d r)
+told_counts decl d r unbegun =
+    told_cases decl d
+    (λ r began stamp short resp over refuses doubt. began ≡ None
+    → SameCounts d (account_by decl d began stamp short resp over refuses)) (λ none. (refl, refl))
+    (λ r short refuses says unbegun uncommitted goes none.
+    by_gist d (account_by decl d None None short None false refuses) (stays_same decl d short refuses))
+    (λ tx some. absurd (let never : ⊥ = cc in never)) (λ none. absent_as d d.command)
+    (λ resp none. response_as decl d d.command) (λ r unbegun uncommitted over none. (refl, refl))
+    (λ none. (refl, refl)) (λ stamp none. (refl, refl)) r unbegun

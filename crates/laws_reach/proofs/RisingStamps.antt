@@ -51,22 +51,25 @@ pub low_later : (n m : ℕ) → n ≤ m → (cs : List Commit) → Every (IsUpTo
 low_later n m on [] low = tt
 low_later n m on (c ∷ cs) low = (let l : c.stamp.clock ≤ n = low.0 in omega arith, low_later n m on cs low.1)
 
--- the clock of a client that rises has passed all its records
+-- lives and clocks only grow, and the clock of a client that rises has passed all its records
 
-clock_one : (k : Kept) (r : Record) → k.clock ≤ (keeps k r).clock
-clock_one k r = by (is_life r) (commit_of r)
+abbrev Grown : Kept → Kept → Type 0
+Grown k next = (k.life ≤ next.life) × (k.clock ≤ next.clock)
+
+pub grown_one : (k : Kept) (r : Record) → (k.life ≤ (keeps k r).life) × (k.clock ≤ (keeps k r).clock)
+grown_one k r = by (is_life r) (commit_of r)
   where
-    by : (life : Bool) (o : Option Commit) → k.clock
-        ≤ (cond life (record k { life = k.life + 1 }) (option_map_or (λ (c : Commit).
-        record k { commits = with_commit k.commits c; clock = max k.clock c.stamp.clock }) o k)).clock
-    by true o = omega arith
-    by false None = omega arith
-    by false (Some c) = omega arith
+    by : (life : Bool) (o : Option Commit) → Grown k
+        (cond life (record k { life = k.life + 1 }) (option_map_or (λ (c : Commit).
+        record k { commits = with_commit k.commits c; clock = max k.clock c.stamp.clock }) o k))
+    by true o = (omega arith, omega arith)
+    by false None = (omega arith, omega arith)
+    by false (Some c) = (omega arith, omega arith)
 
 clock_up : (k : Kept) (rs : List Record) → k.clock ≤ (fold keeps k rs).clock
 clock_up k [] = omega arith
 clock_up k (r ∷ rs) =
-    let one : k.clock ≤ (keeps k r).clock = clock_one k r in
+    let one : k.clock ≤ (keeps k r).clock = (grown_one k r).1 in
     let rest : (keeps k r).clock ≤ (fold keeps (keeps k r) rs).clock = clock_up (keeps k r) rs in omega arith
 
 pub all_passed : (k : Kept) (rs : List Record) → Every (IsUpTo (fold keeps k rs).clock) (commits_of rs)

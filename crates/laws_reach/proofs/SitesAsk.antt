@@ -14,7 +14,7 @@ use Rattle.qc_decl.specs.declared.declaration.Declaration.{Declaration}
 use Rattle.qc_msg.specs.declared.message.Answer.{Answer}
 use Rattle.qc_msg.specs.declared.message.Answer.TheVariants as says
 use Rattle.qc_msg.specs.declared.message.Message.{Message}
-use Rattle.qc_msg.specs.declared.message.Message.TheVariants as messages
+use Rattle.qc_msg.specs.declared.message.Outcome.{Outcome}
 use Rattle.qc_msg.specs.declared.message.Outcome.TheVariants.{Aborted, Active, Committed}
 use Rattle.qc_msg.specs.declared.message.Want.{Want}
 use Rattle.qc_msg.specs.declared.message.Want.TheVariants.{Append, Prepare, Read}
@@ -28,10 +28,11 @@ use Rattle.qc_msg.specs.Vocabulary.{Answered, Requested, answer_in, inquiry_in, 
 use Rattle.qc_recover.proofs.Asked.{first_every}
 use Rattle.qc_recover.specs.Vocabulary.{Kept, inquiry, keeps, kept_by, most_inquiries, nothing_kept, site_rises}
 use Rattle.qc_site.specs.Vocabulary.{SiteMove, SiteState, answers, grants, in_order, moved, passed, site_at, site_takes}
-use Rattle.qc_site.specs.Vocabulary.{without_prepared}
+use Rattle.qc_site.specs.Vocabulary.{without_prepared, finishes}
 use Rattle.laws_turns.proofs.SitesAsk.{Asks, GivenTells, HeldFor, PreparedFor, SiteTells, Tells, held-promised}
 use Rattle.laws_turns.proofs.SitesAsk.{prepared-left, site_asks}
 use Rattle.laws_turns.proofs.ReadingCases.{matched_by}
+use Rattle.laws_turns.proofs.SiteCases.{site_cases}
 use Rattle.qc_site.proofs.RequestCases.{append_cases, close_cases, join_cases, prepare_cases, read_cases, request_cases}
 use Rattle.qc_site.proofs.Cases.{install_cases}
 
@@ -107,23 +108,23 @@ module _ (decl : Declaration) (B : TxId → Type 0) where
         prepare_cases Promising s from number tx (still says.Stale) (λ held stands. still (says.Yes s.clock))
         (λ held made. record { failed = (tt, tt); writes = (here, tt) })
 
-    at : (to : ℕ) (message : Message) → Tells decl B to message → Promising (site_at decl s from number message)
-    at to (messages.Request tx epoch life want) here =
-        request_cases Promising decl s from number tx epoch life want silent (λ fault is. still fault)
-        (λ is. granted tx want here)
-    at to (messages.Answer asked answer) here = silent
-    at to (messages.Decision tx (Committed stamp)) here =
+    decided : (tx : TxId) (verdict : Outcome) → Promising (finishes s tx verdict)
+    decided tx (Committed stamp) =
         join_cases Promising s tx stamp (λ none. record { failed = tt; writes = tt })
         (λ p some. record { failed = tt; writes = (tt, tt) })
-    at to (messages.Decision tx Aborted) here = record { failed = tt; writes = tt }
-    at to (messages.Decision tx Active) here = silent
-    at to (messages.Inquiry tx) here = silent
-    at to (messages.Ask tx) here = silent
-    at to (messages.Close k) here = close_cases Promising s from number k still
-        (λ near later. record { failed = (tt, tt); writes = (tt, tt) })
-    at to (messages.Install start) here =
-        install_cases Promising s from number start.epoch start.clock start.lines still
-        (λ later fits. record { failed = (tt, tt); writes = (tt, tt) })
+    decided tx Aborted = record { failed = tt; writes = tt }
+    decided tx Active = silent
+
+    at : (to : ℕ) (message : Message) → Tells decl B to message → Promising (site_at decl s from number message)
+    at to message here =
+        site_cases decl s from number (λ m move. Tells decl B to m → Promising move) (λ m its. silent)
+        (λ q its. request_cases Promising decl s from number q.tx q.epoch q.life q.want silent (λ fault is. still fault)
+        (λ is. granted q.tx q.want its))
+        (λ tx verdict its. decided tx verdict)
+        (λ k its. close_cases Promising s from number k still
+        (λ near later. record { failed = (tt, tt); writes = (tt, tt) }))
+        (λ k clock lines its. install_cases Promising s from number k clock lines still
+        (λ later fits. record { failed = (tt, tt); writes = (tt, tt) })) message here
 
   promising : (s : SiteState) (g : Input) → GivenTells decl B g → Promising (site_takes decl s g)
   promising s (inputs.Called command) here = record { failed = tt; writes = tt }

@@ -1,6 +1,6 @@
 -- How a transaction stands at its client while that is up, down, and risen: lives only grow.
-use Rattle.std.proofs.Common.{◌≡◌, ◌≢◌, ℕ, ◌+◌, ◌<◌, ◌≤◌, max, ◌⊎◌, inl, inr, Bool, true, false, cond, List, [], ◌∷◌}
-use Rattle.std.proofs.Common.{◌++◌, fold, Option, Some, None, option_to_list, refl, sym, ap, ◌∙◌, subst, arith}
+use Rattle.std.proofs.Common.{◌≡◌, ◌≢◌, ℕ, ◌+◌, ◌<◌, ◌≤◌, ◌⊎◌, inl, inr, Bool, true, false, cond, List, [], ◌∷◌, ◌++◌}
+use Rattle.std.proofs.Common.{fold, Option, Some, None, option_to_list, refl, sym, ap, ◌∙◌, subst, arith}
 use Rattle.std.specs.Option.{option_map_or}
 use Rattle.std.specs.List.{AllByRecursion as Every}
 use Rattle.std.proofs.lemmas.List.Sums.{fold-append}
@@ -9,18 +9,18 @@ use Rattle.qc_list.proofs.Members.{In-first, every-In}
 use Rattle.qc_entry.specs.declared.record.Commit.{Commit}
 use Rattle.qc_msg.specs.declared.record.Record.{Record}
 use Rattle.qc_msg.specs.declared.record.Record.TheVariants as records
-use Rattle.qc_msg.specs.Vocabulary.{commit_of, is_life}
 use Rattle.qc_promise.specs.Vocabulary.{AreRightKept, Begun, Committed, Dead, IsGivenBack, IsRightKept, IsRightRecord}
 use Rattle.qc_promise.specs.Vocabulary.{Journal, Status, Unborn, given_up, status_risen, status_written}
 use Rattle.laws_turns.proofs.DealingParts.{HasRecord}
 use Rattle.laws_turns.proofs.Statuses.{IsStatus, Page}
-use Rattle.qc_recover.specs.Clients.{Kept, keeps, kept_by, nothing_kept, with_commit}
+use Rattle.qc_recover.specs.Clients.{Kept, keeps, kept_by, nothing_kept}
 use Rattle.qc_stamp.specs.declared.stamp.Stamp.{Stamp}
 use Rattle.qc_stamp.specs.declared.stamp.TxId.{TxId}
 use Rattle.qc_stamp.specs.Vocabulary.{same_tx}
 use Rattle.qc_stamp.proofs.Orders.{same_tx_is, same_tx_itself}
 use Rattle.laws_reach.specs.Vocabulary.{IsRecorded}
 use Rattle.laws_reach.proofs.RecordCases.{commit_cases}
+use Rattle.laws_reach.proofs.RisingStamps.{grown_one}
 
 pub listed_more : (tx : TxId) (stamp : Stamp) (xs ys : List Record) → IsRecorded tx stamp xs
     → IsRecorded tx stamp (xs ++ ys)
@@ -59,20 +59,10 @@ up_down tx s j k p o u pending = record {
 
 -- lives only grow
 
-life_one : (k : Kept) (r : Record) → k.life ≤ (keeps k r).life
-life_one k r = by (is_life r) (commit_of r)
-  where
-    by : (life : Bool) (o : Option Commit) → k.life
-        ≤ (cond life (record k { life = k.life + 1 }) (option_map_or (λ (c : Commit).
-        record k { commits = with_commit k.commits c; clock = max k.clock c.stamp.clock }) o k)).life
-    by true o = omega arith
-    by false None = omega arith
-    by false (Some c) = omega arith
-
 grows : (k : Kept) (rs : List Record) → k.life ≤ (fold keeps k rs).life
 grows k [] = omega arith
 grows k (r ∷ rs) =
-    let one : k.life ≤ (keeps k r).life = life_one k r in
+    let one : k.life ≤ (keeps k r).life = (grown_one k r).0 in
     let rest : (keeps k r).life ≤ (fold keeps (keeps k r) rs).life = grows (keeps k r) rs in omega arith
 
 pub lives_grow : (xs ys : List Record) → (kept_by xs).life ≤ (kept_by (xs ++ ys)).life
@@ -156,7 +146,8 @@ module _ (tx : TxId) where
     pub later : tx.client ≡ k → (kept_by rs).life < tx.life → s ≡ Unborn
     pub mine : s ≢ Unborn → tx.client ≡ k
 
-  module _ (s : Status) (j : Journal) (k : ℕ) (d : Down tx s j k) (rs : List Record) (right : AreRightKept tx s rs) where
+  module _ (s : Status) (j : Journal) (k : ℕ) (d : Down tx s j k) (rs : List Record)
+      (right : AreRightKept tx s rs) where
     born_by : (stamp : Stamp) → IsRecorded tx stamp rs → s ≢ Unborn
     born_by stamp l none =
         by (every-In (IsRightKept tx s) (records.Commit l.commit) rs right l.listed

@@ -1,7 +1,8 @@
 -- A client tells a reply that is due, and stands in what it has seen as before.
-use Rattle.std.proofs.Common.{◌≡◌, ◌⊎◌, ℕ, Bool, true, false, List, [], ◌++◌, inl, inr, Option, Some, None, option_map}
-use Rattle.std.proofs.Common.{option_to_list, refl, sym, ap, ◌∙◌, subst}
+use Rattle.std.proofs.Common.{◌≡◌, ◌⊎◌, ℕ, Bool, true, false, cond, List, [], ◌++◌, inl, inr, Option, Some, None}
+use Rattle.std.proofs.Common.{option_map, option_to_list, refl, sym, ap, ◌∙◌, subst}
 use Rattle.std.specs.Prelude.{option_and_then}
+use Rattle.std.specs.Option.{option_map_or}
 use Rattle.qc_stamp.specs.declared.stamp.Stamp.{Stamp}
 use Rattle.qc_stamp.specs.declared.stamp.TxId.{TxId}
 use Rattle.qc_stamp.specs.Vocabulary.{same_tx}
@@ -12,20 +13,21 @@ use Rattle.qc_entry.specs.declared.record.Commit.{Commit}
 use Rattle.qc_msg.specs.declared.reply.Reply.{Reply}
 use Rattle.qc_msg.specs.declared.reply.Reply.TheVariants as replies
 use Rattle.qc_msg.specs.declared.step.Command.{Command}
-use Rattle.qc_msg.specs.Vocabulary.{Tells}
+use Rattle.qc_msg.specs.Vocabulary.{Tells, began_in, committed_in, is_end}
 use Rattle.qc_promise.specs.Vocabulary.{Account, Current, IsReplyDue, Journal, Sight, account_told, commit_of, is_begun}
 use Rattle.qc_promise.specs.Vocabulary.{row_of, running_row, sight_told}
 use Rattle.qc_promise.specs.Status as statuses
+use Rattle.qc_promise.specs.Seen.{over}
 use Rattle.laws_reach.specs.Vocabulary.{SaysIn}
 use Rattle.laws_reach.proofs.Rows.{row_says}
 use Rattle.laws_atomic.proofs.Counted.{name_of}
 use Rattle.laws_atomic.proofs.Seeing.{Sees, in_split}
 use Rattle.laws_atomic.proofs.Taking.{IsFree}
 use Rattle.laws_atomic.proofs.Tellings.{told_sees}
-use Rattle.laws_reach.proofs.Naming.{SameCounts, absent_counts, named_more, next_name, next_named, next_new}
-use Rattle.laws_reach.proofs.Naming.{refused_counts, response_counts, short_counts}
+use Rattle.laws_reach.proofs.Naming.{SameCounts, named_more, next_name, next_named, next_new, told_counts}
 use Rattle.laws_reach.proofs.Standing.{IsAccount, IsRecorded, SameSight, Stands, account_more, as_done, client_is, done}
 use Rattle.laws_reach.proofs.Standing.{keeps_on, keeps_so, up_not, with_status}
+use Rattle.laws_reach.proofs.ToldCases.{told_cases}
 
 -- the transaction that begins has the next name
 begun_name : (decl : Declaration) (d : Account) (other : TxId) → running_row decl d false ≡ Some (replies.Began other)
@@ -134,34 +136,48 @@ module _ (decl : Declaration) (commits : List Commit) (tx : TxId) (client : ℕ)
           let same : same_tx other tx ≡ true = ap (λ (t : TxId). same_tx t tx) one
           ∙ named in let no : ⊥ = cc in no)))
 
+  -- a reply of which no beginning is read begins none, and leaves the sight but for an end
+
+  no_begin : (r : Reply) → began_in r ≡ None → IsNoBegin r
+  no_begin r none other is =
+      let same : Some other ≡ None = sym (ap began_in is) ∙ none in let never : ⊥ = cc in never
+
+  sight_so : (r : Reply) → began_in r ≡ None → committed_in r ≡ None
+      → sight_told tx s r ≡ cond (is_end r) (over s) s
+  sight_so r unbegun uncommitted =
+      ap (λ (o : Option TxId). option_map_or (λ (other : TxId). record s {
+        begun = Some other;
+        seen = cond (same_tx other tx) (s.shown ++ s.committed) s.seen;
+      }) o (option_map_or (λ (stamp : Stamp). over (record s { committed = s.committed ++ option_to_list s.begun }))
+      (committed_in r) (cond (is_end r) (over s) s))) unbegun
+      ∙ ap (λ (o : Option Stamp). option_map_or (λ (stamp : Stamp).
+      over (record s { committed = s.committed ++ option_to_list s.begun })) o (cond (is_end r) (over s) s)) uncommitted
+
+  sight_on : (r : Reply) → began_in r ≡ None → committed_in r ≡ None → is_end r ≡ false
+      → SameSight s (sight_told tx s r)
+  sight_on r unbegun uncommitted goes =
+      subst (SameSight s) (sym (sight_so r unbegun uncommitted ∙ ap (λ (b : Bool). cond b (over s) s) goes))
+      (refl, refl)
+
+  gives_up : (r : Reply) → began_in r ≡ None → committed_in r ≡ None → is_end r ≡ true → IsDue r → After r
+  gives_up r unbegun uncommitted ended due =
+      let is : sight_told tx s r ≡ over s =
+      sight_so r unbegun uncommitted ∙ ap (λ (b : Bool). cond b (over s) s) ended in
+      ends r due (no_begin r unbegun) (told_counts decl d r unbegun) (ap (λ (v : Sight). v.begun) is)
+      (λ x among. w.keeps.told x (subst (λ (v : Sight). In x v.committed) is among))
+
   pub tells : (reply : Reply) → IsDue reply → After reply
-  tells replies.Down due = silent replies.Down due (λ x is. let no : ⊥ = cc in no) (refl, refl) (refl, refl)
-  tells (replies.Already other) due = silent (replies.Already other) due (λ x is. let no : ⊥ = cc in no) (refl, refl)
-      (refl, refl)
-  tells (replies.Began other) due = begins other due
-  tells replies.NoTransaction due = silent replies.NoTransaction due (λ x is. let no : ⊥ = cc in no) (refl, refl)
-      (refl, refl)
-  tells replies.Doomed due = silent replies.Doomed due (λ x is. let no : ⊥ = cc in no) (refl, refl) (refl, refl)
-  tells replies.TooLong due = silent replies.TooLong due (λ x is. let no : ⊥ = cc in no) (refl, refl) (refl, refl)
-  tells (replies.Closed epoch site) due = silent (replies.Closed epoch site) due (λ x is. let no : ⊥ = cc in no)
-      (refused_counts d) (refl, refl)
-  tells (replies.Conflict holder site) due =
-      silent (replies.Conflict holder site) due (λ x is. let no : ⊥ = cc in no) (refused_counts d) (refl, refl)
-  tells (replies.Quorum half got need) due =
-      silent (replies.Quorum half got need) due (λ x is. let no : ⊥ = cc in no) (short_counts d half) (refl, refl)
-  tells replies.Absent due = silent replies.Absent due (λ x is. let no : ⊥ = cc in no) (absent_counts d) (refl, refl)
-  tells (replies.Response resp) due = silent (replies.Response resp) due (λ x is. let no : ⊥ = cc in no)
-      (response_counts decl d) (refl, refl)
-  tells (replies.Aborted why) due = ends (replies.Aborted why) due (λ x is. let no : ⊥ = cc in no)
-      (refl, refl) refl w.keeps.told
-  tells replies.Unknown due = ends replies.Unknown due (λ x is. let no : ⊥ = cc in no) (refl, refl) refl w.keeps.told
-  tells (replies.Committed stamp) due = ends (replies.Committed stamp) due (λ x is. let no : ⊥ = cc in no)
-      (refl, refl) refl (commits_it stamp due.1)
-  tells replies.Dropped due = ends replies.Dropped due (λ x is. let no : ⊥ = cc in no) (refl, refl) refl w.keeps.told
-  tells (replies.Order current) due = silent (replies.Order current) due (λ x is. let no : ⊥ = cc in no) (refl, refl)
-      (refl, refl)
-  tells (replies.InDoubt holder site) due =
-      silent (replies.InDoubt holder site) due (λ x is. let no : ⊥ = cc in no) (refl, refl) (refl, refl)
-  tells replies.Fault due = silent replies.Fault due (λ x is. let no : ⊥ = cc in no) (refl, refl) (refl, refl)
-  tells (replies.Moved closed installed) due =
-      silent (replies.Moved closed installed) due (λ x is. let no : ⊥ = cc in no) (refl, refl) (refl, refl)
+  tells reply due =
+      told_cases decl d (λ r began stamp short resp over refuses doubt. IsDue r → After r)
+      (λ due. silent replies.Down due (no_begin replies.Down refl) (refl, refl) (refl, refl))
+      (λ r short refuses says unbegun uncommitted goes due. silent r due (no_begin r unbegun)
+      (told_counts decl d r unbegun) (sight_on r unbegun uncommitted goes))
+      begins
+      (λ due. silent replies.Absent due (no_begin replies.Absent refl) (told_counts decl d replies.Absent refl)
+      (refl, refl))
+      (λ resp due. silent (replies.Response resp) due (no_begin (replies.Response resp) refl)
+      (told_counts decl d (replies.Response resp) refl) (refl, refl))
+      (λ r unbegun uncommitted ended due. gives_up r unbegun uncommitted ended due)
+      (λ due. gives_up replies.Unknown refl refl refl due)
+      (λ stamp due. ends (replies.Committed stamp) due (no_begin (replies.Committed stamp) refl) (refl, refl) refl
+      (commits_it stamp due.1)) reply due

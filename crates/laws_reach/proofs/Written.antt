@@ -129,7 +129,8 @@ module _ (decl : Declaration) where
           actor = a;
           client = client;
           listed = subst (In (records.Commit c)) (sym here)
-              (In-first (records.Commit c) (rs a) more (subst (λ (k : ℕ). In (records.Commit c) (rs k)) same is.listed));
+              (In-first (records.Commit c) (rs a) more
+              (subst (λ (k : ℕ). In (records.Commit c) (rs k)) same is.listed));
         }
         | inr other ↦ record {
           actor = is.actor;

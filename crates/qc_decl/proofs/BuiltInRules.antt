@@ -131,7 +131,7 @@ module _ (actors : ℕ) (weights : List ℕ) (need : ℕ) (small : need ≤ grea
 
       right : (number : ℕ) (kind : Kind) → slice_get (register_kind ∷ []) number ≡ Some kind → IsRight kind
       right zero kind is = let same : register_kind ≡ kind = cc in
-          subst IsRight same (record { sound = register_sound; inductive_lists_make_relations_exact = register_exact })
+          subst IsRight same (record { sound = register_sound; exact = register_exact })
       right (suc number) kind is = absurd (let never : ⊥ = cc in never)
 
       good : (place : ℕ) (plan : Plan) → slice_get (register_plan weights need ∷ []) place ≡ Some plan

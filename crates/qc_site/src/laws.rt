@@ -28,11 +28,12 @@ ghost use Rattle.qc_msg.specs.declared.message.Message.TheVariants.{Request};
 ghost use Rattle.qc_msg.specs.declared.message.Outcome.{Outcome};
 ghost use Rattle.qc_msg.specs.declared.message.Outcome.TheVariants.{Active};
 ghost use Rattle.qc_msg.specs.declared.message.Want.{Want};
+ghost use Rattle.qc_msg.specs.declared.payload.EpochStart.{EpochStart};
 ghost use Rattle.qc_msg.specs.declared.message.Want.TheVariants.{Read, Append};
 ghost use Rattle.qc_msg.specs.declared.record.Record.TheVariants as records;
 ghost use Rattle.qc_msg.specs.declared.step.Command.{Command};
 ghost use Rattle.qc_msg.specs.declared.step.Input.TheVariants.{Called, Lost};
-ghost use Rattle.qc_msg.specs.Payloads.{read_of, start_with};
+ghost use Rattle.qc_msg.specs.Payloads.{read_of};
 ghost use Rattle.qc_site.specs.Brought.{brought, stamps_in, stamps_taken};
 ghost use Rattle.qc_site.specs.Conduct.{decision_on, passed, request_on, site_after, site_on, site_takes};
 ghost use Rattle.qc_site.specs.Ended.{ends};
@@ -240,19 +241,18 @@ pub fn closes_are_answered_by_rows()
 /// would be too long; else it begins the epoch, with these lines and nothing else, and this is written before it is
 /// told. The clock passes the lines in each row, and the clock of the Install in the last one.
 pub fn installs_are_answered_by_rows()
-    ensures known { (decl : Declaration) (s : SiteState) (from number epoch clock : ℕ) (lines : List Line)
-        → epoch ≤ s.epoch
-        → site_on decl s from number (messages.Install (start_with epoch clock lines))
-        ≡ moved (passed s (messages.Install (start_with epoch clock lines))) (answers from number Installed) }
-    ensures long { (decl : Declaration) (s : SiteState) (from number epoch clock : ℕ) (lines : List Line)
-        → s.epoch < epoch → most_record_bytes < epoch_length lines
-        → site_on decl s from number (messages.Install (start_with epoch clock lines))
-        ≡ moved (passed s (messages.Install (start_with epoch clock lines))) (answers from number (Behind s.epoch)) }
-    ensures begins { (decl : Declaration) (s : SiteState) (from number epoch clock : ℕ) (lines : List Line)
-        → s.epoch < epoch → epoch_length lines ≤ most_record_bytes
-        → site_on decl s from number (messages.Install (start_with epoch clock lines))
-        ≡ moved (installed (passed s (messages.Install (start_with epoch clock lines))) epoch clock lines)
-        (recording from number (records.Install (start_with epoch clock lines)) Installed) }
+    ensures known { (decl : Declaration) (s : SiteState) (from number : ℕ) (start : EpochStart)
+        → start.epoch ≤ s.epoch → site_on decl s from number (messages.Install start)
+        ≡ moved (passed s (messages.Install start)) (answers from number Installed) }
+    ensures long { (decl : Declaration) (s : SiteState) (from number : ℕ) (start : EpochStart)
+        → s.epoch < start.epoch → most_record_bytes < epoch_length start.lines
+        → site_on decl s from number (messages.Install start)
+        ≡ moved (passed s (messages.Install start)) (answers from number (Behind s.epoch)) }
+    ensures begins { (decl : Declaration) (s : SiteState) (from number : ℕ) (start : EpochStart)
+        → s.epoch < start.epoch → epoch_length start.lines ≤ most_record_bytes
+        → site_on decl s from number (messages.Install start)
+        ≡ moved (installed (passed s (messages.Install start)) start.epoch start.clock start.lines)
+        (recording from number (records.Install start) Installed) }
 {}
 
 /// A request is answered by the first row that applies: the site is in an

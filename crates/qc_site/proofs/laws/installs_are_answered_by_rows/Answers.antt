@@ -3,7 +3,7 @@ use Rattle.qc_site.proofs.laws.installs_are_answered_by_rows.Goals as goal
 
 pub returns : goal.returns
 returns c = record {
-  known = install_known;
-  long = install_long;
-  begins = install_begins;
+  known = λ decl s from number start. install_known decl s from number start.epoch start.clock start.lines;
+  long = λ decl s from number start. install_long decl s from number start.epoch start.clock start.lines;
+  begins = λ decl s from number start. install_begins decl s from number start.epoch start.clock start.lines;
 }
