@@ -54,8 +54,8 @@ pub fn clocks_never_fall()
         → s.clock ≤ (site_on decl s from number message).site.clock }
 {}
 
-/// A clock has passed each stamp that came, whatever became of its message:
-/// in the last one, and in all that a site took.
+/// A clock has passed each stamp that came, whatever became of its message: in the last one, and in all
+/// that a site took.
 pub fn clocks_pass_what_comes()
     ensures message { (decl : Declaration) (s : SiteState) (from number : ℕ) (message : Message) (stamp : Stamp)
         → In stamp (stamps_in message) → stamp.clock ≤ (site_on decl s from number message).site.clock }
@@ -63,9 +63,9 @@ pub fn clocks_pass_what_comes()
         → In stamp (stamps_taken deeds) → stamp.clock ≤ (site_after decl number deeds).site.clock }
 {}
 
-/// Where a Read is granted, its invocation depends on no event of an own line of the object that another
-/// transaction holds. Where an Append is granted, no invocation of a read lock that another transaction holds
-/// depends on the event of one of its lines.
+/// Where a Read is granted, its invocation depends on no event of an own line of the object that
+/// another transaction holds. Where an Append is granted, no invocation of a read lock that another
+/// transaction holds depends on the event of one of its lines.
 pub fn grants_conflict_with_nothing()
     ensures read { (decl : Declaration) (s : SiteState) (from number : ℕ) (tx : TxId) (epoch life object inv : ℕ)
         (holder : Held) (line : OwnLine)
@@ -87,8 +87,8 @@ pub fn refusals_change_nothing()
         × ((site_on decl s from number message).turn.write ≡ None) }
 {}
 
-/// A clash that is told is the smallest conflict, and the client of its holder
-/// is asked in the same turn.
+/// A clash that is told is the smallest conflict, and the client of its holder is asked in the same
+/// turn.
 pub fn clashes_are_the_smallest()
     ensures read { (decl : Declaration) (s : SiteState) (from number : ℕ) (tx : TxId) (epoch life object inv : ℕ)
         (c : Conflict)
@@ -119,9 +119,8 @@ pub fn grants_are_held()
         ≡ with_owns (held_of s.held tx).own own }
 {}
 
-/// What a transaction holds stays until a decision on it, or until the site
-/// closes its epoch or begins another: each lock, and an own line of each
-/// operation.
+/// What a transaction holds stays until a decision on it, or until the site closes its epoch or begins
+/// another: each lock, and an own line of each operation.
 pub fn what_is_held_stays()
     ensures locks { (decl : Declaration) (s : SiteState) (from number : ℕ) (message : Message) (tx : TxId)
         (lock : ReadLock)
@@ -136,8 +135,8 @@ pub fn what_is_held_stays()
         → HasOperation op (held_of (site_on decl s from number message).site.held tx).own }
 {}
 
-/// A decision frees its transaction: it holds nothing, and nothing is promised
-/// of it. What other transactions hold and are promised stays.
+/// A decision frees its transaction: it holds nothing, and nothing is promised of it. What other
+/// transactions hold and are promised stays.
 pub fn decisions_free()
     ensures held { (decl : Declaration) (s : SiteState) (from number : ℕ) (tx : TxId) (verdict : Outcome)
         → is_final verdict ≡ true
@@ -157,8 +156,8 @@ pub fn decisions_free()
         → decision_on decl s from number tx Active ≡ moved s quiet }
 {}
 
-/// A Yes is told only for a transaction that holds something and is promised
-/// from now on, and with the record of the promise where it is a new one.
+/// A Yes is told only for a transaction that holds something and is promised from now on, and with the
+/// record of the promise where it is a new one.
 pub fn votes_are_backed()
     ensures { (decl : Declaration) (s : SiteState) (from number : ℕ) (tx : TxId) (epoch life : ℕ) (want : Want)
         → votes_in (request_on decl s from number tx epoch life want).turn ≡ true
@@ -166,8 +165,8 @@ pub fn votes_are_backed()
         (request_on decl s from number tx epoch life want) }
 {}
 
-/// A promise stands until a decision on its transaction, or until the site
-/// begins another epoch: one that closes its own keeps it.
+/// A promise stands until a decision on its transaction, or until the site begins another epoch: one
+/// that closes its own keeps it.
 pub fn promises_stand()
     ensures { (decl : Declaration) (s : SiteState) (from number : ℕ) (message : Message) (tx : TxId) (p : Prepared)
         → prepared_of s.prepared tx ≡ Some p → ends message tx ≡ false
@@ -175,9 +174,9 @@ pub fn promises_stand()
         → prepared_of (site_on decl s from number message).site.prepared tx ≡ Some p }
 {}
 
-/// Until the site begins another epoch, what its own began with stays, and the log gains just what that lacks of
-/// the view of an Append that is granted, or of the own lines that were promised of a committed transaction, with
-/// its stamp.
+/// Until the site begins another epoch, what its own began with stays, and the log gains just what that
+/// lacks of the view of an Append that is granted, or of the own lines that were promised of a
+/// committed transaction, with its stamp.
 pub fn logs_gain_what_is_brought()
     ensures log { (decl : Declaration) (s : SiteState) (from number : ℕ) (message : Message)
         → installs_in (site_on decl s from number message).turn ≡ false
@@ -188,8 +187,8 @@ pub fn logs_gain_what_is_brought()
         → (site_on decl s from number message).site.began ≡ s.began }
 {}
 
-/// Lines ascend, each transaction has one entry that holds something, and
-/// locks and own lines ascend in it and in each promise, whatever a site took.
+/// Lines ascend, each transaction has one entry that holds something, and locks and own lines ascend in
+/// it and in each promise, whatever a site took.
 pub fn sites_stay_sorted()
     ensures message { (decl : Declaration) (s : SiteState) (from number : ℕ) (message : Message)
         → IsSiteSorted s → IsMessageSorted message → IsSiteSorted (site_on decl s from number message).site }
@@ -197,8 +196,8 @@ pub fn sites_stay_sorted()
         → IsSiteSorted (site_after decl number deeds).site }
 {}
 
-/// A site's number stays; its life and epoch never fall, and stay where it
-/// neither closes its epoch nor begins another, as does whether it has closed.
+/// A site's number stays; its life and epoch never fall, and stay where it neither closes its epoch nor
+/// begins another, as does whether it has closed.
 pub fn lives_and_epochs_rise()
     ensures number { (decl : Declaration) (s : SiteState) (from number : ℕ) (message : Message)
         → (site_on decl s from number message).site.number ≡ s.number }
@@ -220,9 +219,9 @@ pub fn lives_and_epochs_rise()
         → (site_on decl s from number message).site.closed_for ≡ s.closed_for }
 {}
 
-/// A Close is answered by the first row that applies: the site is too far behind, or in that epoch or a later one,
-/// or has closed for it and tells so again; else it closes. Then a new life begins, in which it holds what it has
-/// promised and no more, and this is written before it is told.
+/// A Close is answered by the first row that applies: the site is too far behind, or in that epoch or a
+/// later one, or has closed for it and tells so again; else it closes. Then a new life begins, in which
+/// it holds what it has promised and no more, and this is written before it is told.
 pub fn closes_are_answered_by_rows()
     ensures behind { (decl : Declaration) (s : SiteState) (from number epoch : ℕ) → s.epoch + 1 < epoch
         → site_on decl s from number (messages.Close epoch) ≡ moved s (answers from number (Behind s.epoch)) }
@@ -237,9 +236,10 @@ pub fn closes_are_answered_by_rows()
         ≡ moved (closed s epoch) (recording from number (records.Close epoch) (shut_answer (closed s epoch))) }
 {}
 
-/// An Install is answered by the first row that applies: the site is in that epoch or a later one, or its record
-/// would be too long; else it begins the epoch, with these lines and nothing else, and this is written before it is
-/// told. The clock passes the lines in each row, and the clock of the Install in the last one.
+/// An Install is answered by the first row that applies: the site is in that epoch or a later one, or
+/// its record would be too long; else it begins the epoch, with these lines and nothing else, and this
+/// is written before it is told. The clock passes the lines in each row, and the clock of the Install
+/// in the last one.
 pub fn installs_are_answered_by_rows()
     ensures known { (decl : Declaration) (s : SiteState) (from number : ℕ) (start : EpochStart)
         → start.epoch ≤ s.epoch → site_on decl s from number (messages.Install start)
@@ -255,9 +255,8 @@ pub fn installs_are_answered_by_rows()
         (recording from number (records.Install start) Installed) }
 {}
 
-/// A request is answered by the first row that applies: the site is in an
-/// earlier epoch, in a later one, has closed it, or isn't in the life that is
-/// named; else what is wanted is looked at.
+/// A request is answered by the first row that applies: the site is in an earlier epoch, in a later
+/// one, has closed it, or isn't in the life that is named; else what is wanted is looked at.
 pub fn requests_are_answered_by_rows()
     ensures behind { (decl : Declaration) (s : SiteState) (from number : ℕ) (tx : TxId) (epoch life : ℕ) (want : Want)
         → names_declared decl tx want ≡ true → s.epoch < epoch
@@ -283,8 +282,8 @@ pub fn requests_are_answered_by_rows()
         ≡ grants decl (passed s (Request tx epoch life want)) from number tx want }
 {}
 
-/// What no run gives to a site does nothing, and has no turn: a request of
-/// what isn't declared passes the clock alone.
+/// What no run gives to a site does nothing, and has no turn: a request of what isn't declared passes
+/// the clock alone.
 pub fn other_inputs_do_nothing()
     ensures undeclared { (decl : Declaration) (s : SiteState) (from number : ℕ) (tx : TxId) (epoch life : ℕ)
         (want : Want)
