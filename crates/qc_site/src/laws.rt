@@ -245,9 +245,8 @@ pub fn installs_are_answered_by_rows()
         → start.epoch ≤ s.epoch → site_on decl s from number (messages.Install start)
         ≡ moved (passed s (messages.Install start)) (answers from number Installed) }
     ensures long { (decl : Declaration) (s : SiteState) (from number : ℕ) (start : EpochStart)
-        → s.epoch < start.epoch → most_record_bytes < epoch_length start.lines
-        → site_on decl s from number (messages.Install start)
-        ≡ moved (passed s (messages.Install start)) (answers from number (Behind s.epoch)) }
+        → s.epoch < start.epoch → most_record_bytes < epoch_length start.lines → site_on decl s from number
+        (messages.Install start) ≡ moved (passed s (messages.Install start)) (answers from number (Behind s.epoch)) }
     ensures begins { (decl : Declaration) (s : SiteState) (from number : ℕ) (start : EpochStart)
         → s.epoch < start.epoch → epoch_length start.lines ≤ most_record_bytes
         → site_on decl s from number (messages.Install start)
