@@ -77,7 +77,7 @@ module _ (sites clients : ℕ) (types : TypesOf) (objects : ObjectsOf) (plans : 
       let sound : IsSound kind.table = subst (λ (k : Kind). IsSound k.table) p.is kept.table in
       record {
         sound = sound;
-        inductive_lists_make_relations_exact = inductive_lists_make_relations_exact kind p.type.triples
+        exact = inductive_lists_make_relations_exact kind p.type.triples
             (no_fault_is_inductive kind p.type.triples sound none);
       }
 
