@@ -17,6 +17,7 @@ use Rattle.qc_msg.specs.declared.payload.Grant.{Grant}
 use Rattle.qc_msg.specs.declared.payload.Snapshot.{Snapshot}
 use Rattle.qc_msg.specs.Vocabulary.{Answered, Requested}
 use Rattle.qc_msg.specs.declared.message.Envelope.{Envelope}
+use Rattle.qc_msg.specs.declared.message.Answer.TheVariants as answers
 use Rattle.qc_msg.specs.declared.message.Message.{Message}
 use Rattle.qc_msg.specs.declared.message.Message.TheVariants as messages
 use Rattle.qc_msg.specs.declared.message.Outcome.{Outcome}
