@@ -24,7 +24,7 @@ from falling import moves
 from modules import COLUMNS, IMPORTS, filled, imported, module, told, variants, words_of
 from runs import low, module as scripts_module
 from spelling import kind, record as spelled_record, step as spelled_step
-from wrong_falls import EACH, NEVER, PARTS
+from wrong_falls import NEVER, PARTS
 
 CRATE = os.path.join(os.path.dirname(os.path.abspath(__file__)), "..", "..", "crates", "tests_falls")
 GROUP = 10
@@ -211,9 +211,8 @@ def make_wrong(stories):
         never = NEVER
         if name in PARTS:
             never = "let same : ◌≡◌ {A = ℕ} %d %d = ap %s e in %s" % (*PARTS[name][1:], PARTS[name][0], NEVER)
-        others = never if name in EACH else NEVER
         proof = "refused three %d %s.%s %s.%s_then refl (λ e. %s) (λ e. %s) (λ e. %s)" % (
-            actor, word, name, word, name, never, others, others)
+            actor, word, name, word, name, never, NEVER, NEVER)
         lemmas += "\npub %s_refused : %s\n" % (name, said)
         lemmas += "%s_refused = %s\n" % (name, proof) if what == "posts" else "".join(
             "%s_refused (%s e) = %s\n" % (name, side, NEVER) for side in ("inl", "inr"))

@@ -9,8 +9,6 @@ from spelling import kind
 NEVER = "let never : ⊥ = cc in never"
 # by what a due post and a wrong one are told apart where all their constructors are the same: due, wrong
 PARTS = {"old_life": ("life_granted", 2, 1), "old_name": ("life_begun", 2, 1), "stamp_again": ("clock_written", 2, 1)}
-# those whose post has no record, so that it is told so whatever becomes of one
-EACH = ("old_life",)
 RESTARTED = "link c0 s1 1 again|phase|c0 begin|c0 do x W1|phase|crash s1|restart s1|c0 commit"
 UNKNOWN = "phase|stop c0 at 3|c0 begin|c0 do x W1|c0 commit|phase|restart c0|c0 begin|c1 begin|c1 do x R"
 DOWN = "phase|stop c0 at 3|c0 begin|c0 do x W1|c0 commit|phase|c0 begin"

@@ -10,8 +10,7 @@ pub old_life_refused : IsNoPost three 1 wrong_sites.old_life wrong_sites.old_lif
 old_life_refused =
     refused three 1 wrong_sites.old_life wrong_sites.old_life_then refl
     (λ e. let same : ◌≡◌ {A = ℕ} 2 1 = ap life_granted e in let never : ⊥ = cc in never)
-    (λ e. let same : ◌≡◌ {A = ℕ} 2 1 = ap life_granted e in let never : ⊥ = cc in never)
-    (λ e. let same : ◌≡◌ {A = ℕ} 2 1 = ap life_granted e in let never : ⊥ = cc in never)
+    (λ e. let never : ⊥ = cc in never) (λ e. let never : ⊥ = cc in never)
 
 pub old_grant_refused : IsNoPost three 1 wrong_sites.old_grant wrong_sites.old_grant_then
 old_grant_refused =
