@@ -13,7 +13,7 @@ use Rattle.qc_msg.specs.declared.message.Message.TheVariants as messages
 use Rattle.qc_msg.specs.declared.message.Want.{Want}
 use Rattle.qc_msg.specs.declared.message.Want.TheVariants.{Read, Append, Prepare}
 use Rattle.qc_msg.specs.declared.step.Input.TheVariants as inputs
-use Rattle.qc_msg.specs.Vocabulary.{Deed, Sends, Takes, has_granted}
+use Rattle.qc_msg.specs.Vocabulary.{Deed, Sends, Takes, grant_with, has_granted}
 use Rattle.qc_promise.specs.Vocabulary.{Account, ClientRequest, Current, counted, counted_for, granted, is_open, lived}
 use Rattle.qc_promise.specs.Vocabulary.{promised, taken_for, told_by, with_read}
 use Rattle.laws_guarantees.proofs.Accounts.{HasGrounds, IsGrant, IsSameBut, WasGranted, WasSent, WasTaken, after_taken}
@@ -155,6 +155,6 @@ counted_grounds ds x d number answer takes k = by (find (is_open number) d.reque
                     life = g.life;
                     clock = g.clock;
                     log = g.log;
-                    taken = now_taken (answers.Granted g) g.is;
+                    taken = now_taken (answers.Granted (grant_with g.life g.clock g.log)) g.is;
                   })
             ])
