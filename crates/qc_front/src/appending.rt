@@ -30,15 +30,15 @@ impl Front {
         draft: Draft,
         inv: u8,
         event: u8,
-        open: OpenRound,
+        open_round: OpenRound,
     ) -> Result<Next, OutOfMemory>
         requires room { length draft.begun.ops < most_transaction_operations }
         requires draft { IsDraft (views_of self.now.transaction) draft }
         ensures { IfOk result (λ next. appends decl.now self.now (drafted (views_of self.now.transaction) draft)
-            draft.object inv event open.calls open.round ≡ becomes self.now next) }
+            draft.object inv event open_round.calls open_round.round ≡ becomes self.now next) }
     {
-        match open.round.verdict() {
-            Verdict::Waiting => ask_to_append(alloc, decl, draft, inv, event, open),
+        match open_round.round.verdict() {
+            Verdict::Waiting => ask_to_append(alloc, decl, draft, inv, event, open_round),
             Verdict::Met => self.respond(alloc, decl, draft, inv, event),
             Verdict::Closed { epoch, site } => {
                 Ok(Next::dooming(alloc, draft, Reply::Closed { epoch, site }))
@@ -80,13 +80,13 @@ fn ask_to_append(
     mut draft: Draft,
     inv: u8,
     event: u8,
-    open: OpenRound,
+    open_round: OpenRound,
 ) -> Result<Next, OutOfMemory>
     requires { length draft.begun.ops < most_transaction_operations }
-    ensures { IfOk result (λ next. next ≡ asking draft (Doing.Appending draft.object inv event open.calls)
-        (append_want_of decl.now draft event) open.round) }
+    ensures { IfOk result (λ next. next ≡ asking draft (Doing.Appending draft.object inv event open_round.calls)
+        (append_want_of decl.now draft event) open_round.round) }
 {
-    let OpenRound { calls, mut round } = open;
+    let OpenRound { calls, mut round } = open_round;
     let object = draft.object;
     let want = draft.append_want(alloc, decl, event)?;
     let turn = draft.ask(alloc, &want, &mut round)?;

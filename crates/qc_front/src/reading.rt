@@ -79,16 +79,16 @@ impl Front {
         decl: &Declaration,
         draft: Draft,
         inv: u8,
-        open: OpenRound,
+        open_round: OpenRound,
     ) -> Result<Next, OutOfMemory>
         requires accepted { IsAccepted decl.now }
         requires room { length draft.begun.ops < most_transaction_operations }
         requires draft { IsDraft (views_of self.now.transaction) draft }
         ensures { IfOk result (λ next. reads decl.now self.now (drafted (views_of self.now.transaction) draft)
-            draft.object inv open.calls open.round ≡ becomes self.now next) }
+            draft.object inv open_round.calls open_round.round ≡ becomes self.now next) }
     {
-        match open.round.verdict() {
-            Verdict::Waiting => ask_to_read(alloc, draft, inv, open),
+        match open_round.round.verdict() {
+            Verdict::Waiting => ask_to_read(alloc, draft, inv, open_round),
             Verdict::Met => self.answer_by_view(alloc, decl, draft, inv),
             Verdict::Closed { epoch, site } => {
                 Ok(Next::telling(alloc, draft, Reply::Closed { epoch, site }))
@@ -133,12 +133,12 @@ fn ask_to_read(
     alloc: Global,
     mut draft: Draft,
     inv: u8,
-    open: OpenRound,
+    open_round: OpenRound,
 ) -> Result<Next, OutOfMemory>
-    ensures { IfOk result (λ next. next ≡ asking draft (Doing.Reading draft.object inv open.calls)
-        (read_want draft.object inv) open.round) }
+    ensures { IfOk result (λ next. next ≡ asking draft (Doing.Reading draft.object inv open_round.calls)
+        (read_want draft.object inv) open_round.round) }
 {
-    let OpenRound { calls, mut round } = open;
+    let OpenRound { calls, mut round } = open_round;
     let object = draft.object;
     let want = Want::Read(ReadRequest { object, inv });
     let turn = draft.ask(alloc, &want, &mut round)?;

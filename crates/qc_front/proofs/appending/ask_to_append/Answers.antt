@@ -12,11 +12,11 @@ use Rattle.qc_front.proofs.appending.ask_to_append.Goals as goal
 
 pub returns : goal.returns
 returns c =
-    let sites : List ℕ = wanted c.args.open.round in
+    let sites : List ℕ = wanted c.args.open_round.round in
     let asks : Want → Turn = λ want. sending (map (request_of c.args.draft.begun (λ site. want)) sites) in
     let made : Draft → RoundState → Turn → Next = λ draft round turn. record {
       draft = draft;
-      doing = Appending c.args.draft.object c.args.inv c.args.event c.args.open.calls round;
+      doing = Appending c.args.draft.object c.args.inv c.args.event c.args.open_round.calls round;
       turn = turn;
     } in
     let same : asks c.in_ok-want.want ≡ asks (append_want_of c.args.decl.now c.args.draft c.args.event 0) =
@@ -24,4 +24,4 @@ returns c =
     ap (λ (draft : Draft). made draft c.ask.new.round c.in_ok-turn.turn) c.in_ok-turn.ensures.draft
     ∙ ap (λ (round : RoundState). made (asked_draft c.args.draft sites) round c.in_ok-turn.turn)
     c.in_ok-turn.ensures.round
-    ∙ ap (made (asked_draft c.args.draft sites) (asking_all c.args.open.round sites)) (c.in_ok-turn.ensures.turn ∙ same)
+    ∙ ap (made (asked_draft c.args.draft sites) (asking_all c.args.open_round.round sites)) (c.in_ok-turn.ensures.turn ∙ same)
