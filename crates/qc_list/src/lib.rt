@@ -11,10 +11,12 @@
 
 mod list;
 mod marked;
+mod page;
 mod text;
 
 pub use list::List;
 pub use marked::Marked;
+pub use page::Page;
 use std::alloc::AllocError;
 pub use text::{Name, Path};
 

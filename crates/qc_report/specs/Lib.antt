@@ -1,6 +1,5 @@
 pub mod Causes
 pub mod Declarations
 pub mod Names
-pub mod Pieces
 pub mod Scripts
 pub mod Vocabulary

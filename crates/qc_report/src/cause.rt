@@ -5,11 +5,10 @@ ghost use Rattle.qc_report.specs.Causes.{status_of, status_of_rack, status_of_sh
 ghost use Rattle.qc_report.specs.Causes.{disk_text, file_text, rack_text, what_text};
 
 use crate::declaration::{put_refused, refused_status};
-use crate::page::Page;
 use crate::script::{put_script, script_status};
 use itoa::Buffer;
 use qc_accept::DeclFault;
-use qc_list::OutOfMemory;
+use qc_list::{OutOfMemory, Page};
 use qc_msg::Quantity;
 use qc_outside::{RackFault, ShelfFault};
 use qc_script::ScriptFault;

@@ -8,12 +8,11 @@ ghost use Rattle.qc_report.specs.Declarations.{type_text, row_text, triple_text,
 ghost use Rattle.qc_report.specs.Declarations.{epoch_text, can_miss_text};
 
 use crate::names::name_at;
-use crate::page::Page;
 use itoa::Buffer;
 use qc_accept::DeclFault;
 use qc_cert::CertFault;
 use qc_decl::{Declaration, Names};
-use qc_list::OutOfMemory;
+use qc_list::{OutOfMemory, Page};
 use qc_plan::PlanFault;
 use qc_table::TableFault;
 use std::alloc::Global;

@@ -10,7 +10,6 @@
 mod cause;
 mod declaration;
 mod names;
-mod page;
 mod script;
 
 pub use cause::{Cause, cause_text};

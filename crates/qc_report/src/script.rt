@@ -3,9 +3,8 @@
 ghost use Rattle.std.specs.Prelude.{◌≡◌, ◌++◌, OnOk};
 ghost use Rattle.qc_report.specs.Scripts.{status_of_script, script_text, line_text, kind_text};
 
-use crate::page::Page;
 use itoa::Buffer;
-use qc_list::OutOfMemory;
+use qc_list::{OutOfMemory, Page};
 use qc_script::{LineKind, ScriptFault};
 
 /// The status for a script that isn't read: 3, or 8 where memory was wanting.

@@ -1,8 +1,8 @@
 -- Parts of a line, and lines of several parts.
 use Rattle.std.specs.Prelude.{ℕ, List, [], ◌∷◌, ◌++◌, decimal}
 use Rattle.qc_text.specs.Parts.{site_text, stamp_text, transaction_text}
-use Rattle.qc_text.specs.declared.page.Piece.{Piece}
-use Rattle.qc_text.specs.declared.page.Piece.TheVariants.{Words, Number, Site, Transaction, Stamp}
+use Rattle.qc_text.specs.declared.piece.Piece.{Piece}
+use Rattle.qc_text.specs.declared.piece.Piece.TheVariants.{Words, Number, Site, Transaction, Stamp}
 
 abbrev pub piece_text : Piece → List ℕ
 piece_text (Words words) = words.now
@@ -12,7 +12,7 @@ piece_text (Transaction tx) = transaction_text tx
 piece_text (Stamp stamp) = stamp_text stamp
 
 -- the pieces, one after another
-abbrev pub joined : List Piece → List ℕ
-joined [] = []
-joined (piece ∷ []) = piece_text piece
-joined (piece ∷ next ∷ pieces) = piece_text piece ++ joined (next ∷ pieces)
+abbrev pub pieces_text : List Piece → List ℕ
+pieces_text [] = []
+pieces_text (piece ∷ []) = piece_text piece
+pieces_text (piece ∷ next ∷ pieces) = piece_text piece ++ pieces_text (next ∷ pieces)

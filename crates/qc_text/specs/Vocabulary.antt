@@ -8,7 +8,7 @@ pub use Rattle.qc_text.specs.Keys.{commit_of}
 pub use Rattle.qc_text.specs.Lifetimes.{epoch_in, held_in, life_in, lines_in, present}
 pub use Rattle.qc_text.specs.Log.{commit_line, log_text, op_text, ops_text}
 pub use Rattle.qc_text.specs.Parts.{member_text}
-pub use Rattle.qc_text.specs.Pieces.{joined, piece_text}
+pub use Rattle.qc_text.specs.Pieces.{pieces_text, piece_text}
 pub use Rattle.qc_text.specs.Prepares.{AreLast}
 pub use Rattle.qc_text.specs.Promises.{promised_at}
 pub use Rattle.qc_text.specs.Records.{epoch_at, life_at}

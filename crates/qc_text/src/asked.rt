@@ -4,9 +4,9 @@ ghost use Rattle.std.specs.Prelude.{◌≡◌, ◌++◌, OnOk, IfOk};
 ghost use Rattle.qc_text.specs.Asked.{command_text, commands_of};
 
 use crate::names::{invocation_name, object_name};
-use crate::page::{Page, Piece};
+use crate::piece::{Piece, put_all};
 use qc_decl::Declaration;
-use qc_list::OutOfMemory;
+use qc_list::{OutOfMemory, Page};
 use qc_msg::Command;
 use qc_script::{CommandLine, Script};
 use std::alloc::Global;
@@ -32,7 +32,7 @@ pub(crate) fn put_command(
 {
     match command {
         Command::Begin => page.put("begin"),
-        Command::Do { object, inv } => page.put_all(&[
+        Command::Do { object, inv } => put_all(page, &[
             Piece::Words(object_name(decl, object as usize)),
             Piece::Words(" "),
             Piece::Words(invocation_name(decl, object as usize, inv)),
@@ -40,7 +40,7 @@ pub(crate) fn put_command(
         Command::Commit => page.put("commit"),
         Command::Abort => page.put("abort"),
         Command::Epoch { number } => {
-            page.put_all(&[Piece::Words("epoch "), Piece::Number(number as u64)])
+            put_all(page, &[Piece::Words("epoch "), Piece::Number(number as u64)])
         }
     }
 }

@@ -7,10 +7,10 @@ ghost use Rattle.qc_text.specs.Summary.{tells_aborted};
 
 use crate::committed::committed;
 use crate::names::{invocation_name, response_name};
-use crate::page::{Page, Piece};
+use crate::piece::{Piece, put_all};
 use qc_decl::Declaration;
 use qc_entry::{Commit, Op};
-use qc_list::OutOfMemory;
+use qc_list::{OutOfMemory, Page};
 use qc_msg::{Entry, History, Reply, Step};
 use qc_stamp::Stamp;
 use std::alloc::Global;
@@ -56,7 +56,7 @@ fn put_operations(page: &mut Page, decl: &Declaration, ops: &[Op]) -> Result<(),
 fn put_load(page: &mut Page, count: u32, seed: u32) -> Result<(), OutOfMemory>
     ensures { OnOk result (page.new ≡ page.old ++ load_line count seed) }
 {
-    page.put_all(&[
+    put_all(page, &[
         Piece::Words("load "),
         Piece::Number(count as u64),
         Piece::Words(" "),
@@ -69,7 +69,7 @@ fn put_load(page: &mut Page, count: u32, seed: u32) -> Result<(), OutOfMemory>
 fn put_number(page: &mut Page, word: &str, number: usize) -> Result<(), OutOfMemory>
     ensures { OnOk result (page.new ≡ page.old ++ number_line word.now number) }
 {
-    page.put_all(&[
+    put_all(page, &[
         Piece::Words(word),
         Piece::Number(number as u64),
         Piece::Words("\n"),
@@ -178,7 +178,7 @@ fn put_last(page: &mut Page, greatest: Option<Stamp>) -> Result<(), OutOfMemory>
     ensures { OnOk result (page.new ≡ page.old ++ last_line greatest) }
 {
     match greatest {
-        Some(stamp) => page.put_all(&[
+        Some(stamp) => put_all(page, &[
             Piece::Words("last "),
             Piece::Stamp(stamp),
             Piece::Words("\n"),

@@ -4,10 +4,10 @@ ghost use Rattle.std.specs.Prelude.{◌≡◌, ◌++◌, OnOk, codes};
 ghost use Rattle.qc_text.specs.Log.{outcome_text, op_text, ops_text, commit_line, log_text};
 
 use crate::names::{invocation_name, object_name, response_name};
-use crate::page::{Page, Piece};
+use crate::piece::{Piece, put_all};
 use qc_decl::Declaration;
 use qc_entry::{Commit, Op};
-use qc_list::OutOfMemory;
+use qc_list::{OutOfMemory, Page};
 
 /// Adds the section of the log.
 pub(crate) fn put_log(
@@ -28,7 +28,7 @@ pub(crate) fn put_log(
 fn put_commit(page: &mut Page, decl: &Declaration, commit: &Commit) -> Result<(), OutOfMemory>
     ensures { OnOk result (page.new ≡ page.old ++ commit_line decl.now commit.now) }
 {
-    page.put_all(&[
+    put_all(page, &[
         Piece::Stamp(commit.stamp),
         Piece::Words(" "),
         Piece::Transaction(commit.tx),
@@ -59,7 +59,7 @@ fn put_op<'a>(
 ) -> Result<(), OutOfMemory>
     ensures { OnOk result (page.new ≡ page.old ++ op_text decl.now before.now op.now) }
 {
-    page.put_all(&[
+    put_all(page, &[
         Piece::Words(before),
         Piece::Words(object_name(decl, op.object as usize)),
         Piece::Words(" "),

@@ -7,19 +7,19 @@ ghost use Rattle.qc_decl.specs.Limits.{most_sites};
 ghost use Rattle.qc_table.specs.Sets.{has};
 ghost use Rattle.qc_text.specs.Parts.{actor_text, has_any, member_text, set_text};
 
-use crate::page::{Page, Piece};
+use crate::piece::{Piece, put_all};
 use qc_decl::{Declaration, MOST_SITES};
-use qc_list::OutOfMemory;
+use qc_list::{OutOfMemory, Page};
 
 /// Adds an actor, as `s0`, `c0` or `admin`.
 pub(crate) fn put_actor(page: &mut Page, decl: &Declaration, actor: u8) -> Result<(), OutOfMemory>
     ensures { OnOk result (page.new ≡ page.old ++ actor_text decl.now actor) }
 {
     if actor < decl.sites {
-        page.put_all(&[Piece::Site(actor)])
+        put_all(page, &[Piece::Site(actor)])
     } else if is_client(decl, actor) {
         let client = actor - decl.sites;
-        page.put_all(&[Piece::Words("c"), Piece::Number(client as u64)])
+        put_all(page, &[Piece::Words("c"), Piece::Number(client as u64)])
     } else {
         page.put("admin")
     }
@@ -72,7 +72,7 @@ fn put_member(page: &mut Page, set: u16, site: u8) -> Result<(), OutOfMemory>
     ensures { OnOk result (page.new ≡ page.old ++ member_text set site) }
 {
     if has(set, site) {
-        page.put_all(&[Piece::Words(" "), Piece::Site(site)])?;
+        put_all(page, &[Piece::Words(" "), Piece::Site(site)])?;
     }
     Ok(())
 }

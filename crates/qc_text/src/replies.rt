@@ -4,12 +4,11 @@ ghost use Rattle.std.specs.Prelude.{◌≡◌, ◌++◌, [], ℕ, ◌<◌, OnOk,
 ghost use Rattle.qc_text.specs.Replies.{reply_line, reply_lines, replies_text, told_of};
 
 use crate::asked::{commands_of, put_command};
-use crate::page::Page;
 use crate::parts::put_actor;
 use crate::queues::{Queue, queues_of, take_reply};
 use crate::results::put_reply;
 use qc_decl::Declaration;
-use qc_list::OutOfMemory;
+use qc_list::{OutOfMemory, Page};
 use qc_msg::{Entry, Reply};
 use qc_script::{CommandLine, Script};
 use std::alloc::Global;

@@ -5,12 +5,11 @@ ghost use Rattle.qc_text.specs.Text.{text_of};
 
 use crate::committed::committed;
 use crate::log::put_log;
-use crate::page::Page;
 use crate::replies::put_replies;
 use crate::sites::put_sites;
 use crate::states::put_states;
 use qc_decl::Declaration;
-use qc_list::OutOfMemory;
+use qc_list::{OutOfMemory, Page};
 use qc_msg::History;
 use qc_script::Script;
 use std::alloc::Global;

@@ -7,10 +7,10 @@ ghost use Rattle.qc_text.specs.Results.{closed_text, half_text, moved_text, quor
 ghost use Rattle.qc_text.specs.Results.{restarted_text, why_text};
 
 use crate::names::response_name;
-use crate::page::{Page, Piece};
+use crate::piece::{Piece, put_all};
 use crate::parts::put_set;
 use qc_decl::Declaration;
-use qc_list::OutOfMemory;
+use qc_list::{OutOfMemory, Page};
 use qc_msg::{AbortCause, Command, Half, Reply};
 
 /// Adds the result of a command.
@@ -49,7 +49,7 @@ pub(crate) fn put_reply(
 fn put_with<'a>(page: &mut Page, words: &'a str, piece: Piece<'a>) -> Result<(), OutOfMemory>
     ensures { OnOk result (page.new ≡ page.old ++ (words.now ++ piece_text piece.entry)) }
 {
-    page.put_all(&[Piece::Words(words), piece])
+    put_all(page, &[Piece::Words(words), piece])
 }
 
 /// Adds words, a piece and a site.
@@ -62,7 +62,7 @@ fn put_at<'a>(
     ensures { OnOk result (page.new
         ≡ page.old ++ (words.now ++ (piece_text piece.entry ++ (codes " " ++ site_text site)))) }
 {
-    page.put_all(&[
+    put_all(page, &[
         Piece::Words(words),
         piece,
         Piece::Words(" "),
@@ -81,7 +81,7 @@ fn put_closed(page: &mut Page, epoch: u8, site: u8) -> Result<(), OutOfMemory>
 fn put_quorum(page: &mut Page, half: Half, got: u16, need: u16) -> Result<(), OutOfMemory>
     ensures { OnOk result (page.new ≡ page.old ++ quorum_text half got need) }
 {
-    page.put_all(&[
+    put_all(page, &[
         Piece::Words("! quorum "),
         Piece::Words(half_text(half)),
         Piece::Words(" "),
@@ -130,7 +130,7 @@ fn put_why(page: &mut Page, why: AbortCause) -> Result<(), OutOfMemory>
 fn put_restarted(page: &mut Page, site: u8, old: u32, new: u32) -> Result<(), OutOfMemory>
     ensures { OnOk result (page.new ≡ page.old ++ restarted_text site old new) }
 {
-    page.put_all(&[
+    put_all(page, &[
         Piece::Words("! restarted "),
         Piece::Site(site),
         Piece::Words(" "),

@@ -8,10 +8,10 @@ use crate::deeds::{Deed, deeds_of};
 use crate::grants::count_holders;
 use crate::lifetimes::lifetime_of;
 use crate::lines::log_of;
-use crate::page::{Page, Piece};
+use crate::piece::{Piece, put_all};
 use crate::records::{epoch_of, life_of};
 use qc_decl::Declaration;
-use qc_list::OutOfMemory;
+use qc_list::{OutOfMemory, Page};
 use qc_msg::{Entry, Step};
 use std::alloc::Global;
 
@@ -40,7 +40,7 @@ fn put_site(
 ) -> Result<(), OutOfMemory>
     ensures { OnOk result (page.new ≡ page.old ++ site_line entries.now number) }
 {
-    page.put_all(&[Piece::Site(number)])?;
+    put_all(page, &[Piece::Site(number)])?;
     if is_down(entries, number) {
         return page.put(" down\n");
     }
@@ -101,7 +101,7 @@ fn put_shown(page: &mut Page, alloc: Global, deeds: &[Deed<'_>]) -> Result<(), O
     let current = lifetime_of(deeds);
     let log = log_of(alloc, &current)?;
     let held = count_holders(alloc, &current)?;
-    page.put_all(&[
+    put_all(page, &[
         Piece::Words(" life "),
         Piece::Number(life_of(&current)),
         Piece::Words(" epoch "),

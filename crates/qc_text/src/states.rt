@@ -4,9 +4,9 @@ ghost use Rattle.std.specs.Prelude.{◌≡◌, ◌++◌, OnOk, option_map};
 ghost use Rattle.qc_text.specs.States.{state_text, state_line, states_text};
 
 use crate::names::{object_name, state_name};
-use crate::page::{Page, Piece};
+use crate::piece::{Piece, put_all};
 use qc_decl::Declaration;
-use qc_list::OutOfMemory;
+use qc_list::{OutOfMemory, Page};
 
 /// Adds the section of states, which are `None` where a step was missing.
 pub(crate) fn put_states(
@@ -32,7 +32,7 @@ fn put_state(
 ) -> Result<(), OutOfMemory>
     ensures { OnOk result (page.new ≡ page.old ++ state_line decl.now (option_map (λ v. v.items) states.now) object) }
 {
-    page.put_all(&[
+    put_all(page, &[
         Piece::Words(object_name(decl, object)),
         Piece::Words(" "),
         Piece::Words(state_text(decl, states, object)),

@@ -1,16 +1,16 @@
 //! A text that grows at its end.
 
 ghost use Rattle.std.specs.Prelude.{◌≡◌, [], ◌++◌, OnOk};
-ghost use Rattle.qc_report.specs.Pieces.{joined};
+ghost use Rattle.qc_list.specs.Pages.{joined};
 
-use qc_list::OutOfMemory;
+use crate::OutOfMemory;
 use std::alloc::Global;
 use std::marker::Model;
 
 /// A text, seen as its bytes. After want of memory a part of what was to be
 /// added may stand in it.
 #[derive(Drop)]
-pub(crate) struct Page {
+pub struct Page {
     bytes: Vec<u8>,
 }
 
@@ -24,7 +24,7 @@ impl Model for Page {
 
 impl Page {
     /// The empty text.
-    pub(crate) fn new(alloc: Global) -> Page
+    pub fn new(alloc: Global) -> Page
         ensures { result ≡ [] }
     {
         Page {
@@ -33,14 +33,14 @@ impl Page {
     }
 
     /// Adds a piece.
-    pub(crate) fn put(&mut self, piece: &str) -> Result<(), OutOfMemory>
+    pub fn put(&mut self, piece: &str) -> Result<(), OutOfMemory>
         ensures { OnOk result (self.new ≡ self.old ++ piece.now) }
     {
         self.bytes.extend_from_slice(piece.as_bytes())
     }
 
     /// Adds pieces, one after another.
-    pub(crate) fn put_all(&mut self, pieces: &[&str]) -> Result<(), OutOfMemory>
+    pub fn put_all(&mut self, pieces: &[&str]) -> Result<(), OutOfMemory>
         ensures { OnOk result (self.new ≡ self.old ++ joined pieces.now) }
     {
         'pieces: for piece in pieces {
@@ -50,7 +50,7 @@ impl Page {
     }
 
     /// The bytes.
-    pub(crate) fn into_bytes(self) -> Vec<u8>
+    pub fn into_bytes(self) -> Vec<u8>
         ensures { result.items ≡ self }
     {
         let Page { bytes } = self;

@@ -1,6 +1,0 @@
-use Rattle.std.proofs.Common.{◌≡◌, ◌++◌, drop}
-use Rattle.qc_text.specs.Vocabulary.{joined}
-use Rattle.qc_text.proofs.page.Page.put_all.Given as goal
-
-abbrev pub invariant-pieces : goal.invariant-pieces
-invariant-pieces l = l.self ++ joined (drop l.piece-index l.pieces) ≡ l.initial.self ++ joined l.pieces
