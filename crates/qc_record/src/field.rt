@@ -68,7 +68,7 @@ pub(crate) fn climb<'a>(
 ) -> Result<(u64, &'a [u8]), Halt>
     requires narrow { 1 ≤ width }
     requires wide { width ≤ 8 }
-    ensures given { Gives (λ x. (x.0, x.1.now)) result (number_at width (clears low high floor) bytes.now) }
+    ensures given { Gives (λ x. (x.0, x.1.now)) result (number_at width (clears low high floor.entry) bytes.now) }
     ensures range { IfOk result (λ x. x.0 ≤ high) }
 {
     if bytes.len() < width {
@@ -84,7 +84,7 @@ pub(crate) fn climb<'a>(
 
 /// Whether a floor lets a number through.
 fn lets_through(floor: Floor<'_>, number: u64) -> bool
-    ensures { result ≡ lets_through floor number }
+    ensures { result ≡ lets_through floor.entry number }
 {
     match floor {
         Floor::AtLeast([first, ..]) => *first <= number,
