@@ -119,7 +119,7 @@ module _ (decl : Declaration) (script : Script) (calm : IsUndisturbed script) wh
       given_it (inputs.Called command) is = tt
       given_it (inputs.Got e) is = tt
       given_it (inputs.Lost n) is =
-          let r : Arrives script b older = no_request_is_lost decl script older before calm run b in
+          let r : Arrives script b older = no_request_is_lost decl script older before calm.lossless run b in
           let none : (inbox script b older).lost ≡ [] = r.calm.lost in
           let lost : (inbox script b older).lost ≡ n ∷ drop 1 (inbox script b older).lost =
           ready_loss decl b (inbox script b older) n (rdy ∙ ap (λ (x : Input). Some x) is) in
