@@ -1,7 +1,6 @@
 -- A client's turn costs no more than its input pays and what its running command still has.
 use Rattle.std.proofs.Common.{◌≡◌, ℕ, ◌+◌, ◌%◌, ◌<◌, ◌≤◌, ◌==◌, Bool, true, false, cond, List, [], map, length, Option, Some, None, refl, sym, ap, ◌∙◌, subst, arith}
-use Rattle.qc_decl.specs.Vocabulary.{IsAccepted}
-use Rattle.qc_decl.specs.Vocabulary.{first_site}
+use Rattle.qc_decl.specs.Vocabulary.{IsAccepted, first_site}
 use Rattle.qc_decl.specs.declared.declaration.Declaration.{Declaration}
 use Rattle.qc_msg.specs.declared.begun.Begun.{Begun}
 use Rattle.qc_msg.specs.declared.message.Answer.{Answer}
@@ -15,29 +14,28 @@ use Rattle.qc_msg.specs.declared.step.Command.{Command}
 use Rattle.qc_msg.specs.declared.step.Command.TheVariants as commands
 use Rattle.qc_msg.specs.declared.step.Input.{Input}
 use Rattle.qc_msg.specs.declared.step.Input.TheVariants as inputs
-use Rattle.qc_msg.specs.Vocabulary.{decisions, has_granted, life_of}
+use Rattle.qc_msg.specs.Vocabulary.{answered as answered_ops, decisions, has_granted, life_of, quiet, sending}
 use Rattle.qc_msg.specs.Vocabulary.{site_called, without_call}
-use Rattle.qc_msg.specs.Vocabulary.{answered as answered_ops}
-use Rattle.qc_msg.specs.Vocabulary.{quiet, sending}
 use Rattle.qc_plan.specs.Vocabulary.{cyclic}
 use Rattle.qc_commit.specs.declared.ballot.Ballot.{Ballot}
 use Rattle.qc_commit.specs.declared.desk.Desk.{Desk}
 use Rattle.qc_commit.specs.declared.desk.Voting.{Voting}
-use Rattle.qc_commit.specs.Vocabulary.{DeskMove, moved as desk_moved}
 use Rattle.qc_commit.specs.Conduct as desks
-use Rattle.qc_commit.specs.Vocabulary.{are_cast, blank, cast, first_against, participants, prepares, vote_of}
+use Rattle.qc_commit.specs.Vocabulary.{DeskMove, are_cast, blank, cast, first_against, moved as desk_moved}
+use Rattle.qc_commit.specs.Vocabulary.{participants, prepares, vote_of}
 use Rattle.qc_front.specs.declared.doing.Doing.{Doing}
 use Rattle.qc_front.specs.declared.doing.Doing.TheVariants.{Idle, Reading, Appending}
 use Rattle.qc_front.specs.declared.front.Front.{Front}
 use Rattle.qc_front.specs.declared.transaction.Transaction.{Transaction}
 use Rattle.qc_front.specs.Conduct as fronts
 use Rattle.qc_client.specs.declared.client.Client.{Client}
-use Rattle.qc_client.specs.Vocabulary.{ClientMove, by_desk, by_front, moved, outcome_of}
-use Rattle.qc_client.specs.Vocabulary.{answered, answered_by, called, client_takes, commits, heard, sent, sent_by}
+use Rattle.qc_client.specs.Vocabulary.{ClientMove, answered, answered_by, by_desk, by_front, called, client_takes}
+use Rattle.qc_client.specs.Vocabulary.{commits, heard, moved, outcome_of, sent, sent_by}
 use Rattle.qc_core.proofs.ClientReaches.{AskedFit, asked_voting}
 use Rattle.qc_core.proofs.FewSites.{AreSites}
 use Rattle.qc_core.proofs.FrontReaches.{asked_in}
 use Rattle.qc_core.proofs.RoundSites.{cyclic_length, length_filter}
+use Rattle.laws_turns.proofs.ClientCases.{called_cases, heard_cases}
 use Rattle.laws_room.proofs.Totals.{times, times-le}
 use Rattle.laws_room.proofs.Prices.{Prices, AreFair, budget, full, pays, pays_input, sends_cost, turn_cost}
 use Rattle.laws_room.proofs.Fronts.{called_fits, front_left, map_cost, operations_in, doing_left, takes_costs, verdicts_cost}
@@ -195,19 +193,18 @@ module _ (decl : Declaration) (accepted : IsAccepted decl) (p : Prices) (fair : 
           subst (λ (m : DeskMove). Fits c g (by_desk c m)) (ap (λ (o : Option Voting). desks.votes_in c.desk o number answer) (sym is))
           (vote_fits c g v number answer is (subst (λ (o : Option Voting). AreSites decl.sites (asked_voting o)) is are.voting) (site_called v.calls number))
 
-  heard_fits : (c : Client) (from number : ℕ) (m : Message) → (g : Input) → p.credit m ≤ pays p decl.sites g → AskedFit decl.sites c → Fits c g (heard decl c from number m)
-  heard_fits c from number (messages.Request tx epoch life want) g low are = quiet_fits c g
-  heard_fits c from number (messages.Answer to answer) g low are = answered_fits c g to (Some answer) are
-  heard_fits c from number (messages.Decision tx verdict) g low are = quiet_fits c g
-  heard_fits c from number (messages.Inquiry tx) g low are =
-      let cost : full p (messages.Decision tx (outcome_of c tx)) ≤ p.decision = fair.decides tx (outcome_of c tx) in
+  heard_fits : (c : Client) (from number : ℕ) (m : Message) (g : Input) → p.credit m ≤ pays p decl.sites g
+      → AskedFit decl.sites c → Fits c g (heard decl c from number m)
+  heard_fits c from number m g low are =
+      heard_cases decl c from number (λ m move. p.credit m ≤ pays p decl.sites g → Fits c g move)
+      (λ m none low. quiet_fits c g) (λ to answer low. answered_fits c g to (Some answer) are)
+      (λ tx low. (let cost : full p (messages.Decision tx (outcome_of c tx)) ≤ p.decision =
+      fair.decides tx (outcome_of c tx) in
       let paid : p.step + p.decision ≤ p.credit (messages.Inquiry tx) = fair.inquires tx in
-      omega arith
-  heard_fits c from number (messages.Ask tx) g low are =
-      let paid : p.step + full p (messages.Answer number (answers.Answered (outcome_of c tx))) ≤ p.credit (messages.Ask tx) = fair.asks tx number (outcome_of c tx) in
-      omega arith
-  heard_fits c from number (messages.Close epoch) g low are = quiet_fits c g
-  heard_fits c from number (messages.Install epoch clock log) g low are = quiet_fits c g
+      omega arith))
+      (λ tx low. (let paid : p.step + full p (messages.Answer number (answers.Answered (outcome_of c tx)))
+      ≤ p.credit (messages.Ask tx) = fair.asks tx number (outcome_of c tx) in
+      omega arith)) m low
 
   commits_fits : (c : Client) (o : Option Transaction) → c.desk.voting ≡ None → c.front.transaction ≡ o → AskedFit decl.sites c → Fits c (inputs.Called commands.Commit) (commits decl c o)
   commits_fits c None none is are = called_front c commands.Commit none are.front
@@ -217,12 +214,11 @@ module _ (decl : Declaration) (accepted : IsAccepted decl) (p : Prices) (fair : 
       by true = called_front c commands.Commit none are.front
       by false = prepare_fits c t none is (subst (λ (o : Option Transaction). AreSites decl.sites (asked_in o)) is are.front)
 
-  called_fit : (c : Client) (command : Command) → c.desk.voting ≡ None → AskedFit decl.sites c → Fits c (inputs.Called command) (called decl c command)
-  called_fit c commands.Begin none are = called_front c commands.Begin none are.front
-  called_fit c (commands.Do object inv) none are = called_front c (commands.Do object inv) none are.front
-  called_fit c commands.Commit none are = commits_fits c c.front.transaction none refl are
-  called_fit c commands.Abort none are = called_front c commands.Abort none are.front
-  called_fit c (commands.Epoch number) none are = called_front c (commands.Epoch number) none are.front
+  called_fit : (c : Client) (command : Command) → c.desk.voting ≡ None → AskedFit decl.sites c
+      → Fits c (inputs.Called command) (called decl c command)
+  called_fit c command none are =
+      called_cases decl c (λ command move. Fits c (inputs.Called command) move)
+      (λ command. called_front c command none are.front) (commits_fits c c.front.transaction none refl are) command
 
   pub client_fits : (c : Client) (g : Input) → IsFreeFor c g → AskedFit decl.sites c → Fits c g (client_takes decl c g)
   client_fits c (inputs.Called command) none are = called_fit c command none are

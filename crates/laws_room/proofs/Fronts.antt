@@ -1,7 +1,7 @@
 -- A front end's turn costs no more than its input pays and what the running `do` still has: a request of each kind to
 -- each site that it may yet ask.
 use Rattle.std.proofs.Common.{◌≡◌, ℕ, suc, ◌+◌, ◌-◌, ◌≤◌, nat_le, Bool, true, false, cond, List, [], ◌∷◌, ◌++◌, map, length, Option, Some, None, is_some, option_map, refl, ap, ◌∙◌, subst, arith, length-append}
-use Rattle.std.specs.Prelude.{slice_get, drop}
+use Rattle.std.specs.Prelude.{slice_get, drop, option_and_then}
 use Rattle.std.proofs.lemmas.List.Sums.{sum_by_push}
 use Rattle.qc_decl.specs.Vocabulary.{IsAccepted}
 use Rattle.qc_decl.specs.declared.declaration.Declaration.{Declaration}
@@ -11,20 +11,18 @@ use Rattle.qc_entry.specs.declared.line.Op.{Op}
 use Rattle.qc_msg.specs.declared.begun.Begun.{Begun}
 use Rattle.qc_msg.specs.declared.call.Call.{Call}
 use Rattle.qc_msg.specs.declared.message.Answer.{Answer}
-use Rattle.qc_msg.specs.declared.message.Answer.TheVariants as answers
 use Rattle.qc_msg.specs.declared.message.Message.TheVariants as messages
 use Rattle.qc_msg.specs.declared.message.Outcome.{Outcome}
 use Rattle.qc_msg.specs.declared.message.Outcome.TheVariants.{Aborted}
+use Rattle.qc_msg.specs.declared.payload.Grant.{Grant}
 use Rattle.qc_msg.specs.declared.reply.Reply.{Reply}
 use Rattle.qc_msg.specs.declared.reply.Reply.TheVariants as replies
 use Rattle.qc_msg.specs.declared.reply.AbortCause.TheVariants as causes
 use Rattle.qc_msg.specs.declared.step.Command.{Command}
 use Rattle.qc_msg.specs.declared.step.Command.TheVariants as commands
 use Rattle.qc_msg.specs.declared.turn.Posting.{Posting}
-use Rattle.qc_msg.specs.Vocabulary.{decisions, life_of}
-use Rattle.qc_msg.specs.Vocabulary.{site_called, without_call}
-use Rattle.qc_msg.specs.Vocabulary.{answered as answered_ops}
-use Rattle.qc_msg.specs.Vocabulary.{quiet, telling}
+use Rattle.qc_msg.specs.Vocabulary.{answered as answered_ops, decisions, granted_in, life_of, quiet, read_of}
+use Rattle.qc_msg.specs.Vocabulary.{site_called, telling, without_call}
 use Rattle.qc_plan.specs.Vocabulary.{RoundState, asking_all, note, verdict, wanted}
 use Rattle.qc_plan.specs.declared.standing.Verdict.{Verdict}
 use Rattle.qc_plan.specs.declared.standing.Verdict.TheVariants as verdicts
@@ -34,16 +32,16 @@ use Rattle.qc_front.specs.declared.doing.Doing.{Doing}
 use Rattle.qc_front.specs.declared.doing.Doing.TheVariants.{Idle, Reading, Appending}
 use Rattle.qc_front.specs.declared.front.Front.{Front}
 use Rattle.qc_front.specs.declared.transaction.Transaction.{Transaction}
-use Rattle.qc_front.specs.Vocabulary.{answer_of, next_own, op_of, resp_of, view_log, with_event, with_view}
-use Rattle.qc_front.specs.Vocabulary.{append_want, own_appended, read_want, request_of, round_for}
-use Rattle.qc_front.specs.Vocabulary.{appending_takes, called, commits, reading_takes, takes, takes_in}
-use Rattle.qc_front.specs.Vocabulary.{appended_with, learns, lived, read_with, standing_of}
-use Rattle.qc_front.specs.Vocabulary.{FrontMove, aborts, begins, gives_up, moved}
-use Rattle.qc_front.specs.Vocabulary.{answered, append_by, appends, performs, read_by, reads}
+use Rattle.qc_front.specs.Vocabulary.{FrontMove, aborts, answer_of, answered, append_by, append_want, appended_with}
+use Rattle.qc_front.specs.Vocabulary.{appending_takes, appends, begins, called, commits, gives_up, learns, lived, moved}
+use Rattle.qc_front.specs.Vocabulary.{next_own, op_of, own_appended, performs, read_by, read_want, read_with}
+use Rattle.qc_front.specs.Vocabulary.{reading_takes, reads, request_of, resp_of, round_for, standing_of, takes}
+use Rattle.qc_front.specs.Vocabulary.{takes_in, view_log, with_event, with_granted, with_view}
 use Rattle.qc_front.proofs.Awaited.{wanted_is}
 use Rattle.qc_core.proofs.FewSites.{AreSites, few_sites}
 use Rattle.qc_core.proofs.RoundSites.{start_fits}
 use Rattle.qc_core.proofs.FrontReaches.{asked_in}
+use Rattle.laws_turns.proofs.ReadingCases.{mapped}
 use Rattle.laws_room.proofs.Totals.{times, times-le, times-more}
 use Rattle.laws_room.proofs.Prices.{Prices, AreFair, budget, full, sends_cost, turn_cost}
 
@@ -105,34 +103,20 @@ view_ops t object (Some v) = refl
 one_op : (ops : List Op) (op : Op) → answered_ops (ops ++ op ∷ []) ≡ answered_ops ops + cond (is_some op.resp) 1 0
 one_op ops op = sum_by_push (λ (o : Op). cond (is_some o.resp) 1 0) ops op
 
-read_ops : (t : Transaction) (site object : ℕ) (answer : Option Answer) → (read_with t site object answer).begun.ops ≡ t.begun.ops
-read_ops t site object None = refl
-read_ops t site object (Some (answers.Granted life clock log)) =
-    ap (λ (b : Begun). b.ops) (view_ops (lived t site life) object (option_map (λ (v : View). with_log v log) (slice_get t.views object)))
-read_ops t site object (Some (answers.Clash holder inv event)) = refl
-read_ops t site object (Some (answers.Closed epoch)) = refl
-read_ops t site object (Some (answers.Behind epoch)) = refl
-read_ops t site object (Some (answers.Restarted life)) = refl
-read_ops t site object (Some answers.Stale) = refl
-read_ops t site object (Some answers.Fault) = refl
-read_ops t site object (Some (answers.Yes clock)) = refl
-read_ops t site object (Some (answers.Shut clock log prepared)) = refl
-read_ops t site object (Some answers.Installed) = refl
-read_ops t site object (Some (answers.Answered verdict)) = refl
+read_ops : (t : Transaction) (site object : ℕ) (answer : Option Answer)
+    → (read_with t site object answer).begun.ops ≡ t.begun.ops
+read_ops t site object answer =
+    mapped (λ (u : Transaction). u.begun.ops ≡ t.begun.ops)
+    (λ (g : Grant). with_granted (lived t site g.life) object g.log) t (option_and_then granted_in answer)
+    (λ g. ap (λ (b : Begun). b.ops) (view_ops (lived t site g.life) object
+    (option_map (λ (v : View). with_log v g.log) (slice_get t.views object))))
+    refl
 
-appended_ops : (t : Transaction) (site : ℕ) (answer : Option Answer) → (appended_with t site answer).begun.ops ≡ t.begun.ops
-appended_ops t site None = refl
-appended_ops t site (Some (answers.Granted life clock log)) = refl
-appended_ops t site (Some (answers.Clash holder inv event)) = refl
-appended_ops t site (Some (answers.Closed epoch)) = refl
-appended_ops t site (Some (answers.Behind epoch)) = refl
-appended_ops t site (Some (answers.Restarted life)) = refl
-appended_ops t site (Some answers.Stale) = refl
-appended_ops t site (Some answers.Fault) = refl
-appended_ops t site (Some (answers.Yes clock)) = refl
-appended_ops t site (Some (answers.Shut clock log prepared)) = refl
-appended_ops t site (Some answers.Installed) = refl
-appended_ops t site (Some (answers.Answered verdict)) = refl
+appended_ops : (t : Transaction) (site : ℕ) (answer : Option Answer)
+    → (appended_with t site answer).begun.ops ≡ t.begun.ops
+appended_ops t site answer =
+    mapped (λ (u : Transaction). u.begun.ops ≡ t.begun.ops) (λ (g : Grant). lived t site g.life) t
+    (option_and_then granted_in answer) (λ g. refl) refl
 
 -- moves
 
@@ -189,7 +173,7 @@ module _ (decl : Declaration) (accepted : IsAccepted decl) (p : Prices) (fair : 
       → Costs ((p.step + p.operation) + (times p.read (length r.rest) + times p.append decl.sites) + operations_in p (Some t)) (read_by decl front t object inv calls r v)
   read_costs front t object inv calls r verdicts.Waiting =
       let asked : sends_cost p (map (request_of t.begun (read_want object inv)) (wanted r)) ≤ times p.read (length (wanted r)) =
-      map_cost p p.read (request_of t.begun (read_want object inv)) (wanted r) (λ site. fair.reads t.begun.tx t.begun.epoch (life_of t.begun.lives site) object inv) in
+      map_cost p p.read (request_of t.begun (read_want object inv)) (wanted r) (λ site. fair.reads t.begun.tx t.begun.epoch (life_of t.begun.lives site) (read_of object inv)) in
       let left : length (asking_all r (wanted r)).rest + length (wanted r) ≡ length r.rest = wanted_left r in
       let split : times p.read (length (asking_all r (wanted r)).rest + length (wanted r)) ≡ times p.read (length (asking_all r (wanted r)).rest) + times p.read (length (wanted r)) = times-more p.read (length (asking_all r (wanted r)).rest) (length (wanted r)) in
       let same : times p.read (length (asking_all r (wanted r)).rest + length (wanted r)) ≡ times p.read (length r.rest) = ap (times p.read) left in

@@ -9,50 +9,28 @@ use Rattle.qc_msg.specs.declared.message.Envelope.{Envelope}
 use Rattle.qc_msg.specs.declared.record.Record.{Record}
 use Rattle.qc_msg.specs.declared.reply.Reply.{Reply}
 use Rattle.qc_msg.specs.declared.step.Control.{Control}
-use Rattle.qc_msg.specs.declared.step.Control.TheVariants as controls
 use Rattle.qc_msg.specs.declared.step.Input.{Input}
 use Rattle.qc_msg.specs.declared.step.Input.TheVariants as inputs
 use Rattle.qc_msg.specs.declared.step.Step.{Step}
 use Rattle.qc_msg.specs.declared.step.Step.TheVariants as steps
 use Rattle.qc_msg.specs.declared.turn.Posting.{Posting}
 use Rattle.qc_msg.specs.declared.turn.Turn.{Turn}
-use Rattle.qc_msg.specs.Vocabulary.{deeds, envelopes, mail, turn_deeds}
-use Rattle.qc_msg.specs.Vocabulary.{Entry, by, marked, posted, sents, step_of, told, wrote}
+use Rattle.qc_msg.specs.Vocabulary.{Entry, by, deeds, envelopes, mail, marked, posted, sents, step_of, told, turn_deeds}
+use Rattle.qc_msg.specs.Vocabulary.{wrote}
 use Rattle.qc_msg.proofs.GrownMail.{by-posted, mail-append, mail-posted, mail-taken}
 use Rattle.qc_msg.proofs.DeedsGrow.{deeds-other}
 use Rattle.qc_msg.proofs.Growth.{deeds-posted, deeds-taken}
-use Rattle.qc_script.specs.Vocabulary.{phase_of, step_of_control}
-use Rattle.qc_script.specs.Vocabulary.{Runs, begins, takes, posts, phase, control}
+use Rattle.qc_script.specs.Vocabulary.{Runs, phase_of, step_of_control}
+use Rattle.qc_script.specs.Runs.{begins, takes, posts, phase, control}
 use Rattle.qc_script.specs.declared.script.Script.{Script}
 use Rattle.laws_turns.proofs.Acted.{deeds-silent, has_place}
 use Rattle.laws_turns.proofs.Arrivals.{what_is_ready_was_sent}
 use Rattle.laws_turns.proofs.Numbered.{control_silent, mail-silent, phase_silent}
+use Rattle.laws_turns.proofs.StepCases.{control_cases}
 use Rattle.laws_room.proofs.Actors.{spent-input}
+use Rattle.laws_room.proofs.Costs.{cost_of, credits, step_cost}
 use Rattle.laws_room.proofs.Prices.{Prices, sends_cost, spent, spent-append, spent-turn, told_cost, turn_cost, write_cost}
 use Rattle.laws_room.proofs.Totals.{below, below-grows, below-le}
-
--- what a step costs, without what it pays for
-abbrev pub step_cost : Prices → Step → ℕ
-step_cost p (steps.Phase k) = 0
-step_cost p (steps.Cut a b) = 0
-step_cost p (steps.Heal a b) = 0
-step_cost p (steps.Armed actor kind at) = 0
-step_cost p (steps.Called command) = p.step
-step_cost p (steps.Got n) = p.step
-step_cost p (steps.Lost n) = p.step
-step_cost p (steps.Wrote written) = p.written written
-step_cost p (steps.Sent n to message) = p.sent message
-step_cost p (steps.Told reply) = p.step
-step_cost p (steps.Fell cause pending) = 0
-step_cost p (steps.Rose records) = 0
-step_cost p (steps.Damaged offset) = 0
-
-abbrev pub cost_of : Prices → List Entry → ℕ
-cost_of p h = sum_by (λ (e : Entry). step_cost p e.step) h
-
--- what messages pay for
-abbrev pub credits : Prices → List Envelope → ℕ
-credits p ms = sum_by (λ (e : Envelope). p.credit e.message) ms
 
 -- what all actors spent
 abbrev pub all_spent : Prices → Declaration → List Entry → ℕ
@@ -113,12 +91,7 @@ module _ (p : Prices) (decl : Declaration) (script : Script) where
       (λ a low. let s : spent p (deeds a [] (h ++ marked b step ∷ [])) ≡ spent p (deeds a [] h) = ap (spent p) (same a) in omega arith)
 
   control_cost : (line : Control) (step : Step) → step_of_control line ≡ Some step → step_cost p step ≡ 0
-  control_cost (controls.Phase k) step is = let never : ⊥ = cc in absurd never
-  control_cost (controls.Cut a b) step is = let same : steps.Cut a b ≡ step = cc in ap (step_cost p) (sym same)
-  control_cost (controls.Heal a b) step is = let same : steps.Heal a b ≡ step = cc in ap (step_cost p) (sym same)
-  control_cost (controls.Armed actor kind at) step is = let never : ⊥ = cc in absurd never
-  control_cost (controls.Crash a) step is = let never : ⊥ = cc in absurd never
-  control_cost (controls.Restart a) step is = let never : ⊥ = cc in absurd never
+  control_cost line step is = control_cases (λ (s : Step). step_cost p s ≡ 0) (λ a b. refl) (λ a b. refl) line step is
 
   free_step : (b : ℕ) (h : List Entry) (step : Step) → step_cost p step ≡ 0 → ((a : ℕ) → deeds a [] (h ++ marked b step ∷ []) ≡ deeds a [] h) → mail (h ++ marked b step ∷ []) ≡ mail h
       → cost_of p h + credits p (mail h) ≤ all_spent p decl h

@@ -12,6 +12,9 @@ use Rattle.qc_msg.specs.declared.message.Message.TheVariants as messages
 use Rattle.qc_msg.specs.declared.message.Outcome.{Outcome}
 use Rattle.qc_msg.specs.declared.message.Want.{Want}
 use Rattle.qc_msg.specs.declared.message.Want.TheVariants.{Read, Append, Prepare}
+use Rattle.qc_msg.specs.declared.payload.EpochStart.{EpochStart}
+use Rattle.qc_msg.specs.declared.payload.Grant.{Grant}
+use Rattle.qc_msg.specs.declared.payload.ReadRequest.{ReadRequest}
 use Rattle.qc_entry.specs.declared.line.OwnLine.{OwnLine}
 use Rattle.qc_msg.specs.declared.record.Record.{Record}
 use Rattle.qc_msg.specs.declared.record.Record.TheVariants as records
@@ -22,9 +25,9 @@ use Rattle.qc_msg.specs.declared.step.Input.{Input}
 use Rattle.qc_msg.specs.declared.step.Input.TheVariants as inputs
 use Rattle.qc_msg.specs.declared.turn.Posting.{Posting}
 use Rattle.qc_msg.specs.declared.turn.Turn.{Turn}
-use Rattle.qc_msg.specs.Vocabulary.{answered}
 use Rattle.qc_msg.specs.Counts.{lines_answered}
-use Rattle.qc_msg.specs.Vocabulary.{Deed, Takes, Writes, Sends, Tells, sends_of, tells_of, turn_deeds, writes_of}
+use Rattle.qc_msg.specs.Vocabulary.{Deed, Falls, Rises, Sends, Takes, Tells, Writes, answered, sends_of, tells_of}
+use Rattle.qc_msg.specs.Vocabulary.{turn_deeds, writes_of}
 use Rattle.laws_room.proofs.Totals.{times}
 
 pub record Prices : Type 0 where
@@ -67,6 +70,8 @@ earned_by p sites (Takes input) = pays p sites input
 earned_by p sites (Writes written) = 0
 earned_by p sites (Sends number to message) = 0
 earned_by p sites (Tells reply) = 0
+earned_by p sites (Falls cause pending) = 0
+earned_by p sites (Rises records) = 0
 
 abbrev pub earned : Prices → ℕ → List Deed → ℕ
 earned p sites [] = 0
@@ -78,6 +83,8 @@ spent_by p (Takes input) = p.step
 spent_by p (Writes written) = p.written written
 spent_by p (Sends number to message) = full p message
 spent_by p (Tells reply) = p.step
+spent_by p (Falls cause pending) = 0
+spent_by p (Rises records) = 0
 
 abbrev pub spent : Prices → List Deed → ℕ
 spent p [] = 0
@@ -155,28 +162,50 @@ pub record AreFair (p : Prices) : Type 0 where
   -- what is taken pays for its own step
   pub input : (m : Message) → p.step ≤ p.credit m
   -- a client's messages
-  pub reads : (tx : TxId) (epoch life object inv : ℕ) → full p (messages.Request tx epoch life (Read object inv)) ≤ p.read
-  pub appends : (tx : TxId) (epoch life object : ℕ) (view : List Line) (own : List OwnLine) → full p (messages.Request tx epoch life (Append object view own)) ≤ p.append
+  pub reads : (tx : TxId) (epoch life : ℕ) (read : ReadRequest)
+      → full p (messages.Request tx epoch life (Read read)) ≤ p.read
+  pub appends : (tx : TxId) (epoch life object : ℕ) (view : List Line) (own : List OwnLine)
+      → full p (messages.Request tx epoch life (Append object view own)) ≤ p.append
   pub prepares : (tx : TxId) (epoch life : ℕ) → full p (messages.Request tx epoch life Prepare) ≤ p.prepare
   pub decides : (tx : TxId) (verdict : Outcome) → full p (messages.Decision tx verdict) ≤ p.decision
   pub commits : (c : Commit) → p.written (records.Commit c) ≤ p.commit + times p.operation (answered c.ops)
   pub inquires : (tx : TxId) → p.step + p.decision ≤ p.credit (messages.Inquiry tx)
-  pub asks : (tx : TxId) (number : ℕ) (verdict : Outcome) → p.step + full p (messages.Answer number (answers.Answered verdict)) ≤ p.credit (messages.Ask tx)
+  pub asks : (tx : TxId) (number : ℕ) (verdict : Outcome)
+      → p.step + full p (messages.Answer number (answers.Answered verdict)) ≤ p.credit (messages.Ask tx)
   -- a site's: an answer without lines; a Read's with lines; a Clash, and an Inquiry; a promise; what is done
-  pub replies : (tx : TxId) (epoch life number : ℕ) (want : Want) (answer : Answer) → lines_answered answer ≡ 0 → p.step + full p (messages.Answer number answer) ≤ p.credit (messages.Request tx epoch life want)
-  pub grants : (tx : TxId) (epoch life object inv number in_life clock : ℕ) (log : List Line) → p.step + full p (messages.Answer number (answers.Granted in_life clock log)) ≤ p.credit (messages.Request tx epoch life (Read object inv))
-  pub read_clashes : (tx holder other : TxId) (epoch life object inv number by event : ℕ)
-      → p.step + (full p (messages.Answer number (answers.Clash holder by event)) + full p (messages.Inquiry other)) ≤ p.credit (messages.Request tx epoch life (Read object inv))
-  pub append_clashes : (tx holder other : TxId) (epoch life object number by event : ℕ) (view : List Line) (own : List OwnLine)
-      → p.step + (full p (messages.Answer number (answers.Clash holder by event)) + full p (messages.Inquiry other)) ≤ p.credit (messages.Request tx epoch life (Append object view own))
-  pub promises : (tx : TxId) (epoch life number clock : ℕ) (promise : Prepared) → p.step + (p.written (records.Prepare promise) + full p (messages.Answer number (answers.Yes clock))) ≤ p.credit (messages.Request tx epoch life Prepare)
-  pub finishes : (tx : TxId) (verdict : Outcome) (clock : ℕ) → p.step + p.written (records.Done tx clock) ≤ p.credit (messages.Decision tx verdict)
+  pub replies : (tx : TxId) (epoch life number : ℕ) (want : Want) (answer : Answer) → lines_answered answer ≡ 0
+      → p.step + full p (messages.Answer number answer) ≤ p.credit (messages.Request tx epoch life want)
+  pub grants : (tx : TxId) (epoch life number : ℕ) (read : ReadRequest) (grant : Grant)
+      → p.step + full p (messages.Answer number (answers.Granted grant))
+      ≤ p.credit (messages.Request tx epoch life (Read read))
+  pub read_clashes : (tx holder other : TxId) (epoch life number by event : ℕ) (read : ReadRequest)
+      → p.step + (full p (messages.Answer number (answers.Clash holder by event)) + full p (messages.Inquiry other))
+      ≤ p.credit (messages.Request tx epoch life (Read read))
+  pub append_clashes : (tx holder other : TxId) (epoch life object number by event : ℕ) (view : List Line)
+      (own : List OwnLine)
+      → p.step + (full p (messages.Answer number (answers.Clash holder by event)) + full p (messages.Inquiry other))
+      ≤ p.credit (messages.Request tx epoch life (Append object view own))
+  pub promises : (tx : TxId) (epoch life number clock : ℕ) (promise : Prepared)
+      → p.step + (p.written (records.Prepare promise) + full p (messages.Answer number (answers.Yes clock)))
+      ≤ p.credit (messages.Request tx epoch life Prepare)
+  pub finishes : (tx : TxId) (verdict : Outcome) (clock : ℕ)
+      → p.step + p.written (records.Done tx clock) ≤ p.credit (messages.Decision tx verdict)
+  -- and what it answers to who closes an epoch and begins one
+  pub closes : (epoch number : ℕ) (answer : Answer)
+      → p.step + (p.written (records.Close epoch) + full p (messages.Answer number answer))
+      ≤ p.credit (messages.Close epoch)
+  pub installs : (start : EpochStart) (number : ℕ) (answer : Answer)
+      → p.step + (p.written (records.Install start) + full p (messages.Answer number answer))
+      ≤ p.credit (messages.Install start)
 
 pub pays_input : (p : Prices) (sites : ℕ) (g : Input) → AreFair p → p.step ≤ pays p sites g
-pays_input p sites (inputs.Called commands.Begin) fair = omega arith
-pays_input p sites (inputs.Called (commands.Do object inv)) fair = omega arith
-pays_input p sites (inputs.Called commands.Commit) fair = omega arith
-pays_input p sites (inputs.Called commands.Abort) fair = omega arith
-pays_input p sites (inputs.Called (commands.Epoch number)) fair = omega arith
+pays_input p sites (inputs.Called command) fair = by command
+  where
+    by : (c : Command) → p.step ≤ budget p sites c
+    by commands.Begin = omega arith
+    by (commands.Do object inv) = omega arith
+    by commands.Commit = omega arith
+    by commands.Abort = omega arith
+    by (commands.Epoch number) = omega arith
 pays_input p sites (inputs.Got e) fair = fair.input e.message
 pays_input p sites (inputs.Lost number) fair = omega arith
