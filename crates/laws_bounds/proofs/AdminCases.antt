@@ -65,7 +65,8 @@ module _ (Clock : ℕ → Type 0) (Lines : List Line → Type 0) (Promise : Prep
   write_cases P none decide (Some (records.Decide start)) keeps = decide start.epoch start.clock start.lines keeps
 
   pub shut_keeps : (H : Option Answer → Type 0)
-      → ((clock : ℕ) (log : List Line) (prepared : List Prepared) → H (Some (answers.Shut (snapshot_with clock log prepared)))
+      → ((clock : ℕ) (log : List Line) (prepared : List Prepared)
+      → H (Some (answers.Shut (snapshot_with clock log prepared)))
       → Clock clock × Lines log × Every Promise prepared)
       → (answer : Option Answer) → H answer → ShutCame Clock Lines Promise Verdict Epoch Number answer
   shut_keeps H at answer here =
