@@ -41,14 +41,14 @@ module _ (decl : Declaration) where
 
   asks_client : (actor : ℕ) (command : Command) → IsAskedFor decl actor command → epoch_in command ≡ None
       → IsTrue (is_client decl actor)
-  asks_client actor command for none = by (do_in command) (epoch_in command) for none
+  asks_client actor command for none = by _ _ _ (do_in command) (epoch_in command) for none
     where
-      by : (d : Option Invocation) (e : Option ℕ) {M : ℕ → Type 0} {D : Invocation → Type 0}
+      by : (M : ℕ → Type 0) (D E : Invocation → Type 0) (d : Option Invocation) (e : Option ℕ)
           → MatchOption d (MatchOption e (IsTrue (is_client decl actor)) M)
-          (λ (i : Invocation). IsTrue (is_client decl actor) × D i) → e ≡ None → IsTrue (is_client decl actor)
-      by None None for none = for
-      by None (Some number) for never = absurd (let no : ⊥ = cc in no)
-      by (Some i) e for none = for.0
+          (λ (i : Invocation). IsTrue (is_client decl actor) × D i × E i) → e ≡ None → IsTrue (is_client decl actor)
+      by M D E None None for none = for
+      by M D E None (Some number) for never = absurd (let no : ⊥ = cc in no)
+      by M D E (Some i) e for none = for.0
 
   none_for : (lines : List CommandLine) → Every (IsCommandFor decl) lines
       → Every (λ (l : CommandLine). epoch_in l.command ≡ None) lines → commands_for (administrator decl) lines ≡ []
@@ -60,8 +60,10 @@ module _ (decl : Declaration) where
           (cond t (l ∷ filter (λ (x : CommandLine). x.actor == administrator decl) lines)
           (filter (λ (x : CommandLine). x.actor == administrator decl) lines)) ≡ []
       at true same rest =
-          absurd (subst IsTrue (ap (is_client decl) (eqb-true l.actor (administrator decl) same) ∙ admin_no_client decl)
-          (asks_client l.actor l.command for.0 none.0))
+          let client : is_client decl l.actor ≡ true = asks_client l.actor l.command for.0 none.0 in
+          let other : is_client decl l.actor ≡ false =
+          ap (is_client decl) (eqb-true l.actor (administrator decl) same) ∙ admin_no_client decl in
+          absurd (let never : ⊥ = cc in never)
       at false other rest = rest
 
   none_in : (phases : List PhaseLines) (k : ℕ) → Every (IsPhaseFor decl) phases → Every MovesNone phases

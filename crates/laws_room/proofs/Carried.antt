@@ -4,11 +4,13 @@ use Rattle.std.specs.List.{AllByRecursion as Every, cons_option}
 use Rattle.std.proofs.Math.Nat.{mul-add, mul-le-mul_left, mul_comm}
 use Rattle.std.proofs.lemmas.List.Sums.{sum_by-cons}
 use Rattle.qc_list.specs.Vocabulary.{In}
+use Rattle.qc_list.proofs.Members.{every-In, every-at}
 use Rattle.qc_core.specs.Vocabulary.{IsLawful}
 use Rattle.qc_decl.specs.Vocabulary.{IsAccepted}
 use Rattle.qc_decl.specs.declared.declaration.Declaration.{Declaration}
 use Rattle.qc_entry.specs.declared.line.Line.{Line}
 use Rattle.qc_entry.specs.declared.record.Commit.{Commit as CommitRecord}
+use Rattle.qc_entry.specs.declared.record.Prepared.{Prepared}
 use Rattle.qc_entry.specs.Vocabulary.{IsAscending}
 use Rattle.qc_msg.specs.declared.message.Answer.{Answer}
 use Rattle.qc_msg.specs.declared.message.Answer.TheVariants as answers
@@ -27,7 +29,10 @@ use Rattle.theory_machine.specs.Vocabulary.{state}
 use Rattle.qc_script.specs.Vocabulary.{IsScriptFor, Runs}
 use Rattle.qc_script.specs.declared.script.Script.{Script}
 use Rattle.qc_stamp.specs.declared.stamp.TxId.{TxId}
-use Rattle.laws_refinement.specs.Vocabulary.{Backed, Refines, lines_in as lines_of}
+use Rattle.laws_turns.proofs.Proper.{run_proper}
+use Rattle.laws_turns.proofs.SiteReplies.{IsMailProper, IsProperFrom}
+use Rattle.laws_due.proofs.AccountDeclared.{scripts_ask_what_is_declared}
+use Rattle.laws_refinement.specs.Vocabulary.{Backed, IsShutTo, Refines, lines_in as lines_of}
 use Rattle.laws_refinement.proofs.Refining.{nets_refine}
 use Rattle.laws_atomic.specs.Vocabulary.{IsReached}
 use Rattle.laws_atomic.proofs.Runs.{message_lines, runs_are_nets}
@@ -105,6 +110,19 @@ module _ (decl : Declaration) (script : Script) (accepted : IsAccepted decl) (so
       operations_written (IsLawful decl) decl script h open_inputs run in
       omega arith
 
+  -- nobody closes an epoch, or begins one
+  all_proper : IsMailProper decl (mail h)
+  all_proper = run_proper decl script accepted (scripts_ask_what_is_declared decl script accepted sound) h open_inputs run
+
+  proper : (e : Envelope) → In e (mail h) → IsProperFrom decl e.from e.to e.message
+  proper e sent = every-In (λ (e : Envelope). IsProperFrom decl e.from e.to e.message) e (mail h) all_proper sent
+
+  unasked : {site number clock : ℕ} {log : List Line} {prepared : List Prepared} → IsShutTo decl (state mirror.acts) net.net.mail site number clock log prepared → ⊥
+  unasked {number = number} shut =
+      subst (λ (m : Message). IsProperFrom decl shut.asked.0.from shut.asked.0.to m) shut.asked.3
+      (every-at (λ (e : Envelope). IsProperFrom decl e.from e.to e.message) net.net.mail number shut.asked.0
+      (subst (IsMailProper decl) (sym net.mail_is) all_proper) shut.asked.1)
+
   pub message_few : (e : Envelope) → In e (mail h) → lines_in e.message ≤ operations_of h
   message_few e sent = by e.message refl
     where
@@ -126,13 +144,13 @@ module _ (decl : Declaration) (script : Script) (accepted : IsAccepted decl) (so
       told number (answers.Granted grant) is =
           counted grant.log (backed e sent (messages.Answer number (answers.Granted grant)) is).grant.sorted
           (logged (messages.Answer number (answers.Granted grant)) is)
-      told number (answers.Shut snapshot) is = ?
+      told number (answers.Shut snapshot) is = absurd (unasked (backed e sent (messages.Answer number (answers.Shut snapshot)) is))
       told number other is = omega arith
 
       by : (m : Message) → e.message ≡ m → lines_in m ≤ operations_of h
       by (messages.Request tx epoch life want) is = asked tx epoch life want is
       by (messages.Answer number answer) is = told number answer is
-      by (messages.Install start) is = ?
+      by (messages.Install start) is = absurd (subst (λ (m : Message). IsProperFrom decl e.from e.to m) is (proper e sent))
       by other is = omega arith
 
 -- the bounds

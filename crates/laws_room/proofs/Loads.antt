@@ -1,60 +1,74 @@
--- Up to 500 transactions, one a phase, over three sites have room.
-use Rattle.std.proofs.Common.{◌≡◌, ℕ, ◌+◌, ◌*◌, ◌≤◌, List, [], ◌∷◌, length, sum_by, count_by, refl, sym, ap, subst, arith}
+-- Up to 500 transactions of a load have room.
+use Rattle.std.proofs.Common.{◌≡◌, ℕ, zero, suc, ◌+◌, ◌*◌, ◌≤◌, [], length, sum_by, refl, ap, arith}
 use Rattle.std.specs.List.{AllByRecursion as Every}
 use Rattle.std.proofs.Math.Nat.{mul-le-mul_left}
 use Rattle.std.proofs.lemmas.List.Sums.{sum_by-cons}
-use Rattle.qc_decl.specs.declared.declaration.Declaration.{Declaration}
-use Rattle.qc_script.specs.declared.script.CommandLine.{CommandLine}
+use Rattle.qc_decl.specs.Vocabulary.{three}
+use Rattle.qc_gen.specs.Vocabulary.{load_of, next_state, phase_of, phases_from}
 use Rattle.qc_script.specs.declared.script.PhaseLines.{PhaseLines}
-use Rattle.qc_script.specs.declared.script.Script.{Script}
-use Rattle.laws_room.specs.Asked.{commands_of, dos_of, is_do}
-use Rattle.laws_room.specs.Load.{IsLoad, IsTransaction}
-use Rattle.laws_room.specs.Plain.{IsInEpoch}
-use Rattle.laws_room.specs.Room.{HasRoom}
+use Rattle.laws_room.specs.Vocabulary.{HasRoom, MovesNone, commands_of, dos_in, dos_of}
 
-four : (phases : List PhaseLines) → Every IsTransaction phases → sum_by (λ (p : PhaseLines). length p.commands) phases ≡ 4 * length phases
-four [] all = refl
-four (p ∷ phases) all =
-    let rest : sum_by (λ (p : PhaseLines). length p.commands) phases ≡ 4 * length phases = four phases all.1 in
-    let here : length p.commands ≡ 4 = ap length all.0.commands in
-    let both : sum_by (λ (p : PhaseLines). length p.commands) (p ∷ phases) ≡ length p.commands + sum_by (λ (p : PhaseLines). length p.commands) phases = sum_by-cons (λ (p : PhaseLines). length p.commands) p phases in
+-- four commands a phase, of which two are a `do`, and no control line
+
+four : (count number state : ℕ)
+    → sum_by (λ (p : PhaseLines). length p.commands) (phases_from count number state) ≡ 4 * count
+four zero number state = refl
+four (suc count) number state =
+    let rest : sum_by (λ (p : PhaseLines). length p.commands) (phases_from count (suc number) (next_state state))
+    ≡ 4 * count = four count (suc number) (next_state state) in
+    let both : sum_by (λ (p : PhaseLines). length p.commands) (phases_from (suc count) number state)
+    ≡ 4 + sum_by (λ (p : PhaseLines). length p.commands) (phases_from count (suc number) (next_state state)) =
+    sum_by-cons (λ (p : PhaseLines). length p.commands) (phase_of number (next_state state))
+    (phases_from count (suc number) (next_state state)) in
     omega arith
 
-two : (phases : List PhaseLines) → Every IsTransaction phases → sum_by (λ (p : PhaseLines). count_by (λ (l : CommandLine). is_do l.command) p.commands) phases ≡ 2 * length phases
-two [] all = refl
-two (p ∷ phases) all =
-    let rest : sum_by (λ (p : PhaseLines). count_by (λ (l : CommandLine). is_do l.command) p.commands) phases ≡ 2 * length phases = two phases all.1 in
-    let here : count_by (λ (l : CommandLine). is_do l.command) p.commands ≡ 2 = ap (count_by (λ (l : CommandLine). is_do l.command)) all.0.commands in
-    let both : sum_by (λ (p : PhaseLines). count_by (λ (l : CommandLine). is_do l.command) p.commands) (p ∷ phases) ≡ count_by (λ (l : CommandLine). is_do l.command) p.commands + sum_by (λ (p : PhaseLines). count_by (λ (l : CommandLine). is_do l.command) p.commands) phases =
-    sum_by-cons (λ (p : PhaseLines). count_by (λ (l : CommandLine). is_do l.command) p.commands) p phases in
+two : (count number state : ℕ) → sum_by dos_in (phases_from count number state) ≡ 2 * count
+two zero number state = refl
+two (suc count) number state =
+    let rest : sum_by dos_in (phases_from count (suc number) (next_state state)) ≡ 2 * count =
+    two count (suc number) (next_state state) in
+    let both : sum_by dos_in (phases_from (suc count) number state)
+    ≡ 2 + sum_by dos_in (phases_from count (suc number) (next_state state)) =
+    sum_by-cons dos_in (phase_of number (next_state state)) (phases_from count (suc number) (next_state state)) in
     omega arith
 
-no_controls : (phases : List PhaseLines) → Every IsTransaction phases → Every (λ (p : PhaseLines). p.controls ≡ []) phases
-no_controls [] all = tt
-no_controls (p ∷ phases) all = (all.0.controls, no_controls phases all.1)
+phases_counted : (count number state : ℕ) → length (phases_from count number state) ≡ count
+phases_counted zero number state = refl
+phases_counted (suc count) number state = ap suc (phases_counted count (suc number) (next_state state))
 
-no_epochs : (phases : List PhaseLines) → Every IsTransaction phases → Every (λ (p : PhaseLines). Every (λ (l : CommandLine). IsInEpoch l.command) p.commands) phases
-no_epochs [] all = tt
-no_epochs (p ∷ phases) all =
-    (subst (Every (λ (l : CommandLine). IsInEpoch l.command)) (sym all.0.commands) (tt, (tt, (tt, (tt, tt)))), no_epochs phases all.1)
+no_controls : (count number state : ℕ)
+    → Every (λ (p : PhaseLines). p.controls ≡ []) (phases_from count number state)
+no_controls zero number state = tt
+no_controls (suc count) number state = (refl, no_controls count (suc number) (next_state state))
 
-pub load_room : (decl : Declaration) (script : Script) (count : ℕ) → decl.sites ≡ 3 → count ≤ 500 → IsLoad count script → HasRoom decl script
-load_room decl script count sites few load = record {
-  plain = record { links = load.links; controls = no_controls script.phases load.phases; epochs = no_epochs script.phases load.phases };
-  steps =
-      let each : commands_of script * (3 + 18 * decl.sites) ≡ commands_of script * 57 = ap (λ (n : ℕ). commands_of script * (3 + 18 * n)) sites in
-      omega (arith, each, commands, phases);
-  operations = omega (arith, dos, phases);
-  lines =
-      let same : 2 * decl.sites * dos_of script * dos_of script ≡ 6 * dos_of script * dos_of script = ap (λ (n : ℕ). 2 * n * dos_of script * dos_of script) sites in
-      let low : 6 * dos_of script * dos_of script ≤ 6 * dos_of script * 1000 = mul-le-mul_left (6 * dos_of script) (omega (arith, dos, phases)) in
-      omega (arith, same, low, dos, phases);
-} where
-  commands : commands_of script ≡ 4 * length script.phases
-  commands = four script.phases load.phases
+no_epochs : (count number state : ℕ) → Every MovesNone (phases_from count number state)
+no_epochs zero number state = tt
+no_epochs (suc count) number state =
+    ((refl, (refl, (refl, (refl, tt)))), no_epochs count (suc number) (next_state state))
 
-  dos : dos_of script ≡ 2 * length script.phases
-  dos = two script.phases load.phases
+module _ (count seed : ℕ) (few : count ≤ 500) where
+  commands : commands_of (load_of count seed) ≡ 4 * count
+  commands = four count 0 seed
 
-  phases : length script.phases ≡ count
-  phases = load.count_is
+  dos : dos_of (load_of count seed) ≡ 2 * count
+  dos = two count 0 seed
+
+  phases : length (load_of count seed).phases ≡ count
+  phases = phases_counted count 0 seed
+
+  low : 6 * dos_of (load_of count seed) * dos_of (load_of count seed) ≤ 6 * dos_of (load_of count seed) * 1000
+  low = mul-le-mul_left (6 * dos_of (load_of count seed)) (omega (arith, dos, few))
+
+  pub load_room : HasRoom three (load_of count seed)
+  load_room = record {
+    plain = record {
+      lossless = record { links = refl; controls = no_controls count 0 seed };
+      epochs = no_epochs count 0 seed;
+    };
+    steps = omega (arith, commands, phases, few);
+    operations = omega (arith, dos, few);
+    lines = omega (arith, low, dos, few);
+  }
+
+pub loads_have_room : (count seed : ℕ) → count ≤ 500 → HasRoom three (load_of count seed)
+loads_have_room count seed few = load_room count seed few

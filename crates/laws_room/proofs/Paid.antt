@@ -1,5 +1,5 @@
 -- In a run of a plain script the commands pay for all: each message is taken at most once, and no request is lost.
-use Rattle.std.proofs.Common.{◌≡◌, ℕ, zero, suc, ◌+◌, ◌<◌, ◌≤◌, ◌==◌, Bool, List, [], ◌∷◌, ◌++◌, filter, map, take, sum_by, Some, slice_get, ap, arith}
+use Rattle.std.proofs.Common.{◌≡◌, ℕ, zero, suc, ◌+◌, ◌<◌, ◌≤◌, ◌==◌, Bool, List, [], ◌∷◌, ◌++◌, filter, map, take, sum_by, Some, slice_get, refl, ap, arith}
 use Rattle.std.specs.List.{AllByRecursion as Every, filter_map}
 use Rattle.std.proofs.lemmas.List.Sums.{sum_by-append, sum_by-cons}
 use Rattle.qc_core.specs.Vocabulary.{IsLawful}
@@ -30,6 +30,9 @@ use Rattle.laws_room.proofs.Totals.{below, below-both, below-le, below-same, bel
 abbrev calls_in : List Deed → List Command
 calls_in ds = filter_map call_in ds
 
+same_sum : (m n : ℕ) → m ≡ n → 0 + m ≡ n
+same_sum m n is = omega arith
+
 -- where no loss is taken, what is earned is what commands and messages pay
 earned_split : (p : Prices) (sites : ℕ) (ds : List Deed) → Every IsNoLoss ds
     → earned p sites ds ≡ budgets p sites (calls_in ds) + credits p (taken_in ds)
@@ -47,11 +50,11 @@ earned_split p sites (Takes (inputs.Got e) ∷ ds) none =
     sum_by-cons (λ (e : Envelope). p.credit e.message) e (taken_in ds) in
     omega arith
 earned_split p sites (Takes (inputs.Lost n) ∷ ds) none = absurd none.0
-earned_split p sites (Writes written ∷ ds) none = earned_split p sites ds none.1
-earned_split p sites (Sends n to message ∷ ds) none = earned_split p sites ds none.1
-earned_split p sites (Tells reply ∷ ds) none = earned_split p sites ds none.1
-earned_split p sites (Falls cause pending ∷ ds) none = earned_split p sites ds none.1
-earned_split p sites (Rises records ∷ ds) none = earned_split p sites ds none.1
+earned_split p sites (Writes written ∷ ds) none = same_sum _ _ (earned_split p sites ds none.1)
+earned_split p sites (Sends n to message ∷ ds) none = same_sum _ _ (earned_split p sites ds none.1)
+earned_split p sites (Tells reply ∷ ds) none = same_sum _ _ (earned_split p sites ds none.1)
+earned_split p sites (Falls cause pending ∷ ds) none = same_sum _ _ (earned_split p sites ds none.1)
+earned_split p sites (Rises records ∷ ds) none = same_sum _ _ (earned_split p sites ds none.1)
 
 -- a script's commands are those of its actors
 

@@ -3,12 +3,12 @@
 //! none.
 
 ghost use Rattle.std.specs.Prelude.{◌≤◌};
-ghost use Rattle.qc_decl.specs.Vocabulary.{most_committed_operations};
+ghost use Rattle.qc_decl.specs.Limits.{most_committed_operations};
 ghost use Rattle.qc_decl.specs.declared.declaration.Declaration.{Declaration};
+ghost use Rattle.qc_script.specs.declared.script.Script.{Script};
 ghost use Rattle.laws_room.specs.Asked.{dos_of};
 ghost use Rattle.laws_room.specs.Room.{HasRoom};
 ghost use Rattle.laws_room.specs.Scripts.{doubled, one_site, small};
-ghost use Rattle.qc_script.specs.declared.script.Script.{Script};
 
 /// One transaction of one operation has room. Under a rule of links it doesn't,
 /// nor where as many operations are asked as may be committed.
