@@ -1,5 +1,6 @@
 -- The lines that the messages of a run carry: each message at most one for each committed operation.
-use Rattle.std.proofs.Common.{◌≡◌, ℕ, ◌+◌, ◌*◌, ◌≤◌, ◌==◌, Bool, true, false, cond, inl, inr, List, [], ◌∷◌, length, sum_by, Option, Some, None, refl, sym, ap, ◌∙◌, subst, arith, eqb-true}
+use Rattle.std.proofs.Common.{◌≡◌, ℕ, ◌+◌, ◌*◌, ◌≤◌, ◌==◌, Bool, true, false, cond, inl, inr, List, [], ◌∷◌, length}
+use Rattle.std.proofs.Common.{sum_by, Option, Some, None, refl, sym, ap, ◌∙◌, subst, arith, eqb-true}
 use Rattle.std.specs.List.{AllByRecursion as Every, cons_option}
 use Rattle.std.proofs.Math.Nat.{mul-add, mul-le-mul_left, mul_comm}
 use Rattle.std.proofs.lemmas.List.Sums.{sum_by-cons}
@@ -68,7 +69,11 @@ module _ (most : ℕ) where
   step_carries a other ms none few = omega arith
 
   sum_two : (x y k : ℕ) → (x + y) * k ≡ x * k + y * k
-  sum_two x y k = let a : (x + y) * k ≡ k * (x + y) = mul_comm (x + y) k in let b : x * k ≡ k * x = mul_comm x k in let c : y * k ≡ k * y = mul_comm y k in a ∙ mul-add k x y ∙ sym (ap (λ (n : ℕ). n + y * k) b ∙ ap (λ (n : ℕ). k * x + n) c)
+  sum_two x y k =
+      let a : (x + y) * k ≡ k * (x + y) = mul_comm (x + y) k in
+      let b : x * k ≡ k * x = mul_comm x k in
+      let c : y * k ≡ k * y = mul_comm y k in
+      a ∙ mul-add k x y ∙ sym (ap (λ (n : ℕ). n + y * k) b ∙ ap (λ (n : ℕ). k * x + n) c)
 
   carried_few : (h : List Entry) → Every (λ (e : Entry). IsNoRise e.step) h
       → ((x : Envelope) → In x (mail h) → lines_in x.message ≤ most) → carried_of h ≤ cost_of in_messages h * most
@@ -89,14 +94,16 @@ module _ (most : ℕ) where
 
 -- each message carries at most one line for each committed operation
 
-module _ (decl : Declaration) (script : Script) (accepted : IsAccepted decl) (sound : IsScriptFor decl script) (h : List Entry) (open_inputs : List Bool) (run : Runs (IsLawful decl) decl script h open_inputs) where
+module _ (decl : Declaration) (script : Script) (accepted : IsAccepted decl) (sound : IsScriptFor decl script)
+    (h : List Entry) (open_inputs : List Bool) (run : Runs (IsLawful decl) decl script h open_inputs) where
   net : IsReached decl h open_inputs
   net = runs_are_nets decl script h open_inputs accepted sound run
 
   mirror : Refines decl net.net
   mirror = nets_refine decl accepted net.net net.reached
 
-  backed : (e : Envelope) → In e (mail h) → (m : Message) → e.message ≡ m → Backed decl (state mirror.acts) net.net.mail e.from e.to m
+  backed : (e : Envelope) → In e (mail h) → (m : Message) → e.message ≡ m
+      → Backed decl (state mirror.acts) net.net.mail e.from e.to m
   backed e sent m is =
       subst (λ (m : Message). Backed decl (state mirror.acts) net.net.mail e.from e.to m) is
       (mirror.agrees.mail e (subst (λ (ms : List Envelope). In e ms) (sym net.mail_is) sent))
@@ -112,12 +119,14 @@ module _ (decl : Declaration) (script : Script) (accepted : IsAccepted decl) (so
 
   -- nobody closes an epoch, or begins one
   all_proper : IsMailProper decl (mail h)
-  all_proper = run_proper decl script accepted (scripts_ask_what_is_declared decl script accepted sound) h open_inputs run
+  all_proper =
+      run_proper decl script accepted (scripts_ask_what_is_declared decl script accepted sound) h open_inputs run
 
   proper : (e : Envelope) → In e (mail h) → IsProperFrom decl e.from e.to e.message
   proper e sent = every-In (λ (e : Envelope). IsProperFrom decl e.from e.to e.message) e (mail h) all_proper sent
 
-  unasked : {site number clock : ℕ} {log : List Line} {prepared : List Prepared} → IsShutTo decl (state mirror.acts) net.net.mail site number clock log prepared → ⊥
+  unasked : {site number clock : ℕ} {log : List Line} {prepared : List Prepared}
+      → IsShutTo decl (state mirror.acts) net.net.mail site number clock log prepared → ⊥
   unasked {number = number} shut =
       subst (λ (m : Message). IsProperFrom decl shut.asked.0.from shut.asked.0.to m) shut.asked.3
       (every-at (λ (e : Envelope). IsProperFrom decl e.from e.to e.message) net.net.mail number shut.asked.0
@@ -144,13 +153,15 @@ module _ (decl : Declaration) (script : Script) (accepted : IsAccepted decl) (so
       told number (answers.Granted grant) is =
           counted grant.log (backed e sent (messages.Answer number (answers.Granted grant)) is).grant.sorted
           (logged (messages.Answer number (answers.Granted grant)) is)
-      told number (answers.Shut snapshot) is = absurd (unasked (backed e sent (messages.Answer number (answers.Shut snapshot)) is))
+      told number (answers.Shut snapshot) is =
+          absurd (unasked (backed e sent (messages.Answer number (answers.Shut snapshot)) is))
       told number other is = omega arith
 
       by : (m : Message) → e.message ≡ m → lines_in m ≤ operations_of h
       by (messages.Request tx epoch life want) is = asked tx epoch life want is
       by (messages.Answer number answer) is = told number answer is
-      by (messages.Install start) is = absurd (subst (λ (m : Message). IsProperFrom decl e.from e.to m) is (proper e sent))
+      by (messages.Install start) is =
+          absurd (subst (λ (m : Message). IsProperFrom decl e.from e.to m) is (proper e sent))
       by other is = omega arith
 
 -- the bounds

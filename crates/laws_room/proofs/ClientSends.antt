@@ -1,6 +1,7 @@
 -- A client's messages go to sites, and to who asked it how a transaction stands.
-use Rattle.std.proofs.Common.{◌≡◌, ℕ, ◌+◌, ◌<◌, inl, inr, Bool, true, false, cond, List, [], ◌∷◌, Option, Some, None, refl}
-use Rattle.std.proofs.Common.{sym, ap, ◌∙◌, subst, arith}
+use Rattle.std.proofs.Common.{◌≡◌, ℕ, ◌<◌, inl, inr, Bool, true, false, cond, List, [], ◌∷◌, Option, Some, None}
+use Rattle.std.proofs.Common.{refl}
+use Rattle.std.proofs.Common.{sym, ap, subst, arith}
 use Rattle.std.specs.Prelude.{MatchOption}
 use Rattle.std.specs.List.{AllByRecursion as Every}
 use Rattle.qc_list.proofs.Members.{every-weaker}
@@ -35,7 +36,7 @@ use Rattle.laws_turns.proofs.ClientCases.{called_cases, heard_cases}
 use Rattle.laws_turns.proofs.FrontGoesOn.{FrontKind, IsRequestFor}
 use Rattle.laws_turns.proofs.FrontKinds.{called-kind, takes-kind}
 use Rattle.laws_turns.proofs.HandMoves.{IsHandMove, prepare-it, vote-it}
-use Rattle.laws_turns.proofs.Rounds.{AreProper, IsProper}
+use Rattle.laws_turns.proofs.Rounds.{AreProper}
 use Rattle.laws_room.proofs.SiteSends.{GoInside, IsFromInside}
 use Rattle.laws_room.proofs.TakenMail.{IfMessage}
 

@@ -32,5 +32,5 @@ abbrev pub budgets : Prices → ℕ → List Command → ℕ
 budgets p sites cs = sum_by (λ (c : Command). budget p sites c) cs
 
 abbrev pub script_budget : Prices → ℕ → List PhaseLines → ℕ
-script_budget p sites phases = sum_by (λ (ph : PhaseLines). sum_by (λ (l : CommandLine). budget p sites l.command) ph.commands) phases
-
+script_budget p sites phases =
+    sum_by (λ (ph : PhaseLines). sum_by (λ (l : CommandLine). budget p sites l.command) ph.commands) phases

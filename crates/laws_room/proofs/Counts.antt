@@ -1,5 +1,6 @@
 -- A run of a plain script has few steps, and commits few operations: by what its script asks.
-use Rattle.std.proofs.Common.{◌≡◌, ℕ, ◌+◌, ◌*◌, ◌≤◌, Bool, List, [], ◌∷◌, ◌++◌, fold, length, sum_by, Option, Some, None, refl, sym, ap, ◌∙◌, arith, length-append}
+use Rattle.std.proofs.Common.{◌≡◌, ℕ, ◌+◌, ◌*◌, ◌≤◌, Bool, List, [], ◌∷◌, ◌++◌, fold, length, sum_by, Option, Some}
+use Rattle.std.proofs.Common.{None, refl, sym, ap, ◌∙◌, arith, length-append}
 use Rattle.std.proofs.lemmas.List.Sums.{fold-append, sum_by-append, sum_by-cons}
 use Rattle.qc_core.specs.Vocabulary.{IsLawful}
 use Rattle.qc_decl.specs.Vocabulary.{IsAccepted, controller}
@@ -25,7 +26,8 @@ use Rattle.laws_guarantees.specs.Vocabulary.{Arrives, IsLossless}
 use Rattle.laws_guarantees.proofs.NeverRisen.{operations_written}
 use Rattle.laws_guarantees.proofs.Passing.{no_request_is_lost}
 use Rattle.laws_room.specs.Vocabulary.{IsPlain, commands_of, dos_of}
-use Rattle.laws_room.proofs.OperationPrices.{dos_paid, in_operations, operation_budget, operations_cost, operations_fair}
+use Rattle.laws_room.proofs.OperationPrices.{dos_paid, in_operations, operation_budget, operations_cost}
+use Rattle.laws_room.proofs.OperationPrices.{operations_fair}
 use Rattle.laws_room.proofs.Costs.{cost_of, script_budget, step_cost}
 use Rattle.laws_room.proofs.Paid.{run_paid}
 use Rattle.laws_room.proofs.Prices.{Prices}
@@ -37,7 +39,10 @@ cost-more : (p : Prices) (h k : List Entry) → cost_of p (h ++ k) ≡ cost_of p
 cost-more p h k = sum_by-append (λ (e : Entry). step_cost p e.step) h k
 
 each_one : (a : ℕ) (s : Step) → step_cost in_steps s ≡ 1 → cost_of in_steps (marked a s ∷ []) ≡ 1
-each_one a s one = let all : cost_of in_steps (marked a s ∷ []) ≡ step_cost in_steps s + 0 = sum_by-cons (λ (e : Entry). step_cost in_steps e.step) (marked a s) [] in omega arith
+each_one a s one =
+    let all : cost_of in_steps (marked a s ∷ []) ≡ step_cost in_steps s + 0 =
+    sum_by-cons (λ (e : Entry). step_cost in_steps e.step) (marked a s) [] in
+    omega arith
 
 steps_wrote : (a : ℕ) (o : Option Record) → length (by a (wrote o)) ≡ cost_of in_steps (by a (wrote o))
 steps_wrote a None = refl
@@ -50,8 +55,11 @@ steps_told a (Some r) = omega arith
 steps_sents : (a n : ℕ) (ss : List Posting) → length (by a (sents n ss)) ≡ cost_of in_steps (by a (sents n ss))
 steps_sents a n [] = refl
 steps_sents a n (s ∷ ss) =
-    let rest : length (by a (sents (n + 1) ss)) ≡ cost_of in_steps (by a (sents (n + 1) ss)) = steps_sents a (n + 1) ss in
-    let c : cost_of in_steps (by a (sents n (s ∷ ss))) ≡ 1 + cost_of in_steps (by a (sents (n + 1) ss)) = sum_by-cons (λ (e : Entry). step_cost in_steps e.step) (marked a (steps.Sent n s.to s.message)) (by a (sents (n + 1) ss)) in
+    let rest : length (by a (sents (n + 1) ss)) ≡ cost_of in_steps (by a (sents (n + 1) ss)) =
+    steps_sents a (n + 1) ss in
+    let c : cost_of in_steps (by a (sents n (s ∷ ss))) ≡ 1 + cost_of in_steps (by a (sents (n + 1) ss)) =
+    sum_by-cons (λ (e : Entry). step_cost in_steps e.step) (marked a (steps.Sent n s.to s.message))
+    (by a (sents (n + 1) ss)) in
     omega arith
 
 steps_posted : (a n : ℕ) (turn : Turn) → length (by a (posted n turn)) ≡ cost_of in_steps (by a (posted n turn))
@@ -71,7 +79,8 @@ steps_posted a n turn =
     whole =
         let l : length (w ++ (s ++ t)) ≡ length w + length (s ++ t) = length-append w (s ++ t) in
         let m : length (s ++ t) ≡ length s + length t = length-append s t in
-        let c : cost_of in_steps (w ++ (s ++ t)) ≡ cost_of in_steps w + cost_of in_steps (s ++ t) = cost-more in_steps w (s ++ t) in
+        let c : cost_of in_steps (w ++ (s ++ t)) ≡ cost_of in_steps w + cost_of in_steps (s ++ t) =
+        cost-more in_steps w (s ++ t) in
         let d : cost_of in_steps (s ++ t) ≡ cost_of in_steps s + cost_of in_steps t = cost-more in_steps s t in
         let x : length w ≡ cost_of in_steps w = steps_wrote a turn.write in
         let y : length s ≡ cost_of in_steps s = steps_sents a n turn.sends in
@@ -87,27 +96,43 @@ phase_more : (h k : List Entry) → phase_of (h ++ k) ≡ fold (λ (n : ℕ) (e 
 phase_more h k = fold-append (λ (n : ℕ) (e : Entry). phase_at n e.step) 0 h k
 
 module _ (decl : Declaration) (script : Script) (lossless : IsLossless script) where
-  pub steps_cost : (h : List Entry) (open_inputs : List Bool) → Runs (IsLawful decl) decl script h open_inputs → length h ≡ cost_of in_steps h + phase_of h
+  pub steps_cost : (h : List Entry) (open_inputs : List Bool) → Runs (IsLawful decl) decl script h open_inputs
+      → length h ≡ cost_of in_steps h + phase_of h
   steps_cost h open_inputs begins = refl
   steps_cost h open_inputs (takes b g before older run free rdy) =
       let old : length older ≡ cost_of in_steps older + phase_of older = steps_cost older before run in
-      let l : length (older ++ marked b (step_of g) ∷ []) ≡ length older + 1 = length-append older (marked b (step_of g) ∷ []) in
-      let c : cost_of in_steps (older ++ marked b (step_of g) ∷ []) ≡ cost_of in_steps older + cost_of in_steps (marked b (step_of g) ∷ []) = cost-more in_steps older (marked b (step_of g) ∷ []) in
+      let l : length (older ++ marked b (step_of g) ∷ []) ≡ length older + 1 =
+      length-append older (marked b (step_of g) ∷ []) in
+      let c : cost_of in_steps (older ++ marked b (step_of g) ∷ [])
+      ≡ cost_of in_steps older + cost_of in_steps (marked b (step_of g) ∷ []) =
+      cost-more in_steps older (marked b (step_of g) ∷ []) in
       let one : cost_of in_steps (marked b (step_of g) ∷ []) ≡ 1 = each_one b (step_of g) (step_of-cost g) in
       let same : phase_of (older ++ marked b (step_of g) ∷ []) ≡ phase_of older = phase_taken older b g in
       omega arith
   steps_cost h open_inputs (posts b turn before older run open_still lawful) =
       let old : length older ≡ cost_of in_steps older + phase_of older = steps_cost older before run in
-      let l : length (older ++ by b (posted (length (mail older)) turn)) ≡ length older + length (by b (posted (length (mail older)) turn)) = length-append older (by b (posted (length (mail older)) turn)) in
-      let c : cost_of in_steps (older ++ by b (posted (length (mail older)) turn)) ≡ cost_of in_steps older + cost_of in_steps (by b (posted (length (mail older)) turn)) = cost-more in_steps older (by b (posted (length (mail older)) turn)) in
-      let one : length (by b (posted (length (mail older)) turn)) ≡ cost_of in_steps (by b (posted (length (mail older)) turn)) = steps_posted b (length (mail older)) turn in
-      let same : phase_of (older ++ by b (posted (length (mail older)) turn)) ≡ phase_of older = phase_posted older b (length (mail older)) turn in
+      let l : length (older ++ by b (posted (length (mail older)) turn))
+      ≡ length older + length (by b (posted (length (mail older)) turn)) =
+      length-append older (by b (posted (length (mail older)) turn)) in
+      let c : cost_of in_steps (older ++ by b (posted (length (mail older)) turn))
+      ≡ cost_of in_steps older + cost_of in_steps (by b (posted (length (mail older)) turn)) =
+      cost-more in_steps older (by b (posted (length (mail older)) turn)) in
+      let one : length (by b (posted (length (mail older)) turn))
+      ≡ cost_of in_steps (by b (posted (length (mail older)) turn)) =
+      steps_posted b (length (mail older)) turn in
+      let same : phase_of (older ++ by b (posted (length (mail older)) turn)) ≡ phase_of older =
+      phase_posted older b (length (mail older)) turn in
       omega arith
   steps_cost h open_inputs (phase before older run none done quiet more) =
       let old : length older ≡ cost_of in_steps older + phase_of older = steps_cost older before run in
-      let l : length (older ++ marked (controller decl) (steps.Phase (phase_of older + 1)) ∷ []) ≡ length older + 1 = length-append older (marked (controller decl) (steps.Phase (phase_of older + 1)) ∷ []) in
-      let c : cost_of in_steps (older ++ marked (controller decl) (steps.Phase (phase_of older + 1)) ∷ []) ≡ cost_of in_steps older + 0 = cost-more in_steps older (marked (controller decl) (steps.Phase (phase_of older + 1)) ∷ []) in
-      let next : phase_of (older ++ marked (controller decl) (steps.Phase (phase_of older + 1)) ∷ []) ≡ phase_of older + 1 = phase_more older (marked (controller decl) (steps.Phase (phase_of older + 1)) ∷ []) in
+      let l : length (older ++ marked (controller decl) (steps.Phase (phase_of older + 1)) ∷ []) ≡ length older + 1 =
+      length-append older (marked (controller decl) (steps.Phase (phase_of older + 1)) ∷ []) in
+      let c : cost_of in_steps (older ++ marked (controller decl) (steps.Phase (phase_of older + 1)) ∷ [])
+      ≡ cost_of in_steps older + 0 =
+      cost-more in_steps older (marked (controller decl) (steps.Phase (phase_of older + 1)) ∷ []) in
+      let next : phase_of (older ++ marked (controller decl) (steps.Phase (phase_of older + 1)) ∷ [])
+      ≡ phase_of older + 1 =
+      phase_more older (marked (controller decl) (steps.Phase (phase_of older + 1)) ∷ []) in
       omega arith
   steps_cost h open_inputs (control line lines step before older run left is) =
       let r : Arrives script 0 older = no_request_is_lost decl script older before lossless run 0 in
@@ -137,5 +162,6 @@ steps_are_few decl script accepted plain h open_inputs run =
     let all : script_budget in_steps decl.sites script.phases ≤ commands_of script * (3 + 18 * decl.sites) =
     steps_paid decl.sites script in
     let same : length h ≡ cost_of in_steps h + phase_of h = steps_cost decl script plain.lossless h open_inputs run in
-    let few : phase_of h ≤ length script.phases = phases_are_the_scripts (IsLawful decl) decl script h open_inputs run in
+    let few : phase_of h ≤ length script.phases =
+    phases_are_the_scripts (IsLawful decl) decl script h open_inputs run in
     omega arith

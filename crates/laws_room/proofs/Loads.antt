@@ -59,8 +59,8 @@ module _ (count seed : ℕ) (few : count ≤ 500) where
   low : 6 * dos_of (load_of count seed) * dos_of (load_of count seed) ≤ 6 * dos_of (load_of count seed) * 1000
   low = mul-le-mul_left (6 * dos_of (load_of count seed)) (omega (arith, dos, few))
 
-  pub load_room : HasRoom three (load_of count seed)
-  load_room = record {
+  pub loads_have_room : HasRoom three (load_of count seed)
+  loads_have_room = record {
     plain = record {
       lossless = record { links = refl; controls = no_controls count 0 seed };
       epochs = no_epochs count 0 seed;
@@ -69,6 +69,3 @@ module _ (count seed : ℕ) (few : count ≤ 500) where
     operations = omega (arith, dos, few);
     lines = omega (arith, low, dos, few);
   }
-
-pub loads_have_room : (count seed : ℕ) → count ≤ 500 → HasRoom three (load_of count seed)
-loads_have_room count seed few = load_room count seed few

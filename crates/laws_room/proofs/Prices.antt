@@ -1,5 +1,5 @@
--- What a deed costs, and what pays for it: a command pays for what it sets off, and a message for what it sets off where
--- it is taken. One form for all that is counted of a history.
+-- What a deed costs, and what pays for it: a command for what it sets off, and a message for what it sets off where it
+-- is taken. One form for all that is counted of a history.
 use Rattle.std.proofs.Common.{◌≡◌, ℕ, ◌+◌, ◌≤◌, List, [], ◌∷◌, ◌++◌, Option, Some, None, refl, ap, arith}
 use Rattle.qc_entry.specs.declared.line.Line.{Line}
 use Rattle.qc_entry.specs.declared.record.Commit.{Commit}
@@ -37,8 +37,8 @@ pub record Prices : Type 0 where
   pub written : Record → ℕ
   pub sent : Message → ℕ
   pub credit : Message → ℕ
-  -- what a request of each kind costs at most, with what it pays for, and so a verdict; a commit record, and each of its
-  -- operations
+  -- what a request of each kind costs at most, with what it pays for, and so does a verdict; and what a commit record
+  -- costs, and each of its operations
   pub read : ℕ
   pub append : ℕ
   pub prepare : ℕ
@@ -54,7 +54,8 @@ full p m = p.sent m + p.credit m
 -- verdict to each
 abbrev pub budget : Prices → ℕ → Command → ℕ
 budget p sites commands.Begin = p.step + p.step
-budget p sites (commands.Do object inv) = (p.step + p.step) + (p.operation + (times p.read sites + times p.append sites))
+budget p sites (commands.Do object inv) =
+    (p.step + p.step) + (p.operation + (times p.read sites + times p.append sites))
 budget p sites commands.Commit = (p.step + p.step) + (p.commit + (times p.prepare sites + times p.decision sites))
 budget p sites commands.Abort = (p.step + p.step) + times p.decision sites
 budget p sites (commands.Epoch number) = p.step + p.step
@@ -92,11 +93,15 @@ spent p (d ∷ ds) = spent_by p d + spent p ds
 
 pub spent-append : (p : Prices) (xs ys : List Deed) → spent p (xs ++ ys) ≡ spent p xs + spent p ys
 spent-append p [] ys = omega arith
-spent-append p (d ∷ xs) ys = let rest : spent p (xs ++ ys) ≡ spent p xs + spent p ys = spent-append p xs ys in omega arith
+spent-append p (d ∷ xs) ys =
+    let rest : spent p (xs ++ ys) ≡ spent p xs + spent p ys = spent-append p xs ys in omega arith
 
-pub earned-append : (p : Prices) (sites : ℕ) (xs ys : List Deed) → earned p sites (xs ++ ys) ≡ earned p sites xs + earned p sites ys
+pub earned-append : (p : Prices) (sites : ℕ) (xs ys : List Deed)
+    → earned p sites (xs ++ ys) ≡ earned p sites xs + earned p sites ys
 earned-append p sites [] ys = omega arith
-earned-append p sites (d ∷ xs) ys = let rest : earned p sites (xs ++ ys) ≡ earned p sites xs + earned p sites ys = earned-append p sites xs ys in omega arith
+earned-append p sites (d ∷ xs) ys =
+    let rest : earned p sites (xs ++ ys) ≡ earned p sites xs + earned p sites ys = earned-append p sites xs ys in
+    omega arith
 
 -- what a turn costs
 
@@ -129,8 +134,12 @@ spent-tells p (Some r) = omega arith
 
 pub spent-turn : (p : Prices) (n : ℕ) (turn : Turn) → spent p (turn_deeds n turn) ≡ turn_cost p turn
 spent-turn p n turn =
-    let a : spent p (turn_deeds n turn) ≡ spent p (writes_of turn.write) + spent p (sends_of n turn.sends ++ tells_of turn.told) = spent-append p (writes_of turn.write) (sends_of n turn.sends ++ tells_of turn.told) in
-    let b : spent p (sends_of n turn.sends ++ tells_of turn.told) ≡ spent p (sends_of n turn.sends) + spent p (tells_of turn.told) = spent-append p (sends_of n turn.sends) (tells_of turn.told) in
+    let a : spent p (turn_deeds n turn) ≡ spent p (writes_of turn.write)
+    + spent p (sends_of n turn.sends ++ tells_of turn.told) =
+    spent-append p (writes_of turn.write) (sends_of n turn.sends ++ tells_of turn.told) in
+    let b : spent p (sends_of n turn.sends ++ tells_of turn.told) ≡ spent p (sends_of n turn.sends)
+    + spent p (tells_of turn.told) =
+    spent-append p (sends_of n turn.sends) (tells_of turn.told) in
     let w : spent p (writes_of turn.write) ≡ write_cost p turn.write = spent-writes p turn.write in
     let s : spent p (sends_of n turn.sends) ≡ sends_cost p turn.sends = spent-sends p n turn.sends in
     let t : spent p (tells_of turn.told) ≡ told_cost p turn.told = spent-tells p turn.told in
@@ -142,7 +151,8 @@ earned-writes p sites (Some w) = omega arith
 
 earned-sends : (p : Prices) (sites n : ℕ) (ss : List Posting) → earned p sites (sends_of n ss) ≡ 0
 earned-sends p sites n [] = refl
-earned-sends p sites n (s ∷ ss) = let rest : earned p sites (sends_of (n + 1) ss) ≡ 0 = earned-sends p sites (n + 1) ss in omega arith
+earned-sends p sites n (s ∷ ss) =
+    let rest : earned p sites (sends_of (n + 1) ss) ≡ 0 = earned-sends p sites (n + 1) ss in omega arith
 
 earned-tells : (p : Prices) (sites : ℕ) (o : Option Reply) → earned p sites (tells_of o) ≡ 0
 earned-tells p sites None = refl
@@ -150,8 +160,12 @@ earned-tells p sites (Some r) = omega arith
 
 pub earned-turn : (p : Prices) (sites n : ℕ) (turn : Turn) → earned p sites (turn_deeds n turn) ≡ 0
 earned-turn p sites n turn =
-    let a : earned p sites (turn_deeds n turn) ≡ earned p sites (writes_of turn.write) + earned p sites (sends_of n turn.sends ++ tells_of turn.told) = earned-append p sites (writes_of turn.write) (sends_of n turn.sends ++ tells_of turn.told) in
-    let b : earned p sites (sends_of n turn.sends ++ tells_of turn.told) ≡ earned p sites (sends_of n turn.sends) + earned p sites (tells_of turn.told) = earned-append p sites (sends_of n turn.sends) (tells_of turn.told) in
+    let a : earned p sites (turn_deeds n turn) ≡ earned p sites (writes_of turn.write)
+    + earned p sites (sends_of n turn.sends ++ tells_of turn.told) =
+    earned-append p sites (writes_of turn.write) (sends_of n turn.sends ++ tells_of turn.told) in
+    let b : earned p sites (sends_of n turn.sends ++ tells_of turn.told) ≡ earned p sites (sends_of n turn.sends)
+    + earned p sites (tells_of turn.told) =
+    earned-append p sites (sends_of n turn.sends) (tells_of turn.told) in
     let w : earned p sites (writes_of turn.write) ≡ 0 = earned-writes p sites turn.write in
     let s : earned p sites (sends_of n turn.sends) ≡ 0 = earned-sends p sites n turn.sends in
     let t : earned p sites (tells_of turn.told) ≡ 0 = earned-tells p sites turn.told in

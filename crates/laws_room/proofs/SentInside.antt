@@ -1,10 +1,10 @@
 -- In a run without falls all messages are of sites and clients, and go to sites and clients.
-use Rattle.std.proofs.Common.{◌≡◌, ℕ, ◌+◌, ◌-◌, ◌<◌, ◌≤◌, inl, inr, Bool, true, false, List, [], ◌∷◌, ◌++◌, length, Some}
+use Rattle.std.proofs.Common.{◌≡◌, ℕ, ◌+◌, ◌-◌, ◌<◌, ◌≤◌, inl, inr, Bool, true, false, List, [], ◌∷◌, ◌++◌, length}
+use Rattle.std.proofs.Common.{Some}
 use Rattle.std.proofs.Common.{slice_get, refl, sym, ap, ◌∙◌, subst, arith}
 use Rattle.std.specs.List.{AllByRecursion as Every}
 use Rattle.std.proofs.lemmas.Bool.{cases_lt}
 use Rattle.qc_list.proofs.Members.{every-append, every-weaker}
-use Rattle.qc_client.specs.declared.client.Client.{Client}
 use Rattle.qc_client.specs.Vocabulary.{client_after}
 use Rattle.qc_core.specs.Vocabulary.{IsLawful}
 use Rattle.qc_core.proofs.ActorLaws.{other_client}
@@ -16,7 +16,7 @@ use Rattle.qc_msg.specs.declared.message.Envelope.{Envelope}
 use Rattle.qc_msg.specs.declared.step.Step.TheVariants as steps
 use Rattle.qc_msg.specs.declared.turn.Posting.{Posting}
 use Rattle.qc_msg.specs.declared.turn.Turn.{Turn}
-use Rattle.qc_msg.specs.Vocabulary.{Deed, Entry, by, deeds, envelopes, mail, posted}
+use Rattle.qc_msg.specs.Vocabulary.{Entry, by, deeds, envelopes, mail, posted}
 use Rattle.qc_msg.proofs.GrownMail.{mail-append, mail-posted, mail-taken}
 use Rattle.qc_script.specs.Vocabulary.{Runs, phase_of}
 use Rattle.qc_script.specs.Runs.{begins, takes, posts, phase, control}
@@ -32,7 +32,7 @@ use Rattle.laws_room.proofs.AskedClients as asked_clients
 use Rattle.laws_room.proofs.AskedClients.{Asking, client_asked, move_of}
 use Rattle.laws_room.proofs.ClientSends.{client_sends}
 use Rattle.laws_room.proofs.SiteSends.{GoInside, IsFromInside, site_sends}
-use Rattle.laws_room.proofs.TakenMail.{EachTaken, IfMessage, each_taken, last_taken}
+use Rattle.laws_room.proofs.TakenMail.{EachTaken, each_taken, last_taken}
 
 module _ (decl : Declaration) where
   pub record IsInside (e : Envelope) : Type 0 where

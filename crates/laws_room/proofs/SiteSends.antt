@@ -1,5 +1,5 @@
 -- A site's messages go to who sent it something, or to the client of a transaction that holds something there.
-use Rattle.std.proofs.Common.{◌≡◌, ℕ, ◌+◌, ◌<◌, ◌==◌, ◌&&◌, not, nat_lt, Bool, true, false, List, [], ◌∷◌, ◌++◌, fold}
+use Rattle.std.proofs.Common.{◌≡◌, ℕ, ◌<◌, ◌&&◌, not, nat_lt, Bool, true, false, List, [], ◌∷◌, fold}
 use Rattle.std.proofs.Common.{Option, Some, None, refl, arith}
 use Rattle.std.specs.List.{AllByRecursion as Every}
 use Rattle.std.proofs.lemmas.Bool.{ltb-true}
@@ -25,8 +25,10 @@ use Rattle.qc_msg.specs.declared.step.Input.{Input}
 use Rattle.qc_msg.specs.declared.step.Input.TheVariants as inputs
 use Rattle.qc_msg.specs.declared.turn.Posting.{Posting}
 use Rattle.qc_msg.specs.Vocabulary.{Deed, Falls, Rises, Sends, Takes, Tells, Writes, quiet}
-use Rattle.qc_site.specs.Vocabulary.{SiteMove, SiteState, answers, clashing, closes, dropped, fault_of, finishes, grants}
-use Rattle.qc_site.specs.Vocabulary.{installs, moved, names_declared, names_object, new_site, passed, promise_of, requested}
+use Rattle.qc_site.specs.Vocabulary.{SiteMove, SiteState, answers, clashing, closes, dropped, fault_of, finishes}
+use Rattle.qc_site.specs.Vocabulary.{grants}
+use Rattle.qc_site.specs.Vocabulary.{installs, moved, names_declared, names_object, new_site, passed, promise_of}
+use Rattle.qc_site.specs.Vocabulary.{requested}
 use Rattle.qc_site.specs.Vocabulary.{site_after, site_at, site_does, site_takes}
 use Rattle.qc_site.proofs.RequestCases.{append_cases, choose, close_rows, install_rows, join_cases, prepare_cases}
 use Rattle.qc_site.proofs.RequestCases.{read_cases}

@@ -1,11 +1,10 @@
 -- A site's turn costs no more than the message that it answers to pays.
-use Rattle.std.proofs.Common.{◌≡◌, ℕ, ◌+◌, ◌≤◌, List, [], ◌∷◌, refl, arith}
+use Rattle.std.proofs.Common.{◌≡◌, ℕ, ◌+◌, ◌≤◌, List, [], refl, arith}
 use Rattle.qc_stamp.specs.declared.stamp.TxId.{TxId}
 use Rattle.qc_decl.specs.declared.declaration.Declaration.{Declaration}
 use Rattle.qc_entry.specs.declared.line.Line.{Line}
 use Rattle.qc_entry.specs.declared.line.OwnLine.{OwnLine}
 use Rattle.qc_entry.specs.Vocabulary.{of_object}
-use Rattle.qc_lock.specs.declared.clash.Clash.{Clash as Conflict}
 use Rattle.qc_msg.specs.declared.message.Answer.{Answer}
 use Rattle.qc_msg.specs.declared.message.Answer.TheVariants as answers
 use Rattle.qc_msg.specs.declared.message.Message.{Message}
@@ -20,7 +19,7 @@ use Rattle.qc_msg.specs.declared.step.Input.{Input}
 use Rattle.qc_msg.specs.declared.step.Input.TheVariants as inputs
 use Rattle.qc_msg.specs.Counts.{lines_answered}
 use Rattle.qc_msg.specs.Vocabulary.{grant_with, quiet, start_with}
-use Rattle.qc_site.specs.Vocabulary.{SiteMove, SiteState, answers as answered, clashing, closed, closes, finishes}
+use Rattle.qc_site.specs.Vocabulary.{SiteMove, SiteState, answers as answered, closed, closes, finishes}
 use Rattle.qc_site.specs.Vocabulary.{grants, installs, known, moved, passed, prepares, promise_of, shut_answer, site_at}
 use Rattle.qc_site.specs.Vocabulary.{site_takes}
 use Rattle.qc_site.proofs.RequestCases.{append_cases, close_cases, fault_is, join_cases, prepare_cases, read_cases}
@@ -54,7 +53,8 @@ module _ (decl : Declaration) (p : Prices) (fair : AreFair p) (s : SiteState) (f
     reads_fit read =
         read_cases (Fits (asked (Read read))) decl s from number tx read.object read.inv
         (λ free. (let low : p.step + full p (messages.Answer number
-        (answers.Granted (grant_with s.life s.clock (of_object (known s) read.object)))) ≤ p.credit (asked (Read read)) =
+        (answers.Granted (grant_with s.life s.clock (of_object (known s) read.object))))
+        ≤ p.credit (asked (Read read)) =
         fair.grants tx epoch life number read (grant_with s.life s.clock (of_object (known s) read.object)) in
         omega arith))
         (λ c clash. (let low : p.step + (full p (messages.Answer number (answers.Clash c.holder c.inv c.event))
@@ -68,7 +68,8 @@ module _ (decl : Declaration) (p : Prices) (fair : AreFair p) (s : SiteState) (f
         append_cases (Fits (asked (Append object view own))) decl s from number tx object view own
         (λ free. (let low : p.step + full p (messages.Answer number (answers.Granted (grant_with s.life s.clock [])))
         ≤ p.credit (asked (Append object view own)) =
-        fair.replies tx epoch life number (Append object view own) (answers.Granted (grant_with s.life s.clock [])) refl in
+        fair.replies tx epoch life number (Append object view own) (answers.Granted (grant_with s.life s.clock [])) refl
+        in
         omega arith))
         (λ c clash. (let low : p.step + (full p (messages.Answer number (answers.Clash c.holder c.inv c.event))
         + full p (messages.Inquiry c.holder)) ≤ p.credit (asked (Append object view own)) =
@@ -104,7 +105,8 @@ module _ (decl : Declaration) (p : Prices) (fair : AreFair p) (s : SiteState) (f
       (λ none. (let low : p.step ≤ p.credit (messages.Decision tx (Committed stamp)) =
       fair.input (messages.Decision tx (Committed stamp)) in omega arith))
       (λ promise some. (let low : p.step + p.written (records.Done tx stamp.clock)
-      ≤ p.credit (messages.Decision tx (Committed stamp)) = fair.finishes tx (Committed stamp) stamp.clock in omega arith))
+      ≤ p.credit (messages.Decision tx (Committed stamp)) =
+      fair.finishes tx (Committed stamp) stamp.clock in omega arith))
   finishes_fit tx Aborted = let low : p.step ≤ p.credit (messages.Decision tx Aborted) =
       fair.input (messages.Decision tx Aborted) in omega arith
   finishes_fit tx Active = let low : p.step ≤ p.credit (messages.Decision tx Active) =
@@ -132,7 +134,8 @@ module _ (decl : Declaration) (p : Prices) (fair : AreFair p) (s : SiteState) (f
 
   pub hears_fit : (m : Message) → Fits m (site_at decl s from number m)
   hears_fit =
-      site_cases decl s from number Fits quiet_fits (λ q. request_fits q.tx q.epoch q.life q.want) finishes_fit closes_fit
+      site_cases decl s from number Fits quiet_fits (λ q. request_fits q.tx q.epoch q.life q.want) finishes_fit
+      closes_fit
       installs_fit
 
 pub site_pays : (decl : Declaration) (p : Prices) → AreFair p → (s : SiteState) (g : Input)

@@ -58,4 +58,5 @@ constant k (x ∷ xs) =
 -- one number several times is a product
 pub times-mul : (k n : ℕ) → times k n ≡ n * k
 times-mul k zero = omega arith
-times-mul k (suc n) = let rest : times k n ≡ n * k = times-mul k n in let one : suc n * k ≡ n * k + k = suc-mul n k in omega arith
+times-mul k (suc n) =
+    let rest : times k n ≡ n * k = times-mul k n in let one : suc n * k ≡ n * k + k = suc-mul n k in omega arith

@@ -1,5 +1,5 @@
 -- Scripts of one client over one site: one that has room, and one with a rule of links.
-use Rattle.std.specs.Prelude.{ℕ, List, [], ◌∷◌, None}
+use Rattle.std.specs.Prelude.{[], ◌∷◌, None}
 use Rattle.qc_decl.specs.declared.declaration.Declaration.{Declaration}
 use Rattle.qc_link.specs.declared.rule.Rule.TheVariants as rules
 use Rattle.qc_msg.specs.declared.step.Command.{Command}
