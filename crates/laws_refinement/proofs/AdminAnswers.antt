@@ -132,7 +132,8 @@ module _ (decl : Declaration) (acts : List Act) (net : Net) (run : IsRun decl ac
             granted = λ a never. absurd never;
           })
 
-      by : (b c : Bool) → (number == net.admin.epoch + 1) ≡ c → Goes decl acts net run m up ((cond b (again decl net.admin net.admin.decided)
+      by : (b c : Bool) → (number == net.admin.epoch + 1) ≡ c
+          → Goes decl acts net run m up ((cond b (again decl net.admin net.admin.decided)
           (cond c (closes decl net.admin number [] (close_round decl net.admin.epoch) [])
           (replies_with net.admin (replies.Order net.admin.epoch)))))
       by true c is = again_case decl acts net run m up net.admin.decided refl

@@ -85,7 +85,8 @@ module _ (decl : Declaration) (acts : List Act) (net : Net) (run : IsRun decl ac
               hit_by (is_number number q.number)
               (λ is. absurd (let k : is_number number q.number ≡ false = ap (λ (o : Option ℕ). is_number number o) e in
               let never : ⊥ = cc in never))
-          number_by (Some n) e = hit_by (is_number number q.number) (λ is. (let k : (n == number) ≡ true = sym (ap (λ (o : Option ℕ). is_number number o) e) ∙ is in
+          number_by (Some n) e = hit_by (is_number number q.number)
+              (λ is. (let k : (n == number) ≡ true = sym (ap (λ (o : Option ℕ). is_number number o) e) ∙ is in
               subst (λ (i : ℕ). IsMessage net.mail i (client_actor decl q.tx.client) (messages.Ask q.tx))
               (eqb-true n number k) (subst (λ (o : Option ℕ). IsNumbered decl net.mail q.tx o) e x.numbered)))
 

@@ -115,7 +115,9 @@ module _ (decl : Declaration) (acts : List Act) (net : Net) (run : IsRun decl ac
               deeds = refl;
               lives = refl;
             })
-            (shown (state acts) move admin (subst (λ (o : Option Record). RulesMirror decl (state acts) (kept_by (net.records (administrator decl) ++ option_to_list o))) (sym unwritten)
+            (shown (state acts) move admin
+            (subst (λ (o : Option Record). RulesMirror decl (state acts)
+            (kept_by (net.records (administrator decl) ++ option_to_list o))) (sym unwritten)
             (subst (λ (rs : List Record). RulesMirror decl (state acts) (kept_by rs))
             (sym (append-nil (net.records (administrator decl)))) m.rules)))
             turn;
@@ -137,7 +139,8 @@ module _ (decl : Declaration) (acts : List Act) (net : Net) (run : IsRun decl ac
       (net.mail ++ envelopes (administrator decl) (length net.mail) ps) (all_sent move.admin (length net.mail) ps))
       (sym none)
       (subst (λ (x : Admin). AdminMirrors decl (state acts) (net.mail ++ []) x) (sym same)
-      (admin_later decl (state acts) (state acts) (same_state (state acts)) net.mail [] (doing net.admin d) (record { planned = (m.admin up).planned; decided = (m.admin up).decided; doing = h })))) long
+      (admin_later decl (state acts) (state acts) (same_state (state acts)) net.mail [] (doing net.admin d)
+      (record { planned = (m.admin up).planned; decided = (m.admin up).decided; doing = h })))) long
 
   pub ended : (reply : Reply) → (Some reply ≡ Some replies.Fault → IsTooLong decl (state acts))
       → Goes ((replies_with net.admin reply))

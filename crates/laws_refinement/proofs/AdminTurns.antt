@@ -98,7 +98,8 @@ module _ (decl : Declaration) (acts : List Act) (net : Net) (run : IsRun decl ac
       }
 
       by : (b : Bool) → nat_le (epoch_length (merged shuts questions)) most_record_bytes ≡ b → Goes ((cond b
-          (moved (record { epoch = k; decided = Some (decision k shuts questions); doing = installing decl closed }) (record {
+          (moved (record { epoch = k; decided = Some (decision k shuts questions); doing = installing decl closed })
+          (record {
             write =
                 Some (records.Decide (start_with k (greatest shuts questions) (merged shuts questions)));
             sends = install_sends decl (decision k shuts questions);
@@ -146,7 +147,11 @@ module _ (decl : Declaration) (acts : List Act) (net : Net) (run : IsRun decl ac
                   deeds = refl;
                   lives = refl;
                 })
-                (shown decl acts net run m up v move (installs_sent decl acts net run m up v (net.mail ++ envelopes (administrator decl) (length net.mail) (install_sends decl (decision k shuts questions))) (record { epoch = k; decided = Some (decision k shuts questions); doing = installing decl closed }) (decision k shuts questions)
+                (shown decl acts net run m up v move
+                (installs_sent decl acts net run m up v (net.mail ++ envelopes (administrator decl) (length net.mail)
+                (install_sends decl (decision k shuts questions)))
+                (record { epoch = k; decided = Some (decision k shuts questions); doing = installing decl closed })
+                (decision k shuts questions)
                 closed (all_sites decl) [] [] (length net.mail) (all_sites decl) planned (refl, is_decided))
                 (subst (λ (o : Option EpochStart). RulesMirror decl v o)
                 (sym (rule_more (net.records (administrator decl))
@@ -155,22 +160,23 @@ module _ (decl : Declaration) (acts : List Act) (net : Net) (run : IsRun decl ac
                 (installs_backed decl acts net run m up v (decision k shuts questions) is_decided);
           };
         },
-        (λ r wrote. (let e : records.Decide (start_with k (greatest shuts questions) (merged shuts questions)) ≡ r = cc in (
-          subst (λ (x : Record). IsPendingRule decl (state acts) (Some x)) e (record {
-            decision =
-                decision_of decl (state acts) k net.mail net.admin.epoch shuts questions next enough told covered each
-                none;
-            may =
-                may_decide decl (state acts) k net.mail net.admin.epoch shuts questions next enough told covered each
-                none;
-            epoch_is = refl;
-            clock_is = refl;
-            log_is = refl;
-            sorted = merged_ascends shuts questions (λ s among. (told s among).sorted);
-            planned = planned;
-          }),
-          refl,
-        ))),
+        (λ r wrote.
+            (let e : records.Decide (start_with k (greatest shuts questions) (merged shuts questions)) ≡ r = cc in (
+              subst (λ (x : Record). IsPendingRule decl (state acts) (Some x)) e (record {
+                decision =
+                    decision_of decl (state acts) k net.mail net.admin.epoch shuts questions next enough told covered
+                    each none;
+                may =
+                    may_decide decl (state acts) k net.mail net.admin.epoch shuts questions next enough told covered
+                    each none;
+                epoch_is = refl;
+                clock_is = refl;
+                log_is = refl;
+                sorted = merged_ascends shuts questions (λ s among. (told s among).sorted);
+                planned = planned;
+              }),
+              refl,
+            ))),
         inr (record {
           next = k;
           clock = greatest shuts questions;

@@ -97,7 +97,10 @@ module _ (decl : Declaration) (acts : List Act) (net : Net) (a : ℕ) (run : IsR
 
       by : (r : Option CommitRecord) (active : Bool) → record_of (net.clients a).desk.commits tx ≡ r
           → is_begun tx (net.clients a).front.transaction ≡ active
-          → Refines decl (after_client net a (moved (net.clients a) (sending (record { to = from; message = messages.Decision tx (outcome_by (known_by r) active) } ∷ []))))
+          → Refines decl
+          (after_client net a
+          (moved (net.clients a)
+          (sending (record { to = from; message = messages.Decision tx (outcome_by (known_by r) active) } ∷ []))))
       by (Some r) active found is =
           let k : In r (net.clients a).desk.commits × (same_tx r.tx tx ≡ true) =
           find_in (λ (x : CommitRecord). same_tx x.tx tx) (net.clients a).desk.commits r found in

@@ -1,19 +1,15 @@
 -- A commit begins: promises are asked for, or it ends at once (that it ends by its votes: ClientVotes).
-use Rattle.std.proofs.Common.{◌≡◌, ◌≤◌, ℕ, suc, ◌==◌, Bool, true, false, cond, inl, inr, List, [], ◌∷◌, map, length}
-use Rattle.std.proofs.Common.{Option, Some, None, refl, sym, ap, ◌∙◌, subst, eqb-true, arith}
+use Rattle.std.proofs.Common.{◌≡◌, ◌≤◌, ℕ, suc, ◌==◌, Bool, true, false, cond, inl, List, [], ◌∷◌, map, length, Option}
+use Rattle.std.proofs.Common.{Some, None, refl, sym, ap, ◌∙◌, subst, eqb-true, arith}
 use Rattle.qc_list.specs.Vocabulary.{In}
 use Rattle.qc_entry.specs.declared.record.Commit.{Commit as CommitRecord}
 use Rattle.qc_decl.specs.declared.declaration.Declaration.{Declaration}
 use Rattle.qc_decl.specs.Vocabulary.{client_actor, first_site, is_client}
-use Rattle.qc_msg.specs.declared.begun.Begun.{Begun}
-use Rattle.qc_msg.specs.declared.message.Envelope.{Envelope}
 use Rattle.qc_msg.specs.declared.reply.Reply.TheVariants as replies
 use Rattle.qc_msg.specs.declared.reply.AbortCause.TheVariants as causes
 use Rattle.qc_msg.specs.declared.step.Command.TheVariants as commands
-use Rattle.qc_msg.specs.declared.turn.Posting.{Posting}
-use Rattle.qc_msg.specs.Vocabulary.{has_granted, life_of, quiet, sending}
-use Rattle.theory_machine.specs.Vocabulary.{Act, Active, Granted, IsLive, IsRun, MayPrepare, NotBegun, Prepare, State}
-use Rattle.theory_machine.specs.Vocabulary.{Voting, state}
+use Rattle.qc_msg.specs.Vocabulary.{has_granted, quiet, sending}
+use Rattle.theory_machine.specs.Vocabulary.{Act, Active, Granted, IsLive, IsRun, Prepare, State, Voting, state}
 use Rattle.theory_machine.proofs.Keeps.{laws}
 use Rattle.theory_machine.proofs.Names.{put_tx_here}
 use Rattle.qc_commit.specs.declared.desk.Desk.{Desk}
@@ -27,8 +23,8 @@ use Rattle.qc_front.specs.Conduct as fronts
 use Rattle.qc_front.specs.Vocabulary.{gives_up, moved as front_moved}
 use Rattle.qc_client.specs.Vocabulary.{ClientMove, by_desk, by_front, commits}
 use Rattle.qc_client.specs.declared.client.Client.{Client}
-use Rattle.laws_refinement.specs.Vocabulary.{Backed, BegunMirrors, IsChosen, IsPlanned, LivesMirror, Mirrors, Net}
-use Rattle.laws_refinement.specs.Vocabulary.{OwnMirrors, Refines, RunningMirrors, after_client, status_by}
+use Rattle.laws_refinement.specs.Vocabulary.{BegunMirrors, IsChosen, IsPlanned, Mirrors, Net, OwnMirrors, Refines}
+use Rattle.laws_refinement.specs.Vocabulary.{RunningMirrors, after_client, status_by}
 use Rattle.qc_list.proofs.Members.{In-passes}
 use Rattle.qc_plan.specs.Vocabulary.{cyclic}
 use Rattle.laws_refinement.proofs.Ballots.{blank_in, blank_votes, participates}
@@ -37,40 +33,11 @@ use Rattle.laws_refinement.proofs.ClientEnding.{Ending, ending_of, ends_mine, ow
 use Rattle.laws_refinement.proofs.ClientEnds.{commits_it, Pends, pends_it}
 use Rattle.qc_front.proofs.Unwritten.{front_called}
 use Rattle.qc_msg.specs.declared.record.Record.{Record}
-use Rattle.laws_refinement.proofs.RequestsSent.{IsAsking}
 use Rattle.laws_refinement.proofs.ClientRounds.{nothing}
 use Rattle.laws_refinement.proofs.ClientSteps.{Mid, mid_first, refined, turns}
+use Rattle.laws_refinement.proofs.PromisesAsked.{prepares_asking, prepares_backed}
 
 module _ (decl : Declaration) where
-  -- the requests for promises
-
-  prepares_backed : (v : State) (ms : List Envelope) (a : ℕ) (b : Begun) (sites : List ℕ)
-      → a ≡ client_actor decl b.tx.client → v.status b.tx ≡ Voting → b.epoch ≡ v.epoch b.tx
-      → LivesMirror v.counted b.tx b.lives → ((s : ℕ) → In s sites → has_granted b.lives s ≡ true) → (p : Posting)
-      → In p (map (prepares b) sites) → Backed decl v ms a p.to p.message
-  prepares_backed v ms a b [] actor voting epoch lives all p among = absurd among
-  prepares_backed v ms a b (site ∷ sites) actor voting epoch lives all p (inl same) =
-      subst (λ (x : Posting). Backed decl v ms a x.to x.message) (sym same) (
-        actor,
-        (λ e. (let k : Voting ≡ NotBegun = sym voting ∙ e in let never : ⊥ = cc in never)),
-        epoch,
-        (
-          subst MayPrepare (sym voting) tt,
-          lives.positive site (all site (inl refl)),
-          (λ g among its at. lives.each g among its ∙ ap (λ (s : ℕ). life_of b.lives s) at),
-        ),
-      )
-  prepares_backed v ms a b (site ∷ sites) actor voting epoch lives all p (inr rest) =
-      prepares_backed v ms a b sites actor voting epoch lives (λ s h. all s (inr h)) p rest
-
-  prepares_asking : (c : Client) (t : Transaction) (v : DeskVoting) (sites : List ℕ) → c.front.transaction ≡ Some t
-      → c.desk.voting ≡ Some v → (p : Posting) → In p (map (prepares t.begun) sites) → IsAsking decl c p.to p.message
-  prepares_asking c t v [] is votes p among = absurd among
-  prepares_asking c t v (site ∷ sites) is votes p (inl same) =
-      subst (λ (x : Posting). IsAsking decl c x.to x.message) (sym same)
-      (record { t = t; is = is; its = refl; epoch_is = refl; life_is = refl; for = (v, votes) })
-  prepares_asking c t v (site ∷ sites) is votes p (inr rest) = prepares_asking c t v sites is votes p rest
-
   module _ (acts : List Act) (net : Net) (a : ℕ) (run : IsRun decl acts) (m : Mirrors decl (state acts) net)
       (client : is_client decl a ≡ true) (up : net.up a ≡ true) where
     -- the machine goes along with a turn, and its record may be pending
@@ -126,7 +93,17 @@ module _ (decl : Declaration) where
             own_put decl (state acts) (state (Prepare t.begun.tx ∷ acts)) a (net.clients a)
             (record (net.clients a) { desk = d }) t Voting (Some t)
             (ending_of decl (state acts) net.mail a (net.clients a) t (m.clients a client up) is).0 refl
-            (record { client = refl; life = refl; count = refl; epoch = (ending_of decl (state acts) net.mail a (net.clients a) t (m.clients a client up) is).0.own.epoch; desk = client_is; desk_epoch = subst (λ (x : ℕ). IsPlanned decl x) (sym epoch) (ending_of decl (state acts) net.mail a (net.clients a) t (m.clients a client up) is).0.own.desk_epoch })
+            (record {
+              client = refl;
+              life = refl;
+              count = refl;
+              epoch = (ending_of decl (state acts) net.mail a (net.clients a) t (m.clients a client up) is).0.own.epoch;
+              desk = client_is;
+              desk_epoch =
+                  subst (λ (x : ℕ). IsPlanned decl x) (sym epoch)
+                  (ending_of decl (state acts) net.mail a (net.clients a) t
+                  (m.clients a client up) is).0.own.desk_epoch;
+            })
             (ending_of decl (state acts) net.mail a (net.clients a) t (m.clients a client up) is).0.own.clock
             (λ r h. inl (subst (λ (rs : List CommitRecord). In r rs) same h))
             (λ u its other none. absurd (let never : ⊥ = cc in never))
@@ -134,7 +111,11 @@ module _ (decl : Declaration) where
 
         placed : (g : Granted) → In g (state acts).counted → g.tx ≡ t.begun.tx
             → In g.site (participants decl (net.clients a).desk.client t.begun)
-        placed g among its = participates decl (net.clients a).desk.client t.begun g.site (m.placed g ((laws decl acts run).known g among)) ((ending_of decl (state acts) net.mail a (net.clients a) t (m.clients a client up) is).0.begun.lives.participants g among its)
+        placed g among its =
+            participates decl (net.clients a).desk.client t.begun g.site
+            (m.placed g ((laws decl acts run).known g among))
+            ((ending_of decl (state acts) net.mail a (net.clients a) t
+            (m.clients a client up) is).0.begun.lives.participants g among its)
 
         empty : (xs : List ℕ) → length xs ≡ 0 → (s : ℕ) → In s xs → ⊥
         empty [] n s among = among
@@ -240,12 +221,12 @@ module _ (decl : Declaration) where
                   },
                 );
               })
-              (prepares_backed v net.mail a t.begun (participants decl c.desk.client t.begun)
+              (prepares_backed decl v net.mail a t.begun (participants decl c.desk.client t.begun)
               (e.0.own.actor ∙ ap (λ (n : ℕ). client_actor decl n) (sym (ends_mine decl w a c t e.0)))
               (put_tx_here w.status t.begun.tx Voting) e.0.begun.epoch e.0.begun.lives
               (λ s among. In-passes (has_granted t.begun.lives) s
               (cyclic decl.sites (first_site decl (net.clients a).desk.client)) among))
-              (prepares_asking asked_client t
+              (prepares_asking decl asked_client t
               (record { begun = t.begun; calls = []; ballots = blank (participants decl c.desk.client t.begun) })
               (participants decl c.desk.client t.begun) is refl)),
           (λ r wrote. absurd (let never : ⊥ = cc in never)),
@@ -261,8 +242,7 @@ module _ (decl : Declaration) where
         refl refl refl)
     commit_case rests free (Some t) is = by t.begun.doomed refl
       where
-        by : (dooms : Bool) → t.begun.doomed
-            ≡ dooms
+        by : (dooms : Bool) → t.begun.doomed ≡ dooms
             → Refines decl
             (after_client net a
             (cond dooms (by_front (net.clients a) (fronts.called decl (net.clients a).front commands.Commit))
@@ -290,7 +270,14 @@ module _ (decl : Declaration) where
         let both : None ≡ Some r = sym n ∙ wrote in let never : ⊥ = cc in never)
     commit_fails rests free (Some t) is r wrote = by t.begun.doomed refl wrote
       where
-        by : (dooms : Bool) → t.begun.doomed ≡ dooms → (cond dooms (by_front (net.clients a) (fronts.called decl (net.clients a).front commands.Commit)) (by_desk (net.clients a) (prepare decl (net.clients a).desk t.begun (net.clients a).front.clock.value))).turn.write ≡ Some r → Pends decl (state acts) net a r × ((cond dooms (by_front (net.clients a) (fronts.called decl (net.clients a).front commands.Commit)) (by_desk (net.clients a) (prepare decl (net.clients a).desk t.begun (net.clients a).front.clock.value))).turn.failed_sends ≡ [])
+        by : (dooms : Bool) → t.begun.doomed ≡ dooms
+            → (cond dooms (by_front (net.clients a) (fronts.called decl (net.clients a).front commands.Commit))
+            (by_desk (net.clients a)
+            (prepare decl (net.clients a).desk t.begun (net.clients a).front.clock.value))).turn.write ≡ Some r
+            → Pends decl (state acts) net a r
+            × ((cond dooms (by_front (net.clients a) (fronts.called decl (net.clients a).front commands.Commit))
+            (by_desk (net.clients a)
+            (prepare decl (net.clients a).desk t.begun (net.clients a).front.clock.value))).turn.failed_sends ≡ [])
         by true e w =
             absurd (let n : (fronts.called decl (net.clients a).front commands.Commit).turn.write ≡ None =
             (front_called decl (net.clients a).front commands.Commit).write in

@@ -197,7 +197,13 @@ module _ (decl : Declaration) where
 
       clock_is : put (state acts).clock t.begun.tx.client (c.desk.clock.value + 1) c.front.client
           ≤ max c.front.clock.value (c.desk.clock.value + 1)
-      clock_is = subst (λ (n : ℕ). put (state acts).clock t.begun.tx.client (c.desk.clock.value + 1) n ≤ max c.front.clock.value (c.desk.clock.value + 1)) mine (let k : put (state acts).clock t.begun.tx.client (c.desk.clock.value + 1) t.begun.tx.client ≡ c.desk.clock.value + 1 = put_here (state acts).clock t.begun.tx.client (c.desk.clock.value + 1) in omega arith)
+      clock_is =
+          subst (λ (n : ℕ). put (state acts).clock t.begun.tx.client (c.desk.clock.value + 1) n
+          ≤ max c.front.clock.value (c.desk.clock.value + 1)) mine
+          (let k : put (state acts).clock t.begun.tx.client (c.desk.clock.value + 1) t.begun.tx.client
+          ≡ c.desk.clock.value + 1 =
+          put_here (state acts).clock t.begun.tx.client (c.desk.clock.value + 1) in
+          omega arith)
 
       told : In (record { tx = t.begun.tx; stamp = Some (next_stamp c.desk) })
           (verdict_of t.begun.tx

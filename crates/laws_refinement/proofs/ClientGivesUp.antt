@@ -60,7 +60,9 @@ module _ (decl : Declaration) (acts : List Act) (net : Net) (a : ℕ) (run : IsR
       → (net.clients a).desk.voting ≡ None
       → Refines decl (after_client net a (by_front (net.clients a) (gives_up (net.clients a).front t reply)))
   gives_up_case t reply is free =
-      let e : Ending decl (state acts) a (net.clients a) t × RunningMirrors decl (state acts) net.mail (net.clients a) t = ending_of decl (state acts) net.mail a (net.clients a) t (m.clients a client up) is in
+      let e : Ending decl (state acts) a (net.clients a) t
+      × RunningMirrors decl (state acts) net.mail (net.clients a) t =
+      ending_of decl (state acts) net.mail a (net.clients a) t (m.clients a client up) is in
       refined decl (state acts) net a (by_front (net.clients a) (gives_up (net.clients a).front t reply)) m client up
       (aborts_it decl (state acts) acts net a (net.clients a) t
       (by_front (net.clients a) (gives_up (net.clients a).front t reply)) refl

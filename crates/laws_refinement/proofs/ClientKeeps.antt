@@ -95,14 +95,17 @@ module _ (decl : Declaration) where
       by _ (commits_one r more) =
           subst (λ (x : Kept). IsClientKeptBy d x) (sym (client_kept_more rs (records.Commit r))) (record {
             life = life ∙ k.life ∙ m.life;
-            commits = λ x among. subst (λ (cs : List CommitRecord). In x cs) (sym (same ∙ more)) (elim (in_split x (filter (λ (y : CommitRecord). not (same_tx y.tx r.tx)) (kept_by rs).commits) (r ∷ []) among) [
-              | inl old ↦
-                  In-first x c.desk.commits (r ∷ [])
-                  (m.commits x
-                  (In-unfiltered (λ (y : CommitRecord). not (same_tx y.tx r.tx)) x (kept_by rs).commits old))
-              | inr new ↦ In-second x c.desk.commits (r ∷ []) new
-            ]);
-            none = λ t none. (let f : (record_of (kept_by rs).commits t ≡ None) × (same_tx r.tx t ≡ false) = found_with (kept_by rs).commits r t none in
+            commits = λ x among. subst (λ (cs : List CommitRecord). In x cs) (sym (same ∙ more))
+                (elim (in_split x (filter (λ (y : CommitRecord). not (same_tx y.tx r.tx)) (kept_by rs).commits)
+                (r ∷ []) among) [
+                  | inl old ↦
+                      In-first x c.desk.commits (r ∷ [])
+                      (m.commits x
+                      (In-unfiltered (λ (y : CommitRecord). not (same_tx y.tx r.tx)) x (kept_by rs).commits old))
+                  | inr new ↦ In-second x c.desk.commits (r ∷ []) new
+                ]);
+            none = λ t none. (let f : (record_of (kept_by rs).commits t ≡ None) × (same_tx r.tx t ≡ false) =
+                found_with (kept_by rs).commits r t none in
                 subst (λ (cs : List CommitRecord). record_of cs t ≡ None) (sym (same ∙ more))
                 (none_last c.desk.commits r t (m.none t f.0) f.1));
           })
@@ -146,7 +149,17 @@ module _ (decl : Declaration) where
         put_other before.records a
             (before.records a ++ option_to_list (client_takes decl (before.clients a) given).turn.write) d other,
       ))
-      (λ v. subst (λ (c : Client). IsClientKeptBy c (kept_by (put before.records a (before.records a ++ option_to_list (client_takes decl (before.clients a) given).turn.write) a))) (sym (put_here before.clients a (sent_all (client_takes decl (before.clients a) given).client (length before.mail) (client_takes decl (before.clients a) given).turn.sends))) (subst (λ (rs : List Record). IsClientKeptBy (sent_all (client_takes decl (before.clients a) given).client (length before.mail) (client_takes decl (before.clients a) given).turn.sends) (kept_by rs)) (sym (put_here before.records a (before.records a ++ option_to_list (client_takes decl (before.clients a) given).turn.write)))
+      (λ v. subst (λ (c : Client). IsClientKeptBy c
+      (kept_by (put before.records a
+      (before.records a ++ option_to_list (client_takes decl (before.clients a) given).turn.write) a)))
+      (sym (put_here before.clients a
+      (sent_all (client_takes decl (before.clients a) given).client (length before.mail)
+      (client_takes decl (before.clients a) given).turn.sends)))
+      (subst (λ (rs : List Record). IsClientKeptBy
+      (sent_all (client_takes decl (before.clients a) given).client (length before.mail)
+      (client_takes decl (before.clients a) given).turn.sends) (kept_by rs))
+      (sym (put_here before.records a
+      (before.records a ++ option_to_list (client_takes decl (before.clients a) given).turn.write)))
       (let sent =
       all_life (client_takes decl (before.clients a) given).client (length before.mail)
       (client_takes decl (before.clients a) given).turn.sends in
@@ -180,7 +193,13 @@ module _ (decl : Declaration) where
         put_other before.up a true d other,
         put_other before.records a ((before.records a ++ option_to_list back) ++ records.Life ∷ []) d other,
       ))
-      (λ v. subst (λ (c : Client). IsClientKeptBy c (kept_by (put before.records a ((before.records a ++ option_to_list back) ++ records.Life ∷ []) a))) (sym (put_here before.clients a (client_rises (a - decl.sites) (before.records a ++ option_to_list back)).client)) (subst (λ (rs : List Record). IsClientKeptBy (client_rises (a - decl.sites) (before.records a ++ option_to_list back)).client (kept_by rs)) (sym (put_here before.records a ((before.records a ++ option_to_list back) ++ records.Life ∷ [])))
+      (λ v. subst (λ (c : Client). IsClientKeptBy c
+      (kept_by (put before.records a ((before.records a ++ option_to_list back) ++ records.Life ∷ []) a)))
+      (sym (put_here before.clients a
+      (client_rises (a - decl.sites) (before.records a ++ option_to_list back)).client))
+      (subst (λ (rs : List Record). IsClientKeptBy
+      (client_rises (a - decl.sites) (before.records a ++ option_to_list back)).client (kept_by rs))
+      (sym (put_here before.records a ((before.records a ++ option_to_list back) ++ records.Life ∷ [])))
       (record { life = refl; commits = λ r among. among; none = λ t none. none })))
       (clients_kept before r) b is u
   clients_kept net (nets.site_rises_in_vain a back before r site down given) b is u =

@@ -209,10 +209,11 @@ module _ (decl : Declaration) where
         fallen = λ down. absurd (let never : ⊥ = cc in never);
       })
       (record {
-        records = λ c among. subst (λ (cs : List CommitRecord). In c cs) (sym g.records) (elim (in_split c net.written (commits_in move.turn.write) among) [
-          | inl old ↦ In-second c (commits_in move.turn.write) w.records (m.records c old)
-          | inr new ↦ In-first c (commits_in move.turn.write) w.records new
-        ]);
+        records = λ c among. subst (λ (cs : List CommitRecord). In c cs) (sym g.records)
+            (elim (in_split c net.written (commits_in move.turn.write) among) [
+              | inl old ↦ In-second c (commits_in move.turn.write) w.records (m.records c old)
+              | inr new ↦ In-first c (commits_in move.turn.write) w.records new
+            ]);
         written =
             λ c among. elim (in_split c (commits_in move.turn.write) w.records
             (subst (λ (cs : List CommitRecord). In c cs) g.records among)) [

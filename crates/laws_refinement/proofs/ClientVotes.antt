@@ -95,7 +95,9 @@ module _ (decl : Declaration) where
             → (d : Ballot) × In {X = Ballot} d (cast v.ballots site (vote_of t.begun site answer)) × (d.site ≡ g.site)
         each g among its =
             let old : (d : Ballot) × In {X = Ballot} d v.ballots × (d.site ≡ g.site) = vm.each g among its in
-            let new : (d : Ballot) × In {X = Ballot} d (cast v.ballots site (vote_of t.begun site answer)) × (d.site ≡ old.0.site) = cast_each v.ballots site (vote_of t.begun site answer) old.0 old.1 in
+            let new : (d : Ballot) × In {X = Ballot} d (cast v.ballots site (vote_of t.begun site answer))
+            × (d.site ≡ old.0.site) =
+            cast_each v.ballots site (vote_of t.begun site answer) old.0 old.1 in
             (new.0, new.1, new.2 ∙ old.2)
 
         for_all : (d : Ballot) → In d (cast v.ballots site (vote_of t.begun site answer)) → d.vote ≡ Some For
@@ -116,20 +118,23 @@ module _ (decl : Declaration) where
             → d.epoch ≡ (learns (net.clients a).desk answer).epoch
             → d.commits ≡ (learns (net.clients a).desk answer).commits
             → OwnMirrors decl (state acts) a (record (net.clients a) { desk = d }) (Some t)
-        own d client_is epoch commits_are = (let o = (ending_of decl (state acts) net.mail a (net.clients a) t (m.clients a client up) is).0.own in record {
-          actor = o.actor;
-          desk = client_is ∙ left.client ∙ o.desk;
-          epoch = o.epoch;
-          desk_epoch = subst (λ (x : ℕ). IsPlanned decl x) (sym epoch) (left.epoch o.desk_epoch);
-          clock = o.clock;
-          to_come = o.to_come;
-          lives_to_come = o.lives_to_come;
-          committed =
-              λ r among. o.committed r (subst (λ (rs : List CommitRecord). In r rs) (commits_are ∙ left.commits) among);
-          aborted =
-              λ u its born other none. o.aborted u its born other
-              (subst (λ (rs : List CommitRecord). record_of rs u ≡ None) (commits_are ∙ left.commits) none);
-        })
+        own d client_is epoch commits_are =
+            (let o = (ending_of decl (state acts) net.mail a (net.clients a) t (m.clients a client up) is).0.own in
+            record {
+              actor = o.actor;
+              desk = client_is ∙ left.client ∙ o.desk;
+              epoch = o.epoch;
+              desk_epoch = subst (λ (x : ℕ). IsPlanned decl x) (sym epoch) (left.epoch o.desk_epoch);
+              clock = o.clock;
+              to_come = o.to_come;
+              lives_to_come = o.lives_to_come;
+              committed =
+                  λ r among. o.committed r
+                  (subst (λ (rs : List CommitRecord). In r rs) (commits_are ∙ left.commits) among);
+              aborted =
+                  λ u its born other none. o.aborted u its born other
+                  (subst (λ (rs : List CommitRecord). record_of rs u ≡ None) (commits_are ∙ left.commits) none);
+            })
 
         begun : TransactionMirrors (state acts) (net.clients a).front t
         begun = (ending_of decl (state acts) net.mail a (net.clients a) t (m.clients a client up) is).0.begun
@@ -175,7 +180,8 @@ module _ (decl : Declaration) where
 
         by : (all : Bool) (why : Option AbortCause) → are_cast (cast v.ballots site (vote_of t.begun site answer)) ≡ all
             → first_against (cast v.ballots site (vote_of t.begun site answer)) ≡ why
-            → Goes (by_desk (net.clients a) (cond all (counted_out (learns (net.clients a).desk answer) t.begun why) waits))
+            → Goes (by_desk (net.clients a)
+            (cond all (counted_out (learns (net.clients a).desk answer) t.begun why) waits))
         by true (Some why) all nay = (
           refined decl (state acts) net a _ m client up
               (aborts_it decl (state acts) acts net a learnt t
@@ -198,7 +204,8 @@ module _ (decl : Declaration) where
           (λ r wrote. absurd (let never : ⊥ = cc in never)),
         )
         by true None all nay = (
-          refined decl (state acts) net a _ m client up (commits_it decl (state acts) acts net a learnt t refl mid refl ending voting clock_is
+          refined decl (state acts) net a _ m client up
+              (commits_it decl (state acts) acts net a learnt t refl mid refl ending voting clock_is
               (λ g among its. (let d : (d : Ballot) × In {X = Ballot} d after × (d.site ≡ g.site) = each g among its in
               subst (λ (s : ℕ). In {X = YesVote} (record { tx = t.begun.tx; site = s })
               (state acts).votes) d.2 (for_all d.0 d.1 (all_for after all nay d.0 d.1))))),
@@ -264,7 +271,8 @@ module _ (decl : Declaration) where
         absurd (let never : ⊥ = cc in never)
     vote_case from number (Some t) v answer is votes backed (Some site) called =
         (counts_case from number site t v answer is votes backed called v.begun
-        (subst (λ (o : Option DeskVoting). AreVotes (state acts) net.mail (net.clients a) t o) votes (ending_of decl (state acts) net.mail a (net.clients a) t (m.clients a client up) is).1.votes).begun).0
+        (subst (λ (o : Option DeskVoting). AreVotes (state acts) net.mail (net.clients a) t o) votes
+        (ending_of decl (state acts) net.mail a (net.clients a) t (m.clients a client up) is).1.votes).begun).0
 
     -- its record isn't written
     pub vote_fails : (from number : ℕ) (t : Option Transaction) (v : DeskVoting) (answer : Option Answer)
@@ -282,4 +290,6 @@ module _ (decl : Declaration) where
         absurd (let never : ⊥ = cc in never)
     vote_fails from number (Some t) v answer is votes backed (Some site) called r wrote =
         (counts_case from number site t v answer is votes backed called v.begun
-        (subst (λ (o : Option DeskVoting). AreVotes (state acts) net.mail (net.clients a) t o) votes (ending_of decl (state acts) net.mail a (net.clients a) t (m.clients a client up) is).1.votes).begun).1 r wrote
+        (subst (λ (o : Option DeskVoting). AreVotes (state acts) net.mail (net.clients a) t o) votes
+        (ending_of decl (state acts) net.mail a (net.clients a) t (m.clients a client up) is).1.votes).begun).1
+        r wrote

@@ -80,7 +80,8 @@ lived_given t site life = record { tx = refl; epoch = refl; ops = refl; own = re
 pub granted_given : (t : Transaction) (site life object : ℕ) (log : List Line)
     → IsGiven t (with_granted (lived t site life) object log) site life
 granted_given t site life object log =
-    let kept : (with_granted (lived t site life) object log).begun ≡ (lived t site life).begun = view_keeps (lived t site life) object (option_map (λ (v : View). with_log v log) (slice_get t.views object)) in
+    let kept : (with_granted (lived t site life) object log).begun ≡ (lived t site life).begun =
+    view_keeps (lived t site life) object (option_map (λ (v : View). with_log v log) (slice_get t.views object)) in
     record {
       tx = ap (λ b. b.tx) kept;
       epoch = ap (λ b. b.epoch) kept;
@@ -145,7 +146,9 @@ counted_core decl w a c t u site life clock log want k lives core is sorted show
   begun = record {
     named = is.tx ∙ core.begun.named;
     epoch = is.epoch ∙ core.begun.epoch ∙ ap w.epoch (sym is.tx);
-    lives = subst (λ (ls : List LifeAt). LivesMirror (k.grant ∷ w.counted) u.begun.tx ls) (sym is.lives) (subst (λ (n : TxId). LivesMirror (k.grant ∷ w.counted) n (with_life t.begun.lives site life)) (sym is.tx) lives);
+    lives = subst (λ (ls : List LifeAt). LivesMirror (k.grant ∷ w.counted) u.begun.tx ls) (sym is.lives)
+        (subst (λ (n : TxId). LivesMirror (k.grant ∷ w.counted) n (with_life t.begun.lives site life)) (sym is.tx)
+        lives);
     ops = is.ops ∙ core.begun.ops ∙ ap (λ (n : TxId). map op_of (w.executed n)) (sym is.tx);
     own =
         λ object. ap (λ (os : List OwnLine). own_on os object) is.own ∙ core.begun.own object

@@ -46,7 +46,8 @@ module _ (decl : Declaration) (acts : List Act) (net : Net) (a : ℕ) (run : IsR
         run,
       );
       agrees = site_goes decl (state acts) v net a
-          (moved s (recording from number (records.Install (start_with k clock log)) answers.Installed)) m site up (record {
+          (moved s (recording from number (records.Install (start_with k clock log)) answers.Installed)) m site up
+          (record {
             later = record {
               born = λ t h. h;
               epoch = λ t h. refl;
@@ -72,12 +73,15 @@ module _ (decl : Declaration) (acts : List Act) (net : Net) (a : ℕ) (run : IsR
             };
             records = refl;
             placed_at = m.placed;
-            kept = subst (λ (ds : List Deed). KeptMirrors decl (kept_by (net.records a ++ records.Install (start_with k clock log) ∷ []))
+            kept = subst (λ (ds : List Deed). KeptMirrors decl
+                (kept_by (net.records a ++ records.Install (start_with k clock log) ∷ []))
                 (state acts).status ((state acts).life a) ds)
                 (sym (put_here (state acts).deeds a ((state acts).deeds a ++ deed ∷ [])))
                 (subst (λ (x : Kept). KeptMirrors decl x (state acts).status ((state acts).life a)
-                ((state acts).deeds a ++ deed ∷ [])) (sym (kept_more (net.records a) (records.Install (start_with k clock log))))
-                (subst (λ (x : Deed). KeptMirrors decl (keeps (kept_by (net.records a)) (records.Install (start_with k clock log)))
+                ((state acts).deeds a ++ deed ∷ []))
+                (sym (kept_more (net.records a) (records.Install (start_with k clock log))))
+                (subst (λ (x : Deed). KeptMirrors decl
+                (keeps (kept_by (net.records a)) (records.Install (start_with k clock log)))
                 (state acts).status ((state acts).life a) ((state acts).deeds a ++ x ∷ [])) (sym (deed_is d))
                 (kept_installs decl (kept_by (net.records a)) (state acts).status ((state acts).life a)
                 ((state acts).deeds a) k clock log (m.kept a site) d.planned d.sorted)));

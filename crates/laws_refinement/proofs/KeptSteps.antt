@@ -40,7 +40,10 @@ kept_finishes decl k status life ds tx clock promise p m some found same = recor
   planned = m.planned;
   shut = (leaves_epoch ds (LearnsCommit tx (done_stamp tx clock)) tt).shut ∙ m.shut;
   closing = m.closing;
-  installs = λ n c log among. (let c_low : c ≤ k.clock = m.installs n c log ((leaves_epoch ds (LearnsCommit tx (done_stamp tx clock)) tt).installs n c log among) in omega arith);
+  installs =
+      λ n c log among. (let c_low : c ≤ k.clock =
+      m.installs n c log ((leaves_epoch ds (LearnsCommit tx (done_stamp tx clock)) tt).installs n c log among) in
+      omega arith);
   stable =
       λ l among. subst (λ (ls : List Line). In l (union k.began (union k.lines (without ls k.began)))) (sym own)
       (commit_log logged stable_site m.stable tx (done_stamp tx clock) (Some promise) (Some p) same l

@@ -74,7 +74,9 @@ module _ (decl : Declaration) where
         subst (λ (rs : List Record). KeptMirrors decl (kept_by rs) v.status (v.life b) (v.deeds b))
         (sym (apart.records b other))
         (subst (λ (f : ℕ → ℕ). KeptMirrors decl (kept_by (net.records b)) v.status (f b) (v.deeds b)) (sym at.lives)
-        (subst (λ (f : ℕ → List Deed). KeptMirrors decl (kept_by (net.records b)) v.status (w.life b) (f b)) (sym at.deeds) (kept_later decl w v (kept_by (net.records b)) (w.life b) (w.deeds b) at.later (m.kept b is)))));
+        (subst (λ (f : ℕ → List Deed). KeptMirrors decl (kept_by (net.records b)) v.status (w.life b) (f b))
+        (sym at.deeds) (kept_later decl w v (kept_by (net.records b)) (w.life b) (w.deeds b) at.later
+        (m.kept b is)))));
     pends = λ b is down. (let other : b ≢ a = no_client_at b is in
         subst (λ (rs : List Record). IsPendingAt decl v (kept_by rs) (v.deeds b) (next.pending b))
         (sym (apart.records b other))
@@ -88,14 +90,21 @@ module _ (decl : Declaration) where
       | inl e ↦
           subst (λ (x : ℕ). ClientMirrors decl v next.mail x (next.clients x)) (sym e)
           (s.mirrors (subst (λ (x : ℕ). next.up x ≡ true) e u))
-      | inr other ↦ subst (λ (c : Client). ClientMirrors decl v next.mail b c) (sym (apart.clients b other)) (subst (λ (ms : List Envelope). ClientMirrors decl v ms b (net.clients b)) (sym apart.mail)
-          (keep_client decl w v (net.clients b).front.client (at.keeps (net.clients b).front.client (another b is other (sym (apart.up b other) ∙ u))) net.mail (envelopes a (length net.mail) sends) b (net.clients b) refl (m.clients b is (sym (apart.up b other) ∙ u))))
+      | inr other ↦ subst (λ (c : Client). ClientMirrors decl v next.mail b c) (sym (apart.clients b other))
+          (subst (λ (ms : List Envelope). ClientMirrors decl v ms b (net.clients b)) (sym apart.mail)
+          (keep_client decl w v (net.clients b).front.client
+          (at.keeps (net.clients b).front.client (another b is other (sym (apart.up b other) ∙ u))) net.mail
+          (envelopes a (length net.mail) sends) b (net.clients b) refl
+          (m.clients b is (sym (apart.up b other) ∙ u))))
     ];
     fallen = λ b is down. elim (place b a) [
       | inl e ↦
           subst (λ (x : ℕ). FallenMirrors v (x - decl.sites) (clients.kept_by (next.records x)) (next.pending x))
           (sym e) (s.fallen (subst (λ (x : ℕ). next.up x ≡ false) e down))
-      | inr other ↦ subst (λ (rs : List Record). FallenMirrors v (b - decl.sites) (clients.kept_by rs) (next.pending b)) (sym (apart.records b other)) (subst (λ (o : Option Record). FallenMirrors v (b - decl.sites) (clients.kept_by (net.records b)) o) (sym (apart.pending b other))
+      | inr other ↦ subst (λ (rs : List Record). FallenMirrors v (b - decl.sites) (clients.kept_by rs) (next.pending b))
+          (sym (apart.records b other))
+          (subst (λ (o : Option Record). FallenMirrors v (b - decl.sites) (clients.kept_by (net.records b)) o)
+          (sym (apart.pending b other))
           (fallen_keeps w v (b - decl.sites) (clients.kept_by (net.records b)) (net.pending b)
           (at.keeps (b - decl.sites) (numbered_apart b is other)) (m.fallen b is (sym (apart.up b other) ∙ down))))
     ];
@@ -174,7 +183,9 @@ module _ (decl : Declaration) where
         subst (λ (rs : List Record). KeptMirrors decl (kept_by rs) v.status (v.life b) (v.deeds b))
         (sym (apart.records b other))
         (subst (λ (f : ℕ → ℕ). KeptMirrors decl (kept_by (net.records b)) v.status (f b) (v.deeds b)) (sym at.lives)
-        (subst (λ (f : ℕ → List Deed). KeptMirrors decl (kept_by (net.records b)) v.status (w.life b) (f b)) (sym at.deeds) (kept_later decl w v (kept_by (net.records b)) (w.life b) (w.deeds b) at.later (m.kept b is)))));
+        (subst (λ (f : ℕ → List Deed). KeptMirrors decl (kept_by (net.records b)) v.status (w.life b) (f b))
+        (sym at.deeds) (kept_later decl w v (kept_by (net.records b)) (w.life b) (w.deeds b) at.later
+        (m.kept b is)))));
     pends = λ b is down. (let other : b ≢ administrator decl = no_site b is in
         subst (λ (rs : List Record). IsPendingAt decl v (kept_by rs) (v.deeds b) (next.pending b))
         (sym (apart.records b other))
@@ -185,12 +196,16 @@ module _ (decl : Declaration) where
         (pends_later decl w v (kept_by (net.records b)) (w.deeds b) (net.pending b) at.later
         (m.pends b is (sym (apart.up b other) ∙ down))))));
     clients = λ b is u. (let other : b ≢ administrator decl = no_client_at b is in
-        subst (λ (c : Client). ClientMirrors decl v next.mail b c) (sym (apart.clients b other)) (subst (λ (ms : List Envelope). ClientMirrors decl v ms b (net.clients b)) (sym apart.mail)
+        subst (λ (c : Client). ClientMirrors decl v next.mail b c) (sym (apart.clients b other))
+        (subst (λ (ms : List Envelope). ClientMirrors decl v ms b (net.clients b)) (sym apart.mail)
         (keep_client decl w v (net.clients b).front.client (at.keeps (net.clients b).front.client) net.mail
         (envelopes (administrator decl) (length net.mail) sends) b (net.clients b) refl
         (m.clients b is (sym (apart.up b other) ∙ u)))));
     fallen = λ b is down. (let other : b ≢ administrator decl = no_client_at b is in
-        subst (λ (rs : List Record). FallenMirrors v (b - decl.sites) (clients.kept_by rs) (next.pending b)) (sym (apart.records b other)) (subst (λ (o : Option Record). FallenMirrors v (b - decl.sites) (clients.kept_by (net.records b)) o) (sym (apart.pending b other))
+        subst (λ (rs : List Record). FallenMirrors v (b - decl.sites) (clients.kept_by rs) (next.pending b))
+        (sym (apart.records b other))
+        (subst (λ (o : Option Record). FallenMirrors v (b - decl.sites) (clients.kept_by (net.records b)) o)
+        (sym (apart.pending b other))
         (fallen_keeps w v (b - decl.sites) (clients.kept_by (net.records b)) (net.pending b) (at.keeps (b - decl.sites))
         (m.fallen b is (sym (apart.up b other) ∙ down)))));
     admin = s.mirrors;

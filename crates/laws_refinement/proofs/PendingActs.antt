@@ -260,12 +260,12 @@ module _ (decl : Declaration) where
         lives = λ b other. refl;
       };
       kept =
-          subst (λ (ds : List Deed). KeptMirrors decl (keeps k (records.Install (start_with epoch clock lines))) (state acts).status
-          ((state acts).life a) ds)
+          subst (λ (ds : List Deed). KeptMirrors decl (keeps k (records.Install (start_with epoch clock lines)))
+          (state acts).status ((state acts).life a) ds)
           (sym (put_here (state acts).deeds a
           ((state acts).deeds a ++ Installs h.0.decision.epoch h.0.decision.clock h.0.decision.log ∷ [])))
-          (subst (λ (x : Deed). KeptMirrors decl (keeps k (records.Install (start_with epoch clock lines))) (state acts).status
-          ((state acts).life a) ((state acts).deeds a ++ x ∷ [])) (sym (deed_is h.0))
+          (subst (λ (x : Deed). KeptMirrors decl (keeps k (records.Install (start_with epoch clock lines)))
+          (state acts).status ((state acts).life a) ((state acts).deeds a ++ x ∷ [])) (sym (deed_is h.0))
           (kept_installs decl k (state acts).status ((state acts).life a) ((state acts).deeds a) epoch clock lines m
           h.0.planned h.0.sorted));
     }

@@ -49,7 +49,8 @@ module _ (decl : Declaration) (accepted : IsAccepted decl) where
         takes_case decl acts net a run m client up standing free from number answer backed (net.clients a).front.doing
         refl (net.clients a).front.transaction refl
     answer_case from number answer backed (Some v) votes =
-        let waits : Refines decl (after_client net a (by_desk (net.clients a) (votes_in (net.clients a).desk (Some v) number answer))) =
+        let waits : Refines decl
+        (after_client net a (by_desk (net.clients a) (votes_in (net.clients a).desk (Some v) number answer))) =
         vote_case decl acts net a run m client up from number (net.clients a).front.transaction v answer refl votes
         backed (site_called v.calls number) refl in
         subst (λ (o : Option Voting). Refines decl

@@ -173,7 +173,8 @@ module _ (decl : Declaration) (accepted : IsAccepted decl) where
       | inl rests ↦ subst (λ (o : Option Record). AreInTurn 1 (net.records (administrator decl) ++ option_to_list o))
           (sym rests.0) (turn_maybe (net.records (administrator decl)) None i.turn tt)
       | inr d ↦ subst (λ (o : Option Record). AreInTurn 1 (net.records (administrator decl) ++ option_to_list o))
-          (sym d.wrote) (turn_more (net.records (administrator decl)) (records.Decide (start_with d.next d.clock d.lines)) i.turn
+          (sym d.wrote)
+          (turn_more (net.records (administrator decl)) (records.Decide (start_with d.next d.clock d.lines)) i.turn
           (d.follows ∙ ap (λ (n : ℕ). suc n) (i.here up)))
     ]);
     here = λ u. all_epoch move.admin (length net.mail) move.turn.sends ∙ then_is

@@ -49,73 +49,75 @@ module _ (decl : Declaration) (acts : List Act) (net : Net) (a : ℕ) (run : IsR
       → AreLined ps (known (net.sites a))
       → move.turn.sends ≡ record { to = from; message = messages.Answer number (answers.Yes clock) } ∷ []
       → Continues decl acts (after_site net a move)
-  votes_it clock from number tx move more request asked lived kept alike ps rs same promised apart lined sends = record {
-    more = Vote a tx ∷ [];
-    refines = record {
-      run = ((asked, (λ g among its by. lived g among its by ∙ ms.life)), run);
-      agrees = site_goes decl w v net a move m site up (record {
-        later =
-            record {
-              born = λ t h. h;
-              epoch = λ t h. refl;
-              asked = λ t h. h;
-              counted = λ x h asked. h;
-              granted = λ x h. h;
-              votes = λ x h. inr h;
-              verdicts = λ t h. h;
-              appends = λ s h. h;
-              snapshots = λ s h. h;
-              decided = λ d h. h;
-            };
-        keeps =
-            λ c. record {
-              status = λ t h. refl;
-              epoch = λ t h. refl;
-              executed = λ t h. refl;
-              chosen = λ t h. refl;
-              clock = refl;
-              counted = λ x its h. h;
-              more = λ x h. h;
-              votes = λ x h. inr h;
-              appends = λ x h. h;
-            };
-        records = refl;
-        placed_at = m.placed;
-        kept =
-            subst (λ (ds : List Deed). KeptMirrors decl (kept_by (net.records a ++ option_to_list move.turn.write))
-            w.status (w.life a) ds) (sym (put_here w.deeds a (w.deeds a ++ Prepares tx ∷ []))) kept;
-        alike = alike;
-        here =
-            subst (λ (ds : List Deed). SiteMirrors decl move.site ds (w.life a))
-            (sym (put_here w.deeds a (w.deeds a ++ Prepares tx ∷ [])))
-            (subst (λ (s : SiteState). SiteMirrors decl s (w.deeds a ++ Prepares tx ∷ []) (w.life a)) (sym same)
-            (mirrors_more decl (w.life a) (net.sites a)
-            (record (net.sites a) { clock = clock; prepared = ps; recorded = rs }) (w.deeds a) (Prepares tx) tt ms
-            (record { life = refl; epoch = refl; closed_for = refl }) more
-            (λ t x among. ms.held t x
-            (subst (λ (h : List machine.Held). In x (items_of t h)) (same_held k tx (promise_of tx k.prepared))
-            among))
-            (λ t o among. subst (λ (h : List machine.Held). In (Own o) (items_of t h))
-            (sym (same_held k tx (promise_of tx k.prepared))) (ms.owned t o among))
-            (λ x never. absurd never)
-            (λ l among.
-            (let c : l.stamp.clock ≤ (net.sites a).clock =
-            ms.passed l
-            (subst (λ (ls : List Line). In l ls) (same_log k tx (promise_of tx k.prepared)) among) in
-            omega arith))
-            (λ l among. ms.log l (subst (λ (ls : List Line). In l ls) (same_log k tx (promise_of tx k.prepared)) among))
-            (λ l among. subst (λ (ls : List Line). In l ls) (sym (same_log k tx (promise_of tx k.prepared)))
-            (ms.logged l among)) ms.sorted promised apart lined));
-        there = λ b other. put_other w.deeds a _ b other;
-        alive = λ b other. refl;
-        holders = λ t is. m.holders a t site up (subst (λ (s : SiteState). is_held s.held t ≡ true) same is);
-        turn =
-            λ p among. one_answer decl v net.mail a from number (answers.Yes clock)
-            (record { tx = tx; request = request; vote = inl refl }) p
-            (subst (λ (xs : List Posting). In p xs) sends among);
-      });
-    };
-  }
+  votes_it clock from number tx move more request asked lived kept alike ps rs same promised apart lined sends =
+      record {
+        more = Vote a tx ∷ [];
+        refines = record {
+          run = ((asked, (λ g among its by. lived g among its by ∙ ms.life)), run);
+          agrees = site_goes decl w v net a move m site up (record {
+            later =
+                record {
+                  born = λ t h. h;
+                  epoch = λ t h. refl;
+                  asked = λ t h. h;
+                  counted = λ x h asked. h;
+                  granted = λ x h. h;
+                  votes = λ x h. inr h;
+                  verdicts = λ t h. h;
+                  appends = λ s h. h;
+                  snapshots = λ s h. h;
+                  decided = λ d h. h;
+                };
+            keeps =
+                λ c. record {
+                  status = λ t h. refl;
+                  epoch = λ t h. refl;
+                  executed = λ t h. refl;
+                  chosen = λ t h. refl;
+                  clock = refl;
+                  counted = λ x its h. h;
+                  more = λ x h. h;
+                  votes = λ x h. inr h;
+                  appends = λ x h. h;
+                };
+            records = refl;
+            placed_at = m.placed;
+            kept =
+                subst (λ (ds : List Deed). KeptMirrors decl (kept_by (net.records a ++ option_to_list move.turn.write))
+                w.status (w.life a) ds) (sym (put_here w.deeds a (w.deeds a ++ Prepares tx ∷ []))) kept;
+            alike = alike;
+            here =
+                subst (λ (ds : List Deed). SiteMirrors decl move.site ds (w.life a))
+                (sym (put_here w.deeds a (w.deeds a ++ Prepares tx ∷ [])))
+                (subst (λ (s : SiteState). SiteMirrors decl s (w.deeds a ++ Prepares tx ∷ []) (w.life a)) (sym same)
+                (mirrors_more decl (w.life a) (net.sites a)
+                (record (net.sites a) { clock = clock; prepared = ps; recorded = rs }) (w.deeds a) (Prepares tx) tt ms
+                (record { life = refl; epoch = refl; closed_for = refl }) more
+                (λ t x among. ms.held t x
+                (subst (λ (h : List machine.Held). In x (items_of t h)) (same_held k tx (promise_of tx k.prepared))
+                among))
+                (λ t o among. subst (λ (h : List machine.Held). In (Own o) (items_of t h))
+                (sym (same_held k tx (promise_of tx k.prepared))) (ms.owned t o among))
+                (λ x never. absurd never)
+                (λ l among.
+                (let c : l.stamp.clock ≤ (net.sites a).clock =
+                ms.passed l
+                (subst (λ (ls : List Line). In l ls) (same_log k tx (promise_of tx k.prepared)) among) in
+                omega arith))
+                (λ l among. ms.log l
+                (subst (λ (ls : List Line). In l ls) (same_log k tx (promise_of tx k.prepared)) among))
+                (λ l among. subst (λ (ls : List Line). In l ls) (sym (same_log k tx (promise_of tx k.prepared)))
+                (ms.logged l among)) ms.sorted promised apart lined));
+            there = λ b other. put_other w.deeds a _ b other;
+            alive = λ b other. refl;
+            holders = λ t is. m.holders a t site up (subst (λ (s : SiteState). is_held s.held t ≡ true) same is);
+            turn =
+                λ p among. one_answer decl v net.mail a from number (answers.Yes clock)
+                (record { tx = tx; request = request; vote = inl refl }) p
+                (subst (λ (xs : List Posting). In p xs) sends among);
+          });
+        };
+      }
     where
       w : State
       w = state acts

@@ -96,7 +96,9 @@ module _ (decl : Declaration) (accepted : IsAccepted decl) (acts : List Act) (ne
       looked_at : (w : Want) → Backed decl (state acts) net.mail from a (messages.Request tx epoch life w)
           → IsMessage net.mail number a (messages.Request tx epoch life w)
           → Passes (passed (net.sites a) (messages.Request tx epoch life w)) epoch life
-          → Continues decl acts (after_site net a (grants decl (passed (net.sites a) (messages.Request tx epoch life w)) from number tx w))
+          → Continues decl acts
+          (after_site net a
+          (grants decl (passed (net.sites a) (messages.Request tx epoch life w)) from number tx w))
       looked_at (Read read) b r p =
           read_case decl accepted acts net a run m site up (net.sites a).clock from number tx epoch life read.object
           read.inv

@@ -117,8 +117,14 @@ module _ (decl : Declaration) (accepted : IsAccepted decl) (acts : List Act) (ne
       → Continues decl acts (after_site net a (site_on decl (net.sites a) from number (messages.Decision tx verdict)))
   decision_case tx (outcomes.Committed stamp) from number backed =
       let clock : ℕ = max (net.sites a).clock stamp.clock in
-      let j : JoinKeeps (record (net.sites a) { clock = clock }) tx (joins (record (net.sites a) { clock = clock }) tx stamp (prepared_of (net.sites a).prepared tx)) = join_keeps (record (net.sites a) { clock = clock }) tx stamp (prepared_of (net.sites a).prepared tx) in
-      let joined : Joined decl (net.records a) (state acts).status ((state acts).life a) ((state acts).deeds a ++ LearnsCommit tx stamp ∷ []) (joins (record (net.sites a) { clock = clock }) tx stamp (prepared_of (net.sites a).prepared tx)) = joins_kept clock (promise_of tx k.prepared) (prepared_of (net.sites a).prepared tx) refl refl ((m.sites a site up).promised tx) in
+      let j : JoinKeeps (record (net.sites a) { clock = clock }) tx
+      (joins (record (net.sites a) { clock = clock }) tx stamp (prepared_of (net.sites a).prepared tx)) =
+      join_keeps (record (net.sites a) { clock = clock }) tx stamp (prepared_of (net.sites a).prepared tx) in
+      let joined : Joined decl (net.records a) (state acts).status ((state acts).life a)
+      ((state acts).deeds a ++ LearnsCommit tx stamp ∷ [])
+      (joins (record (net.sites a) { clock = clock }) tx stamp (prepared_of (net.sites a).prepared tx)) =
+      joins_kept clock (promise_of tx k.prepared) (prepared_of (net.sites a).prepared tx) refl refl
+      ((m.sites a site up).promised tx) in
       learns_it decl acts net a run m site up clock tx (record { tx = tx; stamp = Some stamp })
       (joins (record (net.sites a) { clock = clock }) tx stamp (prepared_of (net.sites a).prepared tx)) tt backed
       (λ k. join_drops tx stamp (promise_of tx k.prepared) k)
@@ -156,7 +162,8 @@ module _ (decl : Declaration) (accepted : IsAccepted decl) (acts : List Act) (ne
         where
           by : (x : Status) → (state acts).status tx ≡ x → IsOutcome x (Some stamp) → stamp ≡ done_stamp tx stamp.clock
           by (Committed c) is same =
-              let own : c.stamp.client ≡ tx.client = ((laws decl acts run).record_of tx c (subst (λ (y : Status). HasRecord y c) (sym is) refl)).client in
+              let own : c.stamp.client ≡ tx.client =
+              ((laws decl acts run).record_of tx c (subst (λ (y : Status). HasRecord y c) (sym is) refl)).client in
               let e : stamp.client ≡ tx.client = sym (ap (λ (y : Stamp). y.client) same) ∙ own in
               (λ i. record { clock = stamp.clock; client = e i })
           by NotBegun is same = absurd same
@@ -171,7 +178,10 @@ module _ (decl : Declaration) (accepted : IsAccepted decl) (acts : List Act) (ne
         where
           by : (b : Bool) → same_tx tx t ≡ b
               → prepared_of (without_prepared (kept_by (net.records a)).promises tx) t ≡ Some q
-          by true is = absurd (let gone : prepared_of (without_prepared (net.sites a).prepared tx) t ≡ None = subst (λ (u : TxId). prepared_of (without_prepared (net.sites a).prepared tx) u ≡ None) (same_tx_is tx t is) (prepared-without (net.sites a).prepared tx) in
+          by true is =
+              absurd (let gone : prepared_of (without_prepared (net.sites a).prepared tx) t ≡ None =
+              subst (λ (u : TxId). prepared_of (without_prepared (net.sites a).prepared tx) u ≡ None)
+              (same_tx_is tx t is) (prepared-without (net.sites a).prepared tx) in
               let both : Some q ≡ None = sym e ∙ gone in let never : ⊥ = cc in never)
           by false is =
               prepared-without_other (kept_by (net.records a)).promises tx t is
@@ -224,7 +234,9 @@ module _ (decl : Declaration) (accepted : IsAccepted decl) (acts : List Act) (ne
                   ∙ ap
                   (λ (ls : List Line). union (kept_by (net.records a)).lines (without (lines_of stamp tx q.own) ls))
                   al.began
-                  ∙ ap (λ (ls : List Line). union (kept_by (net.records a)).lines (without ls (kept_by (net.records a)).began)) (ap (λ (y : Stamp). lines_of y tx q.own) stamp_is
+                  ∙ ap (λ (ls : List Line). union (kept_by (net.records a)).lines
+                  (without ls (kept_by (net.records a)).began))
+                  (ap (λ (y : Stamp). lines_of y tx q.own) stamp_is
                   ∙ sym
                   (ap (λ (o : Option Prepared). option_map_or (λ (x : Prepared). lines_of (done_stamp tx stamp.clock) tx
                   x.own) o []) ((m.kept a site).last tx q (al.promises tx q found))));

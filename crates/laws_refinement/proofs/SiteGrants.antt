@@ -145,7 +145,8 @@ module _ (decl : Declaration) (acts : List Act) (net : Net) (a : ℕ) (run : IsR
       → ((t : TxId) → is_held now.held t ≡ true → (state acts).status t ≢ NotBegun)
       → IsAscending log → ((l : Line) → In l log → In l (site_after ((state acts).deeds a)).volatile)
       → ((object inv : ℕ) → want ≡ Read (read_of object inv) → (l : Line) → In l log → l.object ≡ object)
-      → ((object inv : ℕ) → want ≡ Read (read_of object inv) → (l : Line) → In l (site_after ((state acts).deeds a)).volatile
+      → ((object inv : ℕ) → want ≡ Read (read_of object inv) → (l : Line)
+      → In l (site_after ((state acts).deeds a)).volatile
       → l.object ≡ object → In l log)
       → Continues decl acts
       (after_site net a

@@ -120,10 +120,16 @@ module _ (decl : Declaration) where
           (m.pends b is (sym (apart.up b other) ∙ down)))))
     ];
     clients = λ b is u. (let other : b ≢ a = no_site b is in
-        subst (λ (c : Client). ClientMirrors decl v next.mail b c) (sym (apart.clients b other)) (subst (λ (ms : List Envelope). ClientMirrors decl v ms b (net.clients b)) (sym apart.mail)
-        (keep_client decl w v (net.clients b).front.client (at.keeps (net.clients b).front.client) net.mail (envelopes a (length net.mail) sends) b (net.clients b) refl (m.clients b is (sym (apart.up b other) ∙ u)))));
+        subst (λ (c : Client). ClientMirrors decl v next.mail b c) (sym (apart.clients b other))
+        (subst (λ (ms : List Envelope). ClientMirrors decl v ms b (net.clients b)) (sym apart.mail)
+        (keep_client decl w v (net.clients b).front.client (at.keeps (net.clients b).front.client) net.mail
+        (envelopes a (length net.mail) sends) b (net.clients b) refl
+        (m.clients b is (sym (apart.up b other) ∙ u)))));
     fallen = λ b is down. (let other : b ≢ a = no_site b is in
-        subst (λ (rs : List Record). FallenMirrors v (b - decl.sites) (clients.kept_by rs) (next.pending b)) (sym (apart.records b other)) (subst (λ (o : Option Record). FallenMirrors v (b - decl.sites) (clients.kept_by (net.records b)) o) (sym (apart.pending b other))
+        subst (λ (rs : List Record). FallenMirrors v (b - decl.sites) (clients.kept_by rs) (next.pending b))
+        (sym (apart.records b other))
+        (subst (λ (o : Option Record). FallenMirrors v (b - decl.sites) (clients.kept_by (net.records b)) o)
+        (sym (apart.pending b other))
         (fallen_keeps w v (b - decl.sites) (clients.kept_by (net.records b)) (net.pending b) (at.keeps (b - decl.sites))
         (m.fallen b is (sym (apart.up b other) ∙ down)))));
     admin =

@@ -66,7 +66,8 @@ module _ (decl : Declaration) where
       → (is_site decl a ≡ true → (p : Posting) → In p ps → (to clock : ℕ)
       → p.message ≡ messages.Answer to (answers.Yes clock) → IsRecorded next a to) → Stand net → Stand next
   step net next a ps mail kept new old e among site to clock is =
-      elim (in_split e net.mail (envelopes a (length net.mail) ps) (subst (λ (es : List Envelope). In e es) mail among)) [
+      elim (in_split e net.mail (envelopes a (length net.mail) ps)
+      (subst (λ (es : List Envelope). In e es) mail among)) [
         | inl before ↦ grows net next e.from to (λ x h. subst (λ (es : List Envelope). In x es) (sym mail)
             (In-first x net.mail (envelopes a (length net.mail) ps) h)) (kept e.from) (old e before site to clock is)
         | inr now ↦ (let r : Place a ps (net.mail ++ envelopes a (length net.mail) ps) e =
@@ -99,7 +100,8 @@ module _ (decl : Declaration) where
                   (promises_recorded (net.records a) v.promise
                   (found_in v.promise.tx (kept_by (net.records a)).promises v.promise kept).0))
               | inr now ↦ In-second (records.Prepare v.promise) (net.records a) (option_to_list move.turn.write)
-                  (subst (λ (o : Option Record). In (records.Prepare v.promise) (option_to_list o)) (sym now) (inl refl))
+                  (subst (λ (o : Option Record). In (records.Prepare v.promise) (option_to_list o)) (sym now)
+                  (inl refl))
             ]);
         request = e;
         sent = In-first e net.mail (envelopes a (length net.mail) move.turn.sends) came.0;

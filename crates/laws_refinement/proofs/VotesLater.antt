@@ -81,7 +81,8 @@ module _ (decl : Declaration) where
                 (λ x h. subst (λ (es : List Envelope). In x es) (sym mail)
                 (In-first x middle.mail (envelopes a (length middle.mail) ps) h)) named)
           ]
-          | inr now ↦ (let r : Place a ps (middle.mail ++ envelopes a (length middle.mail) ps) e = placed middle.mail a (length middle.mail) ps e refl now in
+          | inr now ↦ (let r : Place a ps (middle.mail ++ envelopes a (length middle.mail) ps) e =
+              placed middle.mail a (length middle.mail) ps e refl now in
               inr (subst (λ (x : ℕ). IsNamedLater net next x to) (sym r.from)
               (new (subst (λ (x : ℕ). is_site decl x ≡ true) r.from site) r.posting r.among to clock
               (sym r.message ∙ is))))
@@ -98,7 +99,9 @@ module _ (decl : Declaration) where
         let m : Refines decl middle = nets_refine decl accepted middle (reach_later middle l) in
         let v : Voted (middle.sites a) e.number e.message (site_takes decl (middle.sites a) (Got e)).turn.write to =
         message_votes decl (middle.sites a) e.from e.number e.message p among to clock is in
-        let among_named : In p (site_on decl (middle.sites a) e.from e.number (messages.Request v.promise.tx v.epoch v.life Prepare)).turn.sends = subst (λ (x : Message). In p (site_on decl (middle.sites a) e.from e.number x).turn.sends) v.named among in
+        let among_named : In p (site_on decl (middle.sites a) e.from e.number
+        (messages.Request v.promise.tx v.epoch v.life Prepare)).turn.sends =
+        subst (λ (x : Message). In p (site_on decl (middle.sites a) e.from e.number x).turn.sends) v.named among in
         let grown : (kept_by (net.records a)).life ≤ (kept_by (middle.records a)).life = life_later middle a l in
         let alike : (middle.sites a).life ≡ (kept_by (middle.records a)).life =
         (m.agrees.sites a site up).life ∙ sym (m.agrees.kept a site).life_is in
@@ -114,7 +117,8 @@ module _ (decl : Declaration) where
           named = v.named;
           low =
               elim
-              (votes_in_life decl (middle.sites a) e.from e.number v.epoch v.life v.promise.tx p among_named to clock is) [
+              (votes_in_life decl (middle.sites a) e.from e.number v.epoch v.life v.promise.tx p among_named to
+              clock is) [
                 | inl none ↦ inl none
                 | inr same ↦ inr (omega arith)
               ];
@@ -132,13 +136,17 @@ module _ (decl : Declaration) where
         step middle next a [] refl (λ s p among to clock is. absurd among) (later_votes_name_later_lives middle l)
     later_votes_name_later_lives next (steps.more middle later l (steps.client_falls a now client up)) =
         step middle next a [] refl (λ s p among to clock is. absurd among) (later_votes_name_later_lives middle l)
-    later_votes_name_later_lives next (steps.more middle later l (steps.site_fails a given written sends now site up came wrote failed)) = step middle next a sends refl
+    later_votes_name_later_lives next
+        (steps.more middle later l (steps.site_fails a given written sends now site up came wrote failed)) =
+        step middle next a sends refl
         (λ s p among to clock is. absurd (elim failed [
           | inl same ↦
               take_silent decl (middle.sites a) given p (subst (λ (ps : List Posting). In p ps) same among) to clock is
           | inr none ↦ (let never : In p [] = subst (λ (ps : List Posting). In p ps) none among in never)
         ])) (later_votes_name_later_lives middle l)
-    later_votes_name_later_lives next (steps.more middle later l (steps.client_fails a given written sends now client up came ready wrote failed)) = step middle next a sends refl (λ s. absurd (no_client decl a s client)) (later_votes_name_later_lives middle l)
+    later_votes_name_later_lives next
+        (steps.more middle later l (steps.client_fails a given written sends now client up came ready wrote failed)) =
+        step middle next a sends refl (λ s. absurd (no_client decl a s client)) (later_votes_name_later_lives middle l)
     later_votes_name_later_lives next (steps.more middle later l (steps.site_rises_up a back now site down given)) =
         step middle next a (site_rises decl a (middle.records a ++ option_to_list back)).turn.sends refl
         (λ s p among to clock is. absurd (no_inquiry decl
@@ -148,15 +156,24 @@ module _ (decl : Declaration) where
     later_votes_name_later_lives next (steps.more middle later l (steps.client_rises_up a back now client down given)) =
         step middle next a [] (sym (append-nil middle.mail)) (λ s p among to clock is. absurd among)
         (later_votes_name_later_lives middle l)
-    later_votes_name_later_lives next (steps.more middle later l (steps.site_rises_in_vain a back now site down given)) = step middle next a [] (sym (append-nil middle.mail)) (λ s p among to clock is. absurd among) (later_votes_name_later_lives middle l)
-    later_votes_name_later_lives next (steps.more middle later l (steps.client_rises_in_vain a back now client down given)) = step middle next a [] (sym (append-nil middle.mail)) (λ s p among to clock is. absurd among) (later_votes_name_later_lives middle l)
+    later_votes_name_later_lives next
+        (steps.more middle later l (steps.site_rises_in_vain a back now site down given)) =
+        step middle next a [] (sym (append-nil middle.mail)) (λ s p among to clock is. absurd among)
+        (later_votes_name_later_lives middle l)
+    later_votes_name_later_lives next
+        (steps.more middle later l (steps.client_rises_in_vain a back now client down given)) =
+        step middle next a [] (sym (append-nil middle.mail)) (λ s p among to clock is. absurd among)
+        (later_votes_name_later_lives middle l)
     later_votes_name_later_lives next (steps.more middle later l (steps.administers given now up came named)) =
         step middle next (administrator decl) (admin_takes decl middle.admin given).turn.sends refl
         (λ s. absurd (no_ruler decl s)) (later_votes_name_later_lives middle l)
     later_votes_name_later_lives next (steps.more middle later l (steps.admin_falls now up)) =
         step middle next (administrator decl) [] refl (λ s. absurd (no_ruler decl s))
         (later_votes_name_later_lives middle l)
-    later_votes_name_later_lives next (steps.more middle later l (steps.admin_fails given written sends now up came named wrote failed)) = step middle next (administrator decl) sends refl (λ s. absurd (no_ruler decl s)) (later_votes_name_later_lives middle l)
+    later_votes_name_later_lives next
+        (steps.more middle later l (steps.admin_fails given written sends now up came named wrote failed)) =
+        step middle next (administrator decl) sends refl (λ s. absurd (no_ruler decl s))
+        (later_votes_name_later_lives middle l)
     later_votes_name_later_lives next (steps.more middle later l (steps.admin_rises_up back now down given)) =
         step middle next (administrator decl) [] (sym (append-nil middle.mail)) (λ s. absurd (no_ruler decl s))
         (later_votes_name_later_lives middle l)
