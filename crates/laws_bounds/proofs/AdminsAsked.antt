@@ -23,8 +23,9 @@ use Rattle.qc_msg.specs.declared.turn.Posting.{Posting}
 use Rattle.qc_stamp.specs.declared.stamp.TxId.{TxId}
 use Rattle.laws_bounds.specs.AdminParts as parts
 use Rattle.laws_bounds.specs.Vocabulary.{AnyNumber, NumberKeeps}
-use Rattle.laws_bounds.proofs.AdminKeeps.{AdminMoveKeeps, AreLined, FirstKeeps, GivenKeeps, Keeping}
-use Rattle.laws_bounds.proofs.AdminKeeps.{ShutCame, admin_keeps, admin_sends_keep, first_unnumbered, questions_in}
+use Rattle.laws_bounds.proofs.AdminKeeps.{FirstKeeps, admin_keeps, admin_sends_keep}
+use Rattle.laws_bounds.proofs.AdminProperties.{AdminMoveKeeps, GivenKeeps, Keeping, Properties, ShutCame}
+use Rattle.laws_bounds.proofs.AdminQuestions.{AreLined, first_unnumbered, questions_in}
 use Rattle.laws_bounds.proofs.AdminCases.{given_cases, shut_keeps}
 
 -- the message of this number is the Ask about a transaction
@@ -49,6 +50,17 @@ AnyVerdict tx verdict = Unit {0}
 abbrev AnyEpoch : ℕ → Type 0
 AnyEpoch epoch = Unit {0}
 
+-- any properties, and one of the numbers
+abbrev numbered : (TxId → ℕ → Type 0) → Properties
+numbered Number = record {
+  Clock = AnyClock;
+  Lines = AnyLines;
+  Promise = AnyPromise;
+  Verdict = AnyVerdict;
+  Epoch = AnyEpoch;
+  Number = Number;
+}
+
 keeping : Keeping AnyClock AnyLines AnyPromise AnyVerdict
 keeping = record {
   first = tt;
@@ -65,9 +77,9 @@ any_promises [] = tt
 any_promises (p ∷ ps) = (tt, any_promises ps)
 
 module _ (Number : TxId → ℕ → Type 0) where
-  shut_came : (answer : Option Answer) → ShutCame AnyClock AnyLines AnyPromise AnyVerdict AnyEpoch Number answer
+  shut_came : (answer : Option Answer) → ShutCame (numbered Number) answer
   shut_came answer =
-      shut_keeps AnyClock AnyLines AnyPromise AnyVerdict AnyEpoch Number (λ (answer : Option Answer). Unit {0})
+      shut_keeps (numbered Number) (λ (answer : Option Answer). Unit {0})
       (λ clock log prepared here. (tt, tt, any_promises prepared)) answer tt
 
   any_told : (tx : TxId) (told : Option Outcome)
@@ -75,10 +87,9 @@ module _ (Number : TxId → ℕ → Type 0) where
   any_told tx None = tt
   any_told tx (Some verdict) = tt
 
-  given_keeps : (m : Admin) (g : Input) → GivenKeeps AnyClock AnyLines AnyPromise AnyVerdict AnyEpoch Number m g
+  given_keeps : (m : Admin) (g : Input) → GivenKeeps (numbered Number) m g
   given_keeps m g =
-      given_cases AnyClock AnyLines AnyPromise AnyVerdict AnyEpoch Number m (λ (g : Input). Unit {0})
-      (λ number here. tt)
+      given_cases (numbered Number) m (λ (g : Input). Unit {0}) (λ number here. tt)
       (λ e to answer here. record { shut = shut_came (Some answer); told = λ q among is. any_told q.tx _ }) g tt
 
 -- a state has any property that is none, so the walk tells how Asks are lined
@@ -114,7 +125,7 @@ any_doing (Installing closed awaits calls installed) = tt
 pub takes_lined : (decl : Declaration) (m : Admin) (g : Input)
     → AreLined (questions_in (admin_takes decl m g).admin.doing) (admin_takes decl m g).turn.sends
 takes_lined decl m g =
-    (admin_keeps AnyClock AnyLines AnyPromise AnyVerdict AnyEpoch AnyNumber keeping decl m
+    (admin_keeps (numbered AnyNumber) keeping decl m
     (record { decided = any_decided m.decided; doing = any_doing m.doing }) g (given_keeps AnyNumber m g)).lined
 
 module _ (ms : List Envelope) where
@@ -133,9 +144,9 @@ module _ (ms : List Envelope) where
   any_decided_asked (Some d) = record { epoch_is = tt; clock_is = tt; lines_are = tt }
 
   pub admin_takes_asked : (decl : Declaration) (m : Admin) (g : Input) → AdminAsked m
-      → AdminMoveKeeps AnyClock AnyLines AnyPromise AnyVerdict AnyEpoch (AsksAt ms) (admin_takes decl m g)
+      → AdminMoveKeeps (numbered (AsksAt ms)) (admin_takes decl m g)
   admin_takes_asked decl m g w =
-      admin_keeps AnyClock AnyLines AnyPromise AnyVerdict AnyEpoch (AsksAt ms) keeping decl m w g
+      admin_keeps (numbered (AsksAt ms)) keeping decl m w g
       (given_keeps (AsksAt ms) m g)
 
 -- more mail
@@ -238,9 +249,7 @@ sent_each_asked a before m (p ∷ ps) k place all lined w =
     omega (arith, place, longer))
     all.1 (one_next m p.message p ps k p.to all.0 lined)
     (subst (λ (ms : List Envelope). AdminAsked ms (sent_one m k p.to p.message)) (sym same)
-    (admin_sends_keep AnyClock AnyLines AnyPromise AnyVerdict AnyEpoch
-    (AsksAt (before ++ envelopes a k (p ∷ ps))) m k p.to
-    p.message first w)))
+    (admin_sends_keep (numbered (AsksAt (before ++ envelopes a k (p ∷ ps)))) m k p.to p.message first w)))
   where
     e : Envelope
     e = record { number = k; from = a; to = p.to; message = p.message }
@@ -254,6 +263,5 @@ sent_each_asked a before m (p ∷ ps) k place all lined w =
         ∙ slice_get-more (before ++ e ∷ []) (envelopes a (k + 1) ps) k e
         (ap (λ (n : ℕ). slice_get (before ++ e ∷ []) n) place ∙ slice_get-last before e)
 
-    first : FirstKeeps AnyClock AnyLines AnyPromise AnyVerdict AnyEpoch (AsksAt (before ++ envelopes a k (p ∷ ps)))
-        (questions_in m.doing) k
+    first : FirstKeeps (numbered (AsksAt (before ++ envelopes a k (p ∷ ps)))) (questions_in m.doing) k
     first = λ u is. (e, here, lined_first (questions_in m.doing) p ps u lined is)

@@ -22,8 +22,10 @@ use Rattle.qc_site.proofs.Sorted.{ascending-stamped}
 use Rattle.qc_stamp.proofs.Orders.{same_tx_is}
 use Rattle.qc_stamp.specs.declared.stamp.TxId.{TxId}
 use Rattle.laws_bounds.specs.Vocabulary.{AdminKeeps, AnyNumber, ToldKeeps}
-use Rattle.laws_bounds.proofs.AdminKeeps.{AdminMoveKeeps, GivenKeeps, Keeping, RecordKeeps, SendKeeps, ShutCame}
-use Rattle.laws_bounds.proofs.AdminKeeps.{WriteKeeps, admin_keeps, admin_risen_keeps, admin_sends_keep, questions_in}
+use Rattle.laws_bounds.proofs.AdminKeeps.{RecordKeeps, admin_keeps, admin_risen_keeps, admin_sends_keep}
+use Rattle.laws_bounds.proofs.AdminProperties.{AdminMoveKeeps, GivenKeeps, Keeping, Properties, SendKeeps, ShutCame}
+use Rattle.laws_bounds.proofs.AdminProperties.{WriteKeeps}
+use Rattle.laws_bounds.proofs.AdminQuestions.{questions_in}
 use Rattle.laws_bounds.proofs.Forms.{CameInForm, LineInForm, LinesInForm, MessageInForm, PromiseInForm, RecordInForm}
 use Rattle.laws_bounds.proofs.Forms.{SendsInForm, TakenInForm, VerdictInForm, WriteInForm}
 use Rattle.laws_bounds.proofs.HeldInForm.{lines_form}
@@ -35,6 +37,17 @@ AnyClock clock = Unit {0}
 
 abbrev IsEpoch : ℕ → Type 0
 IsEpoch epoch = IsWithin 1 8 epoch
+
+-- what it is to be in form
+abbrev properties : Properties
+properties = record {
+  Clock = AnyClock;
+  Lines = LinesInForm;
+  Promise = PromiseInForm;
+  Verdict = VerdictInForm;
+  Epoch = IsEpoch;
+  Number = AnyNumber;
+}
 
 abbrev pub AdminInForm : Admin → Type 0
 AdminInForm m = AdminKeeps AnyClock LinesInForm PromiseInForm VerdictInForm IsEpoch AnyNumber m
@@ -75,34 +88,25 @@ GivenToldIn m (inputs.Called command) = Unit {0}
 GivenToldIn m (inputs.Got e) = MessageToldIn m e.message
 GivenToldIn m (inputs.Lost number) = Unit {0}
 
-shut_came : (answer : Option Answer) → CameInForm answer
-    → ShutCame AnyClock LinesInForm PromiseInForm VerdictInForm IsEpoch AnyNumber answer
-shut_came =
-    shut_keeps AnyClock LinesInForm PromiseInForm VerdictInForm IsEpoch AnyNumber CameInForm
-    (λ clock log prepared here. (tt, here.0, here.1))
+shut_came : (answer : Option Answer) → CameInForm answer → ShutCame properties answer
+shut_came = shut_keeps properties CameInForm (λ clock log prepared here. (tt, here.0, here.1))
 
-given_keeps : (m : Admin) (g : Input) → TakenInForm g → GivenToldIn m g
-    → GivenKeeps AnyClock LinesInForm PromiseInForm VerdictInForm IsEpoch AnyNumber m g
+given_keeps : (m : Admin) (g : Input) → TakenInForm g → GivenToldIn m g → GivenKeeps properties m g
 given_keeps m g here told =
-    given_cases AnyClock LinesInForm PromiseInForm VerdictInForm IsEpoch AnyNumber m
+    given_cases properties m
     (λ (g : Input). TakenInForm g × GivenToldIn m g) (λ number is. is.0)
     (λ e to answer is. record { shut = shut_came (Some answer) is.0; told = is.1 }) g (here, told)
 
 -- what he sends and writes
 
-send_form : (message : Message) → SendKeeps AnyClock LinesInForm PromiseInForm VerdictInForm IsEpoch AnyNumber message
-    → MessageInForm message
+send_form : (message : Message) → SendKeeps properties message → MessageInForm message
 send_form =
-    send_cases AnyClock LinesInForm PromiseInForm VerdictInForm IsEpoch AnyNumber MessageInForm (λ tx keeps. tt)
-    (λ epoch keeps. keeps)
+    send_cases properties MessageInForm (λ tx keeps. tt) (λ epoch keeps. keeps)
     (λ epoch clock lines keeps. record { epoch_is = keeps.epoch_is; lines_are = keeps.lines_are })
 
-write_form : (write : Option Record) → WriteKeeps AnyClock LinesInForm PromiseInForm VerdictInForm IsEpoch AnyNumber
-    write
-    → Every WriteInForm (option_to_list write)
+write_form : (write : Option Record) → WriteKeeps properties write → Every WriteInForm (option_to_list write)
 write_form =
-    write_cases AnyClock LinesInForm PromiseInForm VerdictInForm IsEpoch AnyNumber
-    (λ (write : Option Record). Every WriteInForm (option_to_list write)) tt
+    write_cases properties (λ (write : Option Record). Every WriteInForm (option_to_list write)) tt
     (λ epoch clock lines keeps. ((record { epoch_is = keeps.0.epoch_is; lines_are = keeps.0.lines_are }, keeps.1), tt))
 
 pub record AdminMoveInForm (move : AdminMove) : Type 0 where
@@ -115,37 +119,28 @@ pub admin_takes_form : (decl : Declaration) (m : Admin) (g : Input) → AdminInF
 admin_takes_form decl m g w here told = record {
   admin = on.admin;
   sends =
-      every-weaker
-      (λ (p : Posting). SendKeeps AnyClock LinesInForm PromiseInForm VerdictInForm IsEpoch AnyNumber p.message)
+      every-weaker (λ (p : Posting). SendKeeps properties p.message)
       (λ (p : Posting). MessageInForm p.message) (λ p keeps. send_form p.message keeps)
       (admin_takes decl m g).turn.sends
       on.sends;
   write = write_form (admin_takes decl m g).turn.write on.write;
 } where
-  on : AdminMoveKeeps AnyClock LinesInForm PromiseInForm VerdictInForm IsEpoch AnyNumber (admin_takes decl m g)
-  on =
-      admin_keeps AnyClock LinesInForm PromiseInForm VerdictInForm IsEpoch AnyNumber keeping decl m w g
-      (given_keeps m g here told)
+  on : AdminMoveKeeps properties (admin_takes decl m g)
+  on = admin_keeps properties keeping decl m w g (given_keeps m g here told)
 
 pub admin_sends_form : (m : Admin) (number to : ℕ) (message : Message) → AdminInForm m
     → AdminInForm (sent_one m number to message)
-admin_sends_form m number to message w =
-    admin_sends_keep AnyClock LinesInForm PromiseInForm VerdictInForm IsEpoch AnyNumber m number to message
-    (λ u is. tt) w
+admin_sends_form m number to message w = admin_sends_keep properties m number to message (λ u is. tt) w
 
 -- as he rises
 
-record_keeps : (r : Record) → RecordInForm r
-    → RecordKeeps AnyClock LinesInForm PromiseInForm VerdictInForm IsEpoch AnyNumber r
+record_keeps : (r : Record) → RecordInForm r → RecordKeeps properties r
 record_keeps =
-    record_cases AnyClock LinesInForm PromiseInForm VerdictInForm IsEpoch AnyNumber RecordInForm
+    record_cases properties RecordInForm
     (λ epoch clock lines here. record { epoch_is = here.epoch_is; clock_is = tt; lines_are = here.lines_are })
 
 pub admin_risen_form : (rs : List Record) → Every RecordInForm rs → AdminInForm (admin_of (rs ++ records.Life ∷ []))
 admin_risen_form rs all =
-    admin_risen_keeps AnyClock LinesInForm PromiseInForm VerdictInForm IsEpoch AnyNumber (rs ++ records.Life ∷ [])
-    (every-append (RecordKeeps AnyClock LinesInForm PromiseInForm VerdictInForm IsEpoch AnyNumber) rs
-    (records.Life ∷ [])
-    (every-weaker RecordInForm (RecordKeeps AnyClock LinesInForm PromiseInForm VerdictInForm IsEpoch AnyNumber)
-    record_keeps rs all)
-    (tt, tt))
+    admin_risen_keeps properties (rs ++ records.Life ∷ [])
+    (every-append (RecordKeeps properties) rs (records.Life ∷ [])
+    (every-weaker RecordInForm (RecordKeeps properties) record_keeps rs all) (tt, tt))

@@ -17,8 +17,9 @@ use Rattle.qc_msg.specs.declared.turn.Posting.{Posting}
 use Rattle.qc_recover.specs.Vocabulary.{admin_of}
 use Rattle.qc_stamp.specs.declared.stamp.TxId.{TxId}
 use Rattle.laws_bounds.specs.Vocabulary.{AdminKeeps, AnyNumber, ToldKeeps}
-use Rattle.laws_bounds.proofs.AdminKeeps.{AdminMoveKeeps, CameKeeps, GivenKeeps, Keeping, RecordKeeps, SendKeeps}
-use Rattle.laws_bounds.proofs.AdminKeeps.{ShutCame, WriteKeeps, admin_keeps, admin_risen_keeps, admin_sends_keep}
+use Rattle.laws_bounds.proofs.AdminKeeps.{RecordKeeps, admin_keeps, admin_risen_keeps, admin_sends_keep}
+use Rattle.laws_bounds.proofs.AdminProperties.{AdminMoveKeeps, CameKeeps, GivenKeeps, Keeping, Properties, SendKeeps}
+use Rattle.laws_bounds.proofs.AdminProperties.{ShutCame, WriteKeeps}
 use Rattle.laws_bounds.proofs.HeldNamed.{lines_named}
 use Rattle.laws_bounds.proofs.Names.{AreNamed, CameNamed, GivenNamed, LineNamed, LinesNamed, MessageNamed}
 use Rattle.laws_bounds.proofs.Names.{PromiseNamed, RecordNamed, SendsNamed}
@@ -30,6 +31,17 @@ module _ (decl : Declaration) where
 
   abbrev AnyVerdict : TxId → Outcome → Type 0
   AnyVerdict tx verdict = Unit {0}
+
+  -- what it is to name what is declared
+  abbrev properties : Properties
+  properties = record {
+    Clock = AnyClock;
+    Lines = LinesNamed decl;
+    Promise = PromiseNamed decl;
+    Verdict = AnyVerdict;
+    Epoch = HasPlan decl;
+    Number = AnyNumber;
+  }
 
   abbrev pub AdminNamed : Admin → Type 0
   AdminNamed m = AdminKeeps AnyClock (LinesNamed decl) (PromiseNamed decl) AnyVerdict (HasPlan decl) AnyNumber m
@@ -47,11 +59,8 @@ module _ (decl : Declaration) where
 
   -- what he takes
 
-  shut_came : (answer : Option Answer) → CameNamed decl answer
-      → ShutCame AnyClock (LinesNamed decl) (PromiseNamed decl) AnyVerdict (HasPlan decl) AnyNumber answer
-  shut_came =
-      shut_keeps AnyClock (LinesNamed decl) (PromiseNamed decl) AnyVerdict (HasPlan decl) AnyNumber (CameNamed decl)
-      (λ clock log prepared here. (tt, here.0, here.1))
+  shut_came : (answer : Option Answer) → CameNamed decl answer → ShutCame properties answer
+  shut_came = shut_keeps properties (CameNamed decl) (λ clock log prepared here. (tt, here.0, here.1))
 
   any_told : (tx : TxId) (told : Option Outcome)
       → ToldKeeps AnyClock (LinesNamed decl) (PromiseNamed decl) AnyVerdict (HasPlan decl) AnyNumber tx told
@@ -59,30 +68,26 @@ module _ (decl : Declaration) where
   any_told tx (Some verdict) = tt
 
   came : (m : Admin) (number : ℕ) (answer : Option Answer) → CameNamed decl answer
-      → CameKeeps AnyClock (LinesNamed decl) (PromiseNamed decl) AnyVerdict (HasPlan decl) AnyNumber m number answer
+      → CameKeeps properties m number answer
   came m number answer here = record { shut = shut_came answer here; told = λ q among is. any_told q.tx _ }
 
-  given_keeps : (m : Admin) (g : Input) → GivenNamed decl g
-      → GivenKeeps AnyClock (LinesNamed decl) (PromiseNamed decl) AnyVerdict (HasPlan decl) AnyNumber m g
+  given_keeps : (m : Admin) (g : Input) → GivenNamed decl g → GivenKeeps properties m g
   given_keeps m =
-      given_cases AnyClock (LinesNamed decl) (PromiseNamed decl) AnyVerdict (HasPlan decl) AnyNumber m (GivenNamed decl)
+      given_cases properties m (GivenNamed decl)
       (λ number here. here) (λ e to answer here. came m to (Some answer) here)
 
   -- what he sends and writes
 
-  send_named : (message : Message)
-      → SendKeeps AnyClock (LinesNamed decl) (PromiseNamed decl) AnyVerdict (HasPlan decl) AnyNumber message
-      → MessageNamed decl message
+  send_named : (message : Message) → SendKeeps properties message → MessageNamed decl message
   send_named =
-      send_cases AnyClock (LinesNamed decl) (PromiseNamed decl) AnyVerdict (HasPlan decl) AnyNumber (MessageNamed decl)
+      send_cases properties (MessageNamed decl)
       (λ tx keeps. subst (λ (t : TxId). t.client < decl.clients) keeps.1.0 keeps.1.1.client) (λ epoch keeps. keeps)
       (λ epoch clock lines keeps. (keeps.epoch_is, keeps.lines_are))
 
-  write_named : (a : ℕ) (write : Option Record) → a ≡ administrator decl
-      → WriteKeeps AnyClock (LinesNamed decl) (PromiseNamed decl) AnyVerdict (HasPlan decl) AnyNumber write
+  write_named : (a : ℕ) (write : Option Record) → a ≡ administrator decl → WriteKeeps properties write
       → AreNamed decl a (option_to_list write)
   write_named a write is =
-      write_cases AnyClock (LinesNamed decl) (PromiseNamed decl) AnyVerdict (HasPlan decl) AnyNumber
+      write_cases properties
       (λ (write : Option Record). AreNamed decl a (option_to_list write)) tt
       (λ epoch clock lines keeps. ((is, keeps.0.epoch_is, keeps.0.lines_are), tt)) write
 
@@ -96,43 +101,28 @@ module _ (decl : Declaration) where
   admin_takes_named a m g w here = record {
     admin = on.admin;
     sends =
-        every-weaker
-        (λ (p : Posting). SendKeeps AnyClock (LinesNamed decl) (PromiseNamed decl) AnyVerdict
-        (HasPlan decl) AnyNumber p.message)
+        every-weaker (λ (p : Posting). SendKeeps properties p.message)
         (λ (p : Posting). MessageNamed decl p.message) (λ p keeps. send_named p.message keeps)
         (admin_takes decl m g).turn.sends on.sends;
     write = λ is. write_named a (admin_takes decl m g).turn.write is on.write;
   } where
-    on : AdminMoveKeeps AnyClock (LinesNamed decl) (PromiseNamed decl) AnyVerdict (HasPlan decl) AnyNumber
-        (admin_takes decl m g)
-    on =
-        admin_keeps AnyClock (LinesNamed decl) (PromiseNamed decl) AnyVerdict
-        (HasPlan decl) AnyNumber keeping decl m w g
-        (given_keeps m g here)
+    on : AdminMoveKeeps properties (admin_takes decl m g)
+    on = admin_keeps properties keeping decl m w g (given_keeps m g here)
 
   pub admin_sends_named : (m : Admin) (number to : ℕ) (message : Message) → AdminNamed m
       → AdminNamed (sent_one m number to message)
-  admin_sends_named m number to message w =
-      admin_sends_keep AnyClock (LinesNamed decl) (PromiseNamed decl) AnyVerdict
-      (HasPlan decl) AnyNumber m number to message (λ u is. tt) w
+  admin_sends_named m number to message w = admin_sends_keep properties m number to message (λ u is. tt) w
 
   -- as he rises
 
-  record_keeps : (a : ℕ) (r : Record) → RecordNamed decl a r
-      → RecordKeeps AnyClock (LinesNamed decl) (PromiseNamed decl) AnyVerdict (HasPlan decl) AnyNumber r
+  record_keeps : (a : ℕ) (r : Record) → RecordNamed decl a r → RecordKeeps properties r
   record_keeps a =
-      record_cases AnyClock (LinesNamed decl) (PromiseNamed decl) AnyVerdict (HasPlan decl) AnyNumber
-      (RecordNamed decl a)
+      record_cases properties (RecordNamed decl a)
       (λ epoch clock lines here. record { epoch_is = here.1; clock_is = tt; lines_are = here.2 })
 
   pub admin_risen_named : (a : ℕ) (rs : List Record) → AreNamed decl a rs
       → AdminNamed (admin_of (rs ++ records.Life ∷ []))
   admin_risen_named a rs all =
-      admin_risen_keeps AnyClock (LinesNamed decl) (PromiseNamed decl) AnyVerdict (HasPlan decl) AnyNumber
-      (rs ++ records.Life ∷ [])
-      (every-append (RecordKeeps AnyClock (LinesNamed decl) (PromiseNamed decl) AnyVerdict (HasPlan decl) AnyNumber) rs
-      (records.Life ∷ [])
-      (every-weaker (RecordNamed decl a)
-      (RecordKeeps AnyClock (LinesNamed decl) (PromiseNamed decl) AnyVerdict (HasPlan decl) AnyNumber)
-      (record_keeps a) rs all)
-      (tt, tt))
+      admin_risen_keeps properties (rs ++ records.Life ∷ [])
+      (every-append (RecordKeeps properties) rs (records.Life ∷ [])
+      (every-weaker (RecordNamed decl a) (RecordKeeps properties) (record_keeps a) rs all) (tt, tt))

@@ -6,8 +6,9 @@ use Rattle.qc_list.proofs.Members.{every-weaker}
 use Rattle.laws_bounds.specs.AdminParts as parts
 use Rattle.laws_bounds.specs.Vocabulary.{AdminWithin, AnyEpoch, AnyNumber, AreWithin, ClockWithin, DecidedWithin}
 use Rattle.laws_bounds.specs.Vocabulary.{PromiseWithin, TurnWithin, VerdictWithin}
-use Rattle.laws_bounds.proofs.AdminKeeps.{AdminMoveKeeps, CameKeeps, GivenKeeps, Keeping, SendKeeps, ShutCame}
-use Rattle.laws_bounds.proofs.AdminKeeps.{WriteKeeps, admin_keeps, admin_sends_keep}
+use Rattle.laws_bounds.proofs.AdminKeeps.{admin_keeps, admin_sends_keep}
+use Rattle.laws_bounds.proofs.AdminProperties.{AdminMoveKeeps, CameKeeps, GivenKeeps, Keeping, Properties, SendKeeps}
+use Rattle.laws_bounds.proofs.AdminProperties.{ShutCame, WriteKeeps}
 use Rattle.laws_bounds.proofs.RisenWithin.{stamped_within}
 use Rattle.qc_core.proofs.AdminWrites.{admin_written}
 use Rattle.qc_decl.specs.declared.declaration.Declaration.{Declaration}
@@ -47,7 +48,8 @@ module _ (low high : ℕ) (le : low ≤ high) where
       (VerdictWithin low) AnyEpoch AnyNumber shuts
       → parts.ShutsKeep (ClockWithin high) (LinesWithin high) (PromiseWithin high)
       (VerdictWithin high) AnyEpoch AnyNumber shuts
-  shuts_le = every-weaker (parts.ShutKeeps (ClockWithin low) (LinesWithin low) (PromiseWithin low)
+  shuts_le =
+      every-weaker (parts.ShutKeeps (ClockWithin low) (LinesWithin low) (PromiseWithin low)
       (VerdictWithin low) AnyEpoch AnyNumber) (parts.ShutKeeps (ClockWithin high) (LinesWithin high)
       (PromiseWithin high) (VerdictWithin high) AnyEpoch AnyNumber) shut_le
 
@@ -96,6 +98,17 @@ module _ (low high : ℕ) (le : low ≤ high) where
   admin_le m w = record { decided = decided_le m.decided w.decided; doing = doing_le m.doing w.doing }
 
 module _ (bound : ℕ) where
+  -- what it is to be within a bound
+  abbrev properties : Properties
+  properties = record {
+    Clock = ClockWithin bound;
+    Lines = LinesWithin bound;
+    Promise = PromiseWithin bound;
+    Verdict = VerdictWithin bound;
+    Epoch = AnyEpoch;
+    Number = AnyNumber;
+  }
+
   keeping : Keeping (ClockWithin bound) (LinesWithin bound) (PromiseWithin bound) (VerdictWithin bound)
   keeping = record {
     first = omega arith;
@@ -113,12 +126,8 @@ module _ (bound : ℕ) where
   CameWithin None = Unit {0}
   CameWithin (Some answer) = AnswerWithin bound answer
 
-  shut_came : (answer : Option Answer) → CameWithin answer
-      → ShutCame (ClockWithin bound) (LinesWithin bound) (PromiseWithin bound)
-      (VerdictWithin bound) AnyEpoch AnyNumber answer
-  shut_came =
-      shut_keeps (ClockWithin bound) (LinesWithin bound) (PromiseWithin bound) (VerdictWithin bound) AnyEpoch AnyNumber
-      CameWithin (λ clock log prepared here. (here.0, here.1, here.2))
+  shut_came : (answer : Option Answer) → CameWithin answer → ShutCame properties answer
+  shut_came = shut_keeps properties CameWithin (λ clock log prepared here. (here.0, here.1, here.2))
 
   told : (tx : TxId) (answer : Option Answer) → CameWithin answer
       → parts.ToldKeeps (ClockWithin bound) (LinesWithin bound) (PromiseWithin bound)
@@ -128,37 +137,29 @@ module _ (bound : ℕ) where
       (PromiseWithin bound) (VerdictWithin bound) AnyEpoch AnyNumber tx o) tt (λ verdict here. here)
 
   came : (m : Admin) (number : ℕ) (answer : Option Answer) → CameWithin answer
-      → CameKeeps (ClockWithin bound) (LinesWithin bound) (PromiseWithin bound)
-      (VerdictWithin bound) AnyEpoch AnyNumber m number answer
+      → CameKeeps properties m number answer
   came m number answer here = record { shut = shut_came answer here; told = λ q among is. told q.tx answer here }
 
-  given_keeps : (m : Admin) (g : Input) → GivenWithin bound g
-      → GivenKeeps (ClockWithin bound) (LinesWithin bound) (PromiseWithin bound)
-      (VerdictWithin bound) AnyEpoch AnyNumber m g
+  given_keeps : (m : Admin) (g : Input) → GivenWithin bound g → GivenKeeps properties m g
   given_keeps m =
-      given_cases (ClockWithin bound) (LinesWithin bound) (PromiseWithin bound) (VerdictWithin bound) AnyEpoch AnyNumber
+      given_cases properties
       m (GivenWithin bound) (λ number here. tt) (λ e to answer here. came m to (Some answer) here)
 
   -- what he sends and writes
 
-  send_within : (message : Message) → SendKeeps (ClockWithin bound) (LinesWithin bound) (PromiseWithin bound)
-      (VerdictWithin bound) AnyEpoch AnyNumber message → MessageWithin bound message
+  send_within : (message : Message) → SendKeeps properties message → MessageWithin bound message
   send_within =
-      send_cases (ClockWithin bound) (LinesWithin bound) (PromiseWithin bound) (VerdictWithin bound) AnyEpoch AnyNumber
-      (MessageWithin bound) (λ tx keeps. tt) (λ epoch keeps. tt)
+      send_cases properties (MessageWithin bound) (λ tx keeps. tt) (λ epoch keeps. tt)
       (λ epoch clock lines keeps. (keeps.clock_is, keeps.lines_are))
 
   sends_within : (ps : List Posting) → Every
-      (λ (p : Posting). SendKeeps (ClockWithin bound) (LinesWithin bound) (PromiseWithin bound)
-      (VerdictWithin bound) AnyEpoch AnyNumber p.message) ps → SendsWithin bound ps
+      (λ (p : Posting). SendKeeps properties p.message) ps → SendsWithin bound ps
   sends_within [] all = tt
   sends_within (p ∷ ps) all = (send_within p.message all.0, sends_within ps all.1)
 
-  write_within : (write : Option Record) → WriteKeeps (ClockWithin bound) (LinesWithin bound) (PromiseWithin bound)
-      (VerdictWithin bound) AnyEpoch AnyNumber write → AreWithin bound (option_to_list write)
+  write_within : (write : Option Record) → WriteKeeps properties write → AreWithin bound (option_to_list write)
   write_within =
-      write_cases (ClockWithin bound) (LinesWithin bound) (PromiseWithin bound) (VerdictWithin bound) AnyEpoch AnyNumber
-      (λ (write : Option Record). AreWithin bound (option_to_list write)) tt
+      write_cases properties (λ (write : Option Record). AreWithin bound (option_to_list write)) tt
       (λ epoch clock lines keeps. ((keeps.0.clock_is, keeps.0.lines_are), tt))
 
 pub record AdminMoveWithin (bound : ℕ) (move : AdminMove) : Type 0 where
@@ -176,13 +177,10 @@ admin_takes_within bound decl m w g here = record {
     write = write_within bound (admin_takes decl m g).turn.write on.write;
   };
 } where
-  on : AdminMoveKeeps (ClockWithin bound) (LinesWithin bound) (PromiseWithin bound)
-      (VerdictWithin bound) AnyEpoch AnyNumber (admin_takes decl m g)
-  on = admin_keeps (ClockWithin bound) (LinesWithin bound) (PromiseWithin bound)
-      (VerdictWithin bound) AnyEpoch AnyNumber (keeping bound) decl m w g (given_keeps bound m g here)
+  on : AdminMoveKeeps (properties bound) (admin_takes decl m g)
+  on = admin_keeps (properties bound) (keeping bound) decl m w g (given_keeps bound m g here)
 
 pub admin_sends_within : (bound : ℕ) (m : Admin) (number to : ℕ) (message : Message) → AdminWithin bound m
     → AdminWithin bound (sent_one m number to message)
 admin_sends_within bound m number to message w =
-    admin_sends_keep (ClockWithin bound) (LinesWithin bound) (PromiseWithin bound)
-    (VerdictWithin bound) AnyEpoch AnyNumber m number to message (λ u is. tt) w
+    admin_sends_keep (properties bound) m number to message (λ u is. tt) w

@@ -29,7 +29,7 @@ use Rattle.qc_stamp.specs.declared.stamp.TxId.{TxId}
 use Rattle.laws_bounds.specs.Vocabulary.{NumberKeeps}
 use Rattle.laws_bounds.proofs.ActorsInForm.{IsToldFor}
 use Rattle.laws_bounds.proofs.ActorsWithin.{IsOfPost}
-use Rattle.laws_bounds.proofs.AdminKeeps.{AreLined, questions_in}
+use Rattle.laws_bounds.proofs.AdminQuestions.{AreLined, questions_in}
 use Rattle.laws_bounds.proofs.AdminsAsked.{AdminAsked, DoingAsked, QuestionAsked, AsksAt, sent_each_asked}
 use Rattle.laws_bounds.proofs.AdminsInForm.{IsToldIn, MessageToldIn, ToldForm}
 use Rattle.laws_bounds.proofs.Forms.{VerdictInForm}

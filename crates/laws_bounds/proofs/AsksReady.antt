@@ -22,7 +22,7 @@ use Rattle.qc_recover.specs.Admins as rulings
 use Rattle.qc_recover.specs.Vocabulary.{inquiry, kept_by, most_inquiries}
 use Rattle.qc_site.specs.Vocabulary.{in_order}
 use Rattle.qc_stamp.specs.declared.stamp.TxId.{TxId}
-use Rattle.laws_bounds.proofs.AdminKeeps.{AreLined, questions_in}
+use Rattle.laws_bounds.proofs.AdminQuestions.{AreLined, questions_in}
 use Rattle.laws_bounds.proofs.AdminsAsked.{any_decided_asked, takes_lined}
 use Rattle.laws_bounds.proofs.AnswersToAsks.{ActorTold, SendsTold}
 use Rattle.laws_bounds.proofs.AsksAnswered.{AreReady}

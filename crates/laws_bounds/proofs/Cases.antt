@@ -53,7 +53,8 @@ decide_cases H Q at (records.Commit commit) here = tt
 decide_cases H Q at (records.Decide start) here = at start.epoch start.clock start.lines here
 
 pub shut_cases : (H : Option Answer → Type 0) (Q : Snapshot → Type 0)
-    → ((clock : ℕ) (log : List Line) (prepared : List Prepared) → H (Some (answers.Shut (snapshot_with clock log prepared)))
+    → ((clock : ℕ) (log : List Line) (prepared : List Prepared)
+    → H (Some (answers.Shut (snapshot_with clock log prepared)))
     → Q (record { clock = clock; log = log; prepared = prepared }))
     → (answer : Option Answer) → H answer → MatchOption (option_and_then shut_in answer) (Unit {0}) Q
 shut_cases H Q at None here = tt

@@ -14,6 +14,9 @@ pub mod AdminsAsked
 pub mod AdminsInForm
 pub mod AdminsNamed
 pub mod AdminKeeps
+pub mod AdminProperties
+pub mod AdminQuestions
+pub mod AdminWalks
 pub mod RunsFit
 pub mod MailFits
 pub mod AdminsWithin

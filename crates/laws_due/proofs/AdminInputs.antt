@@ -66,7 +66,9 @@ module _ (decl : Declaration) (some : (decl.sites == 0) ≡ false) where
           ));
       stands = record {
         state = sent_each (admin_takes decl s.state g).admin first (admin_takes decl s.state g).turn.sends;
-        actor = ap (λ (m : ActorMove). m.actor) (actor_more decl (ds ++ Takes g ∷ []) (turn_deeds first (admin_takes decl s.state g).turn)
+        actor =
+            ap (λ (m : ActorMove). m.actor)
+            (actor_more decl (ds ++ Takes g ∷ []) (turn_deeds first (admin_takes decl s.state g).turn)
             ∙ ap
             (λ (m : ActorMove). fold (actor_does decl (administrator decl)) m
             (turn_deeds first (admin_takes decl s.state g).turn)) takes_to

@@ -153,7 +153,8 @@ module _ (decl : Declaration) where
           → (option_map_or (λ (k : ℕ). if_called_for (calls_close decl d to k) d number to Close)
           c
           (option_map_or (λ (tx : TxId). if_called_for (calls_ask decl d to tx) d number to (Ask tx)) a
-          (option_map_or (λ (x : EpochStart). if_called_for (calls_install d to x) d number to Install) i d))).command ≡ d.command
+          (option_map_or (λ (x : EpochStart). if_called_for (calls_install d to x) d number to Install) i d))).command
+          ≡ d.command
       by (Some k) a i = called_command (calls_close decl d to k) d number to Close
       by None (Some tx) i = called_command (calls_ask decl d to tx) d number to (Ask tx)
       by None None (Some x) = called_command (calls_install d to x) d number to Install

@@ -1,5 +1,5 @@
--- In each run with falls each open request of a client that is up is awaited, and each of the administrator: it is lost, or
--- unanswered, or a copy of an answer is ready.
+-- In each run with falls each open request of a client that is up is awaited, and each of the administrator: it is
+-- lost, or unanswered, or a copy of an answer is ready.
 use Rattle.std.proofs.Common.{[], ◌≡◌, ℕ, ◌-◌, ◌≤◌, Bool, true, List, refl, sym, ap, ◌∙◌, subst, arith}
 use Rattle.qc_list.specs.Vocabulary.{In}
 use Rattle.qc_core.proofs.ByNumber.{admin_new, admin_no_client, admin_no_site, admin_risen}
@@ -60,4 +60,5 @@ module _ (decl : Declaration) (script : Script) (fits : ℕ → List Record → 
       → (k : ℕ) → In k (open_numbers m.doing) → IsAwaited k (inbox script (administrator decl) h)
   his_requests_awaited h open_inputs run m is =
       (subst (λ (v : Actor). Awaits (administrator decl) v (inbox script (administrator decl) h)) is
-      (run_awaits decl script (administrator decl) fits few (omega arith) first_his (λ kept. ap (λ (x : ActorMove). x.turn) (his_rise kept)) he_lives risen_his h open_inputs run)).calls
+      (run_awaits decl script (administrator decl) fits few (omega arith) first_his
+      (λ kept. ap (λ (x : ActorMove). x.turn) (his_rise kept)) he_lives risen_his h open_inputs run)).calls

@@ -181,7 +181,8 @@ module _ (decl : Declaration) (script : Script) (a : ℕ) where
                 (actor_after decl a (deeds a [] (older ++ by a (steps.Rose kept ∷ posted_as turn.append n turn)))).actor
                 ≡ (actor_rises decl a kept).actor
             risen =
-                ap (λ (ds : List Deed). (actor_after decl a ds).actor) (is_deeds ∙ ap (λ (end : Appended). (deeds a [] older ++ Rises kept ∷ []) ++ deeds_as end n turn) is
+                ap (λ (ds : List Deed). (actor_after decl a ds).actor) (is_deeds
+                ∙ ap (λ (end : Appended). (deeds a [] older ++ Rises kept ∷ []) ++ deeds_as end n turn) is
                 ∙ ap (λ (t : Turn). (deeds a [] older ++ Rises kept ∷ []) ++ turn_deeds n t) (sym rising_is))
                 ∙ written
         at Failed is = broken Failed is (λ no. let never : ⊥ = cc in never)
@@ -286,4 +287,6 @@ module _ (decl : Declaration) (script : Script) (a : ℕ) where
         → (q : Call) → In q (open_calls c) → IsAwaited q.number (inbox script a h)
     open_requests_awaited h open_inputs run c is =
         (subst (λ (v : Actor). Awaits a v (inbox script a h)) is
-        (run_awaits fits few (client_within decl a client) first_client (λ kept. ap (λ (m : ActorMove). m.turn) (client_risen decl a client kept)) client_alive risen_client h open_inputs run)).calls
+        (run_awaits fits few (client_within decl a client) first_client
+        (λ kept. ap (λ (m : ActorMove). m.turn) (client_risen decl a client kept)) client_alive risen_client h
+        open_inputs run)).calls

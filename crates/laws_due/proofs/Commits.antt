@@ -73,7 +73,11 @@ module _ (decl : Declaration) (number : ℕ) (d : Account) (t : Current) (asked 
       longer =
           ap (λ (v : List ClientRequest). length v)
           (filter-append (λ (q : ClientRequest). is_prepare q.want) qs (request_at n t Prepare site ∷ []))
-          ∙ (let more : length (filter (λ (q : ClientRequest). is_prepare q.want) qs ++ request_at n t Prepare site ∷ []) ≡ length (filter (λ (q : ClientRequest). is_prepare q.want) qs) + 1 = length-append (filter (λ (q : ClientRequest). is_prepare q.want) qs) (request_at n t Prepare site ∷ []) in omega arith)
+          ∙ (let more :
+          length (filter (λ (q : ClientRequest). is_prepare q.want) qs ++ request_at n t Prepare site ∷ [])
+          ≡ length (filter (λ (q : ClientRequest). is_prepare q.want) qs) + 1 =
+          length-append (filter (λ (q : ClientRequest). is_prepare q.want) qs) (request_at n t Prepare site ∷ []) in
+          omega arith)
 
   some_open : (n : ℕ) (ss : List ℕ) → (length ss == 0) ≡ false
       → list_all (λ (q : ClientRequest). is_some q.taken) (requests_from n t Prepare ss) ≡ false
@@ -85,7 +89,9 @@ module _ (decl : Declaration) (number : ℕ) (d : Account) (t : Current) (asked 
       (desk_moved (desk (Some (record { begun = b; calls = []; ballots = blank (participants decl d t) })))
       (sending (map (ballots.prepares b) (participants decl d t)))))
   votes_start f some = record {
-    tells = sym (ap (λ (z : Bool). cond z (Some (replies.Aborted causes.Doomed)) (cond ((length (participants decl d t) == 0) && true) (vote_row (commit_at d t []) false None) None)) live
+    tells =
+        sym (ap (λ (z : Bool). cond z (Some (replies.Aborted causes.Doomed))
+        (cond ((length (participants decl d t) == 0) && true) (vote_row (commit_at d t []) false None) None)) live
         ∙ ap (λ (z : Bool). cond (z && true) (vote_row (commit_at d t []) false None) None) some);
     due = a.due;
     ties = a.ties;

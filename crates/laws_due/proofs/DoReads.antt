@@ -188,7 +188,8 @@ module _ (decl : Declaration) (number : ℕ) (d : Account) (desk : Desk) (t : Cu
     where
       none_called : calls_in qs ≡ []
       none_called =
-          sym (calls_half is_read qs (every-weaker (IsRead object inv) (IsOpenIn is_read) (open_read object inv) qs all))
+          sym
+          (calls_half is_read qs (every-weaker (IsRead object inv) (IsOpenIn is_read) (open_read object inv) qs all))
           ∙ noted_open (filter (λ (q : ClientRequest). is_read q.want) qs) (noted_met (round qs) met)
 
       fresh : round_at decl d t is_append (append_need_of decl t.epoch object event) qs

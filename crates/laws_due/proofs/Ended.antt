@@ -97,8 +97,8 @@ module _ (decl : Declaration) (script : Script) (accepted : IsAccepted decl) (as
 
   pub commands_end : (a : ℕ) → is_client decl a ≡ true → is_running (deeds a [] h) ≡ false
   commands_end a client =
-      let r : ActsIn decl a h false = actors_take_and_post_by_turns decl script h (replicate (actors decl) false) closed a false
-      (free a client) in
+      let r : ActsIn decl a h false =
+      actors_take_and_post_by_turns decl script h (replicate (actors decl) false) closed a false (free a client) in
       sym (clients_wait_while_commands_run decl script asks h (replicate (actors decl) false) closed a client
       (free a client))
       ∙ clients_wait_only_for_requests decl a client (deeds a [] h) r.above r.acts

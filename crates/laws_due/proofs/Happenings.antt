@@ -197,7 +197,10 @@ module _ (decl : Declaration) (a : ℕ) (client : is_client decl a ≡ true) whe
           (no_act (Takes g ∷ Tells replies.Unknown ∷ Falls cause (Some (records.Commit c)) ∷ ys) refl r.up)
           (λ dues. (input_free decl a client ds r g may, (by cause by_disk ys, (tt, dues))));
       stands = record {
-        actor = ap (λ (m : ActorMove). m.actor) (actor_more decl a (ds ++ Takes g ∷ []) (Tells replies.Unknown ∷ Falls cause (Some (records.Commit c)) ∷ []));
+        actor =
+            ap (λ (m : ActorMove). m.actor)
+            (actor_more decl a (ds ++ Takes g ∷ [])
+            (Tells replies.Unknown ∷ Falls cause (Some (records.Commit c)) ∷ []));
         up =
             ap (λ (d : Account). d.up)
             (posted_account (Tells replies.Unknown ∷ Falls cause (Some (records.Commit c)) ∷ []));

@@ -40,8 +40,11 @@ pub first_wanted : (r : RoundState) (site : ℕ) (sites : List ℕ) → wanted r
 first_wanted r site sites is = by (length r.rest) (let same : length r.rest ≡ length r.rest = refl in omega arith)
   where
     by : (n : ℕ) → length r.rest ≤ n → (next_site r ≡ Some site) × (wanted (asking_one r site) ≡ sites)
-    by zero low = absurd (let none : [] ≡ site ∷ sites = ap (λ (p : List ℕ × RoundState). p.0) (sites_are_asked_one_by_one zero r low)
-        ∙ is in let never : ⊥ = cc in never)
+    by zero low =
+        absurd
+        (let none : [] ≡ site ∷ sites =
+        ap (λ (p : List ℕ × RoundState). p.0) (sites_are_asked_one_by_one zero r low) ∙ is in
+        let never : ⊥ = cc in never)
     by (suc n) low =
         at (next_site r) refl (ap (λ (p : List ℕ × RoundState). p.0) (sites_are_asked_one_by_one (suc n) r low) ∙ is)
       where

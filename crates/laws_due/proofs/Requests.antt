@@ -104,7 +104,8 @@ set_taken {A} key make keys number answer q (p ∷ qs) sites numbers e =
         open_parts (p.number == number) (is_none p.taken) is in
         let number_is : p.number ≡ number = eqb-true p.number number parts.0 in
         let first : key (make p) ≡ q.site = keys p ∙ ap (λ (x : ClientRequest). x.site) same in
-        let others : taken_for number answer qs ≡ qs = none_taken number answer qs (λ y y_in. subst (λ (k : ℕ). k ≢ y) number_is (apart_first parts.1 y y_in)) in
+        let others : taken_for number answer qs ≡ qs =
+        none_taken number answer qs (λ y y_in. subst (λ (k : ℕ). k ≢ y) number_is (apart_first parts.1 y y_in)) in
         ap (λ (b : Bool). cond b (make (took q answer) ∷ map make qs)
         (make p ∷ first_set key q.site (make (took q answer)) (map make qs))) (eq-eqb (key (make p)) q.site first)
         ∙ (λ i. make (took (sym same i) answer) ∷ map make (sym others i))

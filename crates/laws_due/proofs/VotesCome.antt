@@ -11,7 +11,7 @@ use Rattle.qc_view.specs.declared.view.View.{View}
 use Rattle.qc_commit.specs.declared.desk.Desk.{Desk}
 use Rattle.qc_commit.specs.declared.desk.Voting.{Voting}
 use Rattle.qc_commit.specs.Conduct as desks
-use Rattle.qc_commit.specs.Vocabulary.{moved as desk_moved}
+use Rattle.qc_commit.specs.Vocabulary.{DeskMove, moved as desk_moved}
 use Rattle.qc_commit.specs.Votes as ballots
 use Rattle.qc_front.specs.declared.doing.Doing.TheVariants.{Idle}
 use Rattle.qc_front.specs.declared.front.Front.{Front}
@@ -220,6 +220,14 @@ module _ (decl : Declaration) (number : ℕ) (d : Account) (t : Current) (asked 
     desk = refl;
   })
 
+  -- what the desk does as the votes are all cast, or are not
+  abbrev counted_at : Option Voting → List ClientRequest → Bool → DeskMove
+  counted_at voting qs z =
+      cond z (desks.counted_out (desk voting) b (ballots.first_against (map (ballot_of b) qs)))
+      (desk_moved
+      (desks.with_voting (desk voting)
+      (Some (record { begun = b; calls = calls_in qs; ballots = map (ballot_of b) qs }))) quiet)
+
   pub votes_go : (f : Desk) (qs : List ClientRequest) (voting : Option Voting) → Every (IsPrepare t) qs
       → sites_in qs ≡ participants decl d t → AreApart (map (λ (q : ClientRequest). q.number) qs)
       → Goes decl number (commit_at d t qs)
@@ -240,14 +248,16 @@ module _ (decl : Declaration) (number : ℕ) (d : Account) (t : Current) (asked 
           (by_desk (record { front = front; desk = f })
           (desks.counts (desk voting) b (calls_in qs) (map (ballot_of b) qs)))
       by true taken =
-          subst (λ (z : Bool). Goes decl number (commit_at d t qs) (by_desk (record { front = front; desk = f }) (cond z (desks.counted_out (desk voting) b (ballots.first_against (map (ballot_of b) qs)))
-          (desk_moved (desks.with_voting (desk voting) (Some (record { begun = b; calls = calls_in qs; ballots = map (ballot_of b) qs }))) quiet)))) (sym (cast_are b qs ∙ taken))
+          subst (λ (z : Bool). Goes decl number (commit_at d t qs)
+          (by_desk (record { front = front; desk = f }) (counted_at voting qs z)))
+          (sym (cast_are b qs ∙ taken))
           (subst (λ (o : Option AbortCause). Goes decl number (commit_at d t qs)
           (by_desk (record { front = front; desk = f }) (desks.counted_out (desk voting) b o)))
           (sym (against_are t asked qs all)) (out taken (first_against qs) refl))
       by false open_still =
-          subst (λ (z : Bool). Goes decl number (commit_at d t qs) (by_desk (record { front = front; desk = f }) (cond z (desks.counted_out (desk voting) b (ballots.first_against (map (ballot_of b) qs)))
-          (desk_moved (desks.with_voting (desk voting) (Some (record { begun = b; calls = calls_in qs; ballots = map (ballot_of b) qs }))) quiet)))) (sym (cast_are b qs ∙ open_still))
+          subst (λ (z : Bool). Goes decl number (commit_at d t qs)
+          (by_desk (record { front = front; desk = f }) (counted_at voting qs z)))
+          (sym (cast_are b qs ∙ open_still))
           (record {
             tells = sym (votes_out qs all open_still);
             due = tt;

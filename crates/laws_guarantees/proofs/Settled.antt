@@ -15,10 +15,11 @@ use Rattle.theory_machine.specs.Vocabulary.{IsDecisionFrom, IsDependedOn, IsOutc
 use Rattle.theory_machine.specs.Vocabulary.{LearnsCommit, Promise, Snapshot, SparesUntilDone, StateLaws, Status}
 use Rattle.theory_machine.specs.Vocabulary.{YesVote, epoch_from, state}
 use Rattle.theory_machine.specs.State as machine
-use Rattle.theory_machine.proofs.Decided.{IsPast, of_epoch, order, past, suc_of, tells}
+use Rattle.theory_machine.proofs.Decided.{of_epoch, order, suc_of}
 use Rattle.theory_machine.proofs.Keeps.{laws}
 use Rattle.theory_machine.proofs.Order.{ended}
 use Rattle.theory_machine.proofs.Quorums.{closing_site, heavy}
+use Rattle.theory_machine.proofs.SnapshotGrants.{IsPast, past, tells}
 
 -- a transaction is safe where each site whose grant it counted is in the grant's life, or has voted for it: whatever
 -- falls then, what it was granted is held until it ends

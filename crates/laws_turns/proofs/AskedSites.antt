@@ -76,8 +76,12 @@ wanted_few : (r : RoundState) → length (wanted r) ≤ length (asking_all r (wa
 wanted_few r =
     let whole : length (awaited (asking_all r (wanted r))) ≡ length (awaited r) + length (wanted r) =
     ap length (asking_awaits r) ∙ length-append (awaited r) (wanted r) in
-    let named : length (awaited (asking_all r (wanted r))) ≡ length (filter (λ (a : Asked). is_none a.standing) (asking_all r (wanted r)).asked) = length-map (filter (λ (a : Asked). is_none a.standing) (asking_all r (wanted r)).asked) (λ (a : Asked). a.site) in
-    let less : length (filter (λ (a : Asked). is_none a.standing) (asking_all r (wanted r)).asked) ≤ length (asking_all r (wanted r)).asked = filter_less (λ (a : Asked). is_none a.standing) (asking_all r (wanted r)).asked in
+    let named : length (awaited (asking_all r (wanted r)))
+    ≡ length (filter (λ (a : Asked). is_none a.standing) (asking_all r (wanted r)).asked) =
+    length-map (filter (λ (a : Asked). is_none a.standing) (asking_all r (wanted r)).asked) (λ (a : Asked). a.site) in
+    let less : length (filter (λ (a : Asked). is_none a.standing) (asking_all r (wanted r)).asked)
+    ≤ length (asking_all r (wanted r)).asked =
+    filter_less (λ (a : Asked). is_none a.standing) (asking_all r (wanted r)).asked in
     omega arith
 
 asked_grows : (old : List ℕ) (t : Transaction) (r : RoundState) → t.begun.asked ≡ old

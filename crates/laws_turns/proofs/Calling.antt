@@ -207,7 +207,11 @@ phases_are_the_scripts lawful decl script h open_inputs (posts b turn before old
     phase_posted older b (length (mail older)) turn in
     omega arith
 phases_are_the_scripts lawful decl script h open_inputs (phase before older run none done quiet more) =
-    let p : phase_of older < length script.phases = more in let same : phase_of (older ++ marked (controller decl) (steps.Phase (phase_of older + 1)) ∷ []) ≡ phase_of older + 1 = phase_more older (marked (controller decl) (steps.Phase (phase_of older + 1)) ∷ []) in omega arith
+    let p : phase_of older < length script.phases = more in
+    let same : phase_of (older ++ marked (controller decl) (steps.Phase (phase_of older + 1)) ∷ [])
+    ≡ phase_of older + 1 =
+    phase_more older (marked (controller decl) (steps.Phase (phase_of older + 1)) ∷ []) in
+    omega arith
 phases_are_the_scripts lawful decl script h open_inputs (control line lines step before older run at is) =
     let p : phase_of older ≤ length script.phases = phases_are_the_scripts lawful decl script older before run in
     let same : phase_of (older ++ marked (controller decl) step ∷ []) ≡ phase_of older =

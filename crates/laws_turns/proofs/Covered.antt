@@ -237,7 +237,8 @@ module _ (decl : Declaration) (script : Script) (a : ℕ) where
           (deeds-other b a [] older (posted (length (mail older)) turn) other)
           (turn_steps (client_of older) (inbox script a older) b (length (mail older)) turn are)
   run_awaited h open_inputs (phase before older run none done quiet_all more) =
-      stays_on older (marked (controller decl) (steps.Phase (phase_of older + 1)) ∷ []) (deeds-silent a (controller decl) older (steps.Phase (phase_of older + 1)) (phase_silent (phase_of older + 1)))
+      stays_on older (marked (controller decl) (steps.Phase (phase_of older + 1)) ∷ [])
+      (deeds-silent a (controller decl) older (steps.Phase (phase_of older + 1)) (phase_silent (phase_of older + 1)))
       (one_step (client_of older) (inbox script a older) (controller decl) (steps.Phase (phase_of older + 1)) tt tt
       (run_awaited older before run))
   run_awaited h open_inputs (control line lines step before older run at is) =

@@ -26,8 +26,8 @@ abbrev pub IsNamed : Book → Option Begun → Type 0
 IsNamed k None = Unit {0}
 IsNamed k (Some b) = (b.tx ≡ tx_at k k.count) × ((c : Commit) → In c k.commits → c.tx.number < k.count)
 
--- of its records: each is of a transaction of its own that it began, with a stamp of its own; no two have one stamp or one
--- transaction; and the clock is past them
+-- of its records: each is of a transaction of its own that it began, with a stamp of its own; no two have one stamp or
+-- one transaction; and the clock is past them
 pub record IsBook (clock : ℕ) (k : Book) : Type 0 where
   pub past : (c : Commit) → In c k.commits → (c.tx.client ≡ k.client) × (c.tx.life ≡ k.life) × (c.tx.number ≤ k.count)
   pub named : IsNamed k k.begun

@@ -35,7 +35,9 @@ module _ (k : ℕ) (tx : TxId) (clock : ℕ) (records : List Commit) (d : Dealin
 
   appended_like : (t : Transaction) (site : ℕ) (answer : Option Answer) → IsLike (appended_with t site answer) t.begun
   appended_like t site answer =
-      let same : appended_with t site answer ≡ record t { begun = record t.begun { lives = (appended_with t site answer).begun.lives } } = appended_is t site answer in
+      let same : appended_with t site answer
+      ≡ record t { begun = record t.begun { lives = (appended_with t site answer).begun.lives } } =
+      appended_is t site answer in
       record { tx = ap (λ (u : Transaction). u.begun.tx) same; ops = ap (λ (u : Transaction). u.begun.ops) same }
 
   learns_book : (front : Front) (answer : Option Answer)

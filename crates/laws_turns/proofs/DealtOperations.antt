@@ -49,7 +49,8 @@ told_deal tx d None = d
 told_deal tx d (Some reply) = deal_told tx d reply
 
 -- after a move's reply
-pub record FrontAfter (k : ℕ) (tx : TxId) (clock : ℕ) (commits : List Commit) (d : Dealing) (m : FrontMove) : Type 0 where
+pub record FrontAfter (k : ℕ) (tx : TxId) (clock : ℕ) (commits : List Commit) (d : Dealing) (m : FrontMove)
+    : Type 0 where
   pub own : m.front.client ≡ k
   pub write : m.turn.write ≡ None
   pub dealing : IsDealing tx (told_deal tx d m.turn.told) (book_with m.front commits)

@@ -157,7 +157,8 @@ rises_stamped decl a rs all = by (is_site decl a) (is_client decl a) all
     by true c all = record {
       own = tt;
       sends =
-          inquiries_stamped decl (take most_inquiries (in_order (map (λ (p : Prepared). p.tx) (site_kept rs).promises)));
+          inquiries_stamped decl
+          (take most_inquiries (in_order (map (λ (p : Prepared). p.tx) (site_kept rs).promises)));
       failed = tt;
       writes = λ c is. absurd (let never : ⊥ = cc in never);
     }

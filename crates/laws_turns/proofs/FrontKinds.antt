@@ -141,7 +141,8 @@ module _ (decl : Declaration) (front : Front) where
         append_by-kind decl front (learns front answer) (learned answer) (appended_with t site answer) object inv event
         (without_call calls number) (note round site (standing_of answer))
         (verdict (note round site (standing_of answer)))
-        (named t is ∙ ap (λ (x : TxId). Some x) (sym (ap (λ (u : Transaction). u.begun.tx) (appended_is t site answer))))
+        (named t is
+        ∙ ap (λ (x : TxId). Some x) (sym (ap (λ (u : Transaction). u.begun.tx) (appended_is t site answer))))
 
   pub takes-kind : (number : ℕ) (answer : Option Answer) → FrontKind front (takes decl front number answer)
   takes-kind number answer = takes_in-kind front.doing front.transaction number answer refl

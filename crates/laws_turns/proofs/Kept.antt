@@ -70,7 +70,9 @@ module _ (script : Script) (a b : ℕ) (other : (b == a) ≡ false) where
           (request_numbers (fold step_on (inbox script a h) (by b (sents n qs ++ told turn.told))).unanswered)) same
           there)
       on (Some written) ps same there =
-          first (subst (λ (qs : List Posting). In k (request_numbers (fold step_on (inbox script a h) (by b (sents n qs ++ told turn.told))).unanswered)) same
+          first
+          (subst (λ (qs : List Posting). In k
+          (request_numbers (fold step_on (inbox script a h) (by b (sents n qs ++ told turn.told))).unanswered)) same
           (subst (λ (i : Inbox). In k
           (request_numbers (fold step_on i (by b (sents n ps ++ told turn.told))).unanswered))
           (wrote_up a (inbox script a h) b up) there))

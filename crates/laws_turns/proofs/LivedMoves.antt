@@ -107,7 +107,10 @@ module _ (decl : Declaration) (script : Script) where
         subst (λ (ds : List Deed). Lives decl a ds false (length (mail h) + length (sends_as turn.append turn)))
         (sym (deeds-posted_as turn.append a (length (mail h)) h turn))
         (lives.posts (deeds a [] h) turn r.above (length (mail h)) r.lives r.within law);
-    within = (let same : length (mail (h ++ by a (posted_as turn.append (length (mail h)) turn))) ≡ length (mail h) + length (sends_as turn.append turn) = mail_posted a (length (mail h)) turn h in omega arith);
+    within =
+        (let same : length (mail (h ++ by a (posted_as turn.append (length (mail h)) turn)))
+        ≡ length (mail h) + length (sends_as turn.append turn) = mail_posted a (length (mail h)) turn h in
+        omega arith);
   }
 
   pub lives_falls : (a : ℕ) (cause : Fall) (h : List Entry)
@@ -134,7 +137,10 @@ module _ (decl : Declaration) (script : Script) where
         (sym all_deeds)
         (lives.rises (deeds a [] h) records turn r.above (length (mail h)) r.lives down r.within
         (subst (λ (ds : List Deed). IsLawfulWithFalls decl a ds turn) (deeds-rise a h records) law));
-    within = (let same : length (mail (h ++ by a (steps.Rose records ∷ posted_as turn.append (length (mail h)) turn))) ≡ length (mail h) + length (sends_as turn.append turn) = all_mail in omega arith);
+    within =
+        (let same : length (mail (h ++ by a (steps.Rose records ∷ posted_as turn.append (length (mail h)) turn)))
+        ≡ length (mail h) + length (sends_as turn.append turn) = all_mail in
+        omega arith);
   } where
     rose : List Entry
     rose = h ++ marked a (steps.Rose records) ∷ []

@@ -99,7 +99,8 @@ module _ (decl : Declaration) (script : Script) (h : List Entry) (open_inputs : 
       lawful_turn (λ (t : Turn). length t.sends ≤ 16) decl a (deeds a [] h) turn lawful
       (λ is. (let few : length (site_after decl a (deeds a [] h)).turn.sends ≤ 2 = sites_short decl a (deeds a [] h) in
       omega arith))
-      (λ is named. (let turns : ActsIn decl a h true = actors_take_and_post_by_turns decl script h open_inputs run a true taken in
+      (λ is named. (let turns : ActsIn decl a h true =
+      actors_take_and_post_by_turns decl script h open_inputs run a true taken in
       let short : IsClientShort decl (client_after decl (a - decl.sites) (deeds a [] h)) =
       clients_short decl a accepted (stands a accepted named) (deeds a [] h) true turns.above turns.acts in
       short.few))

@@ -110,7 +110,10 @@ module _ (script : Script) (a : ℕ) where
   left_told i b None = refl
   left_told i b (Some reply) = left_if (b == a) (reply_told i) i i.commands refl refl
 
-  left_sents : (i : Inbox) (b n : ℕ) (ps : List Posting) (reply : Option Reply) → (fold (λ (i : Inbox) (e : Entry). inbox_at script a i e.actor e.step) i (by b (sents n ps ++ told reply))).commands ≡ i.commands
+  left_sents : (i : Inbox) (b n : ℕ) (ps : List Posting) (reply : Option Reply)
+      → (fold (λ (i : Inbox) (e : Entry). inbox_at script a i e.actor e.step) i
+      (by b (sents n ps ++ told reply))).commands
+      ≡ i.commands
   left_sents i b n [] reply = left_told i b reply
   left_sents i b n (p ∷ ps) reply =
       left_sents (inbox_at script a i b (steps.Sent n p.to p.message)) b (n + 1) ps reply

@@ -1,5 +1,5 @@
--- In each run of an accepted declaration whose script names declared objects, each request goes from a client to a site,
--- and names what is declared.
+-- In each run of an accepted declaration whose script names declared objects, each request goes from a client to a
+-- site, and names what is declared.
 use Rattle.std.proofs.Common.{[], ◌≡◌, ℕ, ◌+◌, ◌-◌, ◌<◌, ◌≤◌, Bool, true, false, if◌then◌else◌, List, ◌∷◌, ◌++◌, length}
 use Rattle.std.proofs.Common.{Some, None, refl, sym, ap, ◌∙◌, subst, arith}
 use Rattle.std.specs.List.{AllByRecursion as Every}

@@ -155,7 +155,10 @@ module _ (decl : Declaration) (script : Script) (accepted : IsAccepted decl) (as
       (phase_silent (phase_of older + 1))) refl t)
       (somewhere_still script (IsTaken older before) a older (controller decl) (steps.Phase (phase_of older + 1))
       (phase_unanswered a (inbox script a older) (slice_get script.phases ((phase_of older + 1) - 1)))
-      (λ s x member. phase_copies s (inbox script s older) (slice_get script.phases ((phase_of older + 1) - 1)) x member) (λ x member. mail_first script (IsTaken older before) a older (marked (controller decl) (steps.Phase (phase_of older + 1)) ∷ []) x member) (run_kept older before run))
+      (λ s x member. phase_copies s (inbox script s older) (slice_get script.phases ((phase_of older + 1) - 1)) x
+      member)
+      (λ x member. mail_first script (IsTaken older before) a older
+      (marked (controller decl) (steps.Phase (phase_of older + 1)) ∷ []) x member) (run_kept older before run))
   run_kept h open_inputs (control line lines step before older run left is) =
       moved_to decl script accepted asks a a_low (IsTaken older before)
       (IsTaken (older ++ marked (controller decl) step ∷ []) before)

@@ -1,5 +1,5 @@
--- Each actor calls a command only where none runs, and tells a reply only where one does; so it told one to each command
--- that it called, but for the one that runs.
+-- Each actor calls a command only where none runs, and tells a reply only where one does; so it told one to each
+-- command that it called, but for the one that runs.
 use Rattle.std.proofs.Common.{[], ◌≡◌, ℕ, ◌+◌, ◌-◌, ◌&&◌, not, Bool, true, false, cond, if◌then◌else◌, List, ◌∷◌, ◌++◌}
 use Rattle.std.proofs.Common.{length, Option, Some, None, is_some, refl, sym, ap, ◌∙◌, subst, arith, append_assoc}
 use Rattle.std.proofs.Common.{length-append}
@@ -166,14 +166,24 @@ pub counted_from : (before ds : List Deed) → AreInOrder before ds → AreStead
     ≡ length (filter_map reply_in ds) + open_commands (is_running (before ++ ds))
 counted_from before [] are up = ap (λ (v : List Deed). 0 + open_commands (is_running v)) (sym (append-nil before))
 counted_from before (d ∷ ds) are up =
-    let one : length (filter_map call_in (d ∷ [])) + open_commands (is_running before) ≡ length (filter_map reply_in (d ∷ [])) + open_commands (runs_at (is_running before) d) = one_deed before d are.0 up.0 in
+    let one : length (filter_map call_in (d ∷ [])) + open_commands (is_running before)
+    ≡ length (filter_map reply_in (d ∷ [])) + open_commands (runs_at (is_running before) d) =
+    one_deed before d are.0 up.0 in
     let next : open_commands (runs_at (is_running before) d) ≡ open_commands (is_running (before ++ d ∷ [])) =
     ap open_commands (sym (running_more before (d ∷ []))) in
-    let rest : length (filter_map call_in ds) + open_commands (is_running (before ++ d ∷ [])) ≡ length (filter_map reply_in ds) + open_commands (is_running ((before ++ d ∷ []) ++ ds)) = counted_from (before ++ d ∷ []) ds are.1 up.1 in
+    let rest : length (filter_map call_in ds) + open_commands (is_running (before ++ d ∷ []))
+    ≡ length (filter_map reply_in ds) + open_commands (is_running ((before ++ d ∷ []) ++ ds)) =
+    counted_from (before ++ d ∷ []) ds are.1 up.1 in
     let whole : open_commands (is_running ((before ++ d ∷ []) ++ ds)) ≡ open_commands (is_running (before ++ d ∷ ds)) =
     ap (λ (v : List Deed). open_commands (is_running v)) (append_assoc before (d ∷ []) ds) in
-    let calls : length (filter_map call_in (d ∷ ds)) ≡ length (filter_map call_in (d ∷ [])) + length (filter_map call_in ds) = ap length (filter_map-append call_in (d ∷ []) ds) ∙ length-append (filter_map call_in (d ∷ [])) (filter_map call_in ds) in
-    let told : length (filter_map reply_in (d ∷ ds)) ≡ length (filter_map reply_in (d ∷ [])) + length (filter_map reply_in ds) = ap length (filter_map-append reply_in (d ∷ []) ds) ∙ length-append (filter_map reply_in (d ∷ [])) (filter_map reply_in ds) in
+    let calls : length (filter_map call_in (d ∷ ds))
+    ≡ length (filter_map call_in (d ∷ [])) + length (filter_map call_in ds) =
+    ap length (filter_map-append call_in (d ∷ []) ds)
+    ∙ length-append (filter_map call_in (d ∷ [])) (filter_map call_in ds) in
+    let told : length (filter_map reply_in (d ∷ ds))
+    ≡ length (filter_map reply_in (d ∷ [])) + length (filter_map reply_in ds) =
+    ap length (filter_map-append reply_in (d ∷ []) ds)
+    ∙ length-append (filter_map reply_in (d ∷ [])) (filter_map reply_in ds) in
     omega arith
 
 pub all_counted : (ds : List Deed) → AreInOrder [] ds → AreSteady ds

@@ -82,7 +82,9 @@ module _ (decl : Declaration) (accepted : IsAccepted decl) (a : ℕ) (no_site : 
       deals_acts decl accepted a no_site named tx before false m done in
       let same : status (before ++ Takes g ∷ []) tx ≡ status before tx =
       fold-append (status_at tx) Unborn before (Takes g ∷ []) in
-      let move : client_after decl (a - decl.sites) (before ++ Takes g ∷ []) ≡ client_takes decl (client_after decl (a - decl.sites) before).client g = fold-append (client_does decl) (moved (new_client (a - decl.sites)) quiet) before (Takes g ∷ []) in
+      let move : client_after decl (a - decl.sites) (before ++ Takes g ∷ [])
+      ≡ client_takes decl (client_after decl (a - decl.sites) before).client g =
+      fold-append (client_does decl) (moved (new_client (a - decl.sites)) quiet) before (Takes g ∷ []) in
       let here : IsKnown tx (status before tx) g = (known-second tx Unborn before (Takes g ∷ []) known).0 in
       record {
         right = right-append tx Unborn before (Takes g ∷ []) old.right (tt, tt);
@@ -107,8 +109,11 @@ module _ (decl : Declaration) (accepted : IsAccepted decl) (a : ℕ) (no_site : 
       let its : (client_after decl (a - decl.sites) before).turn ≡ turn =
       sym (lawful_turn (λ (t : Turn). t ≡ (client_after decl (a - decl.sites) before).turn) decl a before turn
       lawful (λ is. absurd (let no : ⊥ = cc in no)) (λ is named. refl)) in
-      let same : status (before ++ turn_deeds first turn) tx ≡ fold (status_at tx) (status before tx) (turn_deeds first turn) = fold-append (status_at tx) Unborn before (turn_deeds first turn) in
-      let page : page_of (client_after decl (a - decl.sites) (before ++ turn_deeds first turn)).client ≡ page_of (client_after decl (a - decl.sites) before).client =
+      let same : status (before ++ turn_deeds first turn) tx
+      ≡ fold (status_at tx) (status before tx) (turn_deeds first turn) =
+      fold-append (status_at tx) Unborn before (turn_deeds first turn) in
+      let page : page_of (client_after decl (a - decl.sites) (before ++ turn_deeds first turn)).client
+      ≡ page_of (client_after decl (a - decl.sites) before).client =
       ap (λ (x : ClientMove). page_of x.client)
       (fold-append (client_does decl) (moved (new_client (a - decl.sites)) quiet) before (turn_deeds first turn))
       ∙ page_posts decl (client_after decl (a - decl.sites) before) (turn_deeds first turn) (turn-posts first turn) in

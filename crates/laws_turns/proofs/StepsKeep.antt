@@ -32,8 +32,8 @@ use Rattle.laws_turns.proofs.MessageCases.{message_cases}
 use Rattle.laws_turns.proofs.Rounds.{IsProper}
 use Rattle.qc_link.specs.Vocabulary.{most_actors}
 
--- The steps of a turn, one by one: the requests that are unanswered before it stay somewhere, and those that it adds are
--- ready at their sites. Here for any predicate of where else a request may be, which no step of the turn touches.
+-- The steps of a turn, one by one: the requests that are unanswered before it stay somewhere, and those that it adds
+-- are ready at their sites. Here for any predicate of where else a request may be, which no step of the turn touches.
 
 pub record IsSomewhere (script : Script) (X : Envelope → Type 0) (h : List Entry) (a n : ℕ) : Type 0 where
   pub envelope : Envelope

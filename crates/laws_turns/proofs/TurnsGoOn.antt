@@ -119,5 +119,6 @@ goes_right tx s turn p w unwritten sends told = record {
   status =
       λ n. subst (λ (ds : List Deed). IsStatus tx (fold (status_at tx) s ds) p)
       (sym (turn_is turn None turn.sends turn.told n unwritten refl refl))
-      (subst (λ (v : Status). IsStatus tx v p) (sym (talk_same tx s p.name w.begun n turn.sends turn.told sends told)) w);
+      (subst (λ (v : Status). IsStatus tx v p)
+      (sym (talk_same tx s p.name w.begun n turn.sends turn.told sends told)) w);
 }

@@ -10,7 +10,7 @@ use Rattle.qc_list.proofs.Members.{In-first, In-second}
 use Rattle.theory_machine.specs.Vocabulary.{Act, Committed, Deed, Granted, Grants, IsRun, Item, LearnsCommit, Promise}
 use Rattle.theory_machine.specs.Vocabulary.{Snapshot, StateLaws, done_records, empty_site, epoch_from, site_after}
 use Rattle.theory_machine.specs.Vocabulary.{state}
-use Rattle.theory_machine.proofs.Decided.{IsPast, past, tells}
+use Rattle.theory_machine.proofs.SnapshotGrants.{IsPast, past, tells}
 use Rattle.theory_machine.proofs.Keeps.{laws}
 use Rattle.theory_machine.proofs.Grants.{holds_granted}
 use Rattle.theory_machine.proofs.Order.{ended, first_done_recorded, spared, stamp_of}

@@ -1,12 +1,12 @@
--- What a decided log and clock have of the transactions of earlier epochs: the sites that closed an epoch meet each of its
--- quorums, so the log has each committed line on which something depends, or the clock has passed the reader's stamp.
-use Rattle.std.proofs.Common.{◌≡◌, ◌≢◌, ℕ, zero, suc, ◌<◌, ◌≤◌, Bool, true, false, IsTrue, ◌⊎◌, inl, inr, List, [], ◌∷◌}
-use Rattle.std.proofs.Common.{◌++◌, length, Some, None, IsSome, refl, sym, ap, ◌∙◌, subst, arith, append-nil}
+-- What a decided log and clock have of the transactions of earlier epochs: the sites that closed an epoch meet each of
+-- its quorums, so the log has each committed line on which something depends, or the clock has passed the reader's
+-- stamp.
+use Rattle.std.proofs.Common.{◌≡◌, ◌≢◌, ℕ, zero, suc, ◌<◌, ◌≤◌, IsTrue, ◌⊎◌, inl, inr, List, [], ◌∷◌, ◌++◌, length}
+use Rattle.std.proofs.Common.{Some, IsSome, refl, sym, ap, ◌∙◌, subst, arith}
 use Rattle.std.proofs.lemmas.Bool.{cases_eq}
 use Rattle.qc_stamp.specs.declared.stamp.Stamp.{Stamp}
 use Rattle.qc_stamp.specs.declared.stamp.TxId.{TxId}
 use Rattle.qc_entry.specs.declared.line.Line.{Line}
-use Rattle.qc_entry.specs.declared.line.OwnLine.{OwnLine}
 use Rattle.qc_entry.specs.declared.record.Commit.{Commit as CommitRecord}
 use Rattle.qc_table.specs.declared.kind.Kind.{Kind}
 use Rattle.qc_table.specs.Vocabulary.{events_of}
@@ -16,40 +16,19 @@ use Rattle.qc_decl.specs.declared.declaration.Declaration.{Declaration}
 use Rattle.qc_decl.specs.Vocabulary.{IsAccepted, append_need_of, plan_in, read_need_of}
 use Rattle.qc_list.specs.Vocabulary.{In}
 use Rattle.theory_onecopy.specs.Vocabulary.{Executed, committed_line, depends_at, kind_at, own_line}
-use Rattle.qc_list.proofs.Members.{In-first, In-second}
-use Rattle.theory_machine.specs.Vocabulary.{Act, Committed, CountedLaw, Decision, Deed, Granted, Grants, HasDone}
-use Rattle.theory_machine.specs.Vocabulary.{HasRisingEpochs, HaveNoInstall, Installs, IsDecisionFrom, IsDependedOn}
-use Rattle.theory_machine.specs.Vocabulary.{IsOutcome, IsPreparedWith, IsResolved, IsRun, Item, LearnsCommit, Lock}
-use Rattle.theory_machine.specs.Vocabulary.{LogLaws, NotBegun, Own, Promise, Site, Snapshot, SparesUntilDone, StateLaws}
-use Rattle.theory_machine.specs.Vocabulary.{Status, after_deed, done_records, empty_site, epoch_from, read_lock}
-use Rattle.theory_machine.specs.Vocabulary.{shut_from, site_after, site_from, state, weights_of}
+use Rattle.qc_list.proofs.Members.{In-first}
+use Rattle.theory_machine.specs.Vocabulary.{Act, Committed, Decision, Deed, Grants, HasRisingEpochs, Installs}
+use Rattle.theory_machine.specs.Vocabulary.{IsDecisionFrom, IsDependedOn, IsRun, Lock, LogLaws, NotBegun, Own, Site}
+use Rattle.theory_machine.specs.Vocabulary.{StateLaws, after_deed, done_records, empty_site, epoch_from, read_lock}
+use Rattle.theory_machine.specs.Vocabulary.{site_after, site_from, state, weights_of}
 use Rattle.theory_machine.proofs.SiteOrder.{after_append, laws_after, logged_from}
-use Rattle.theory_machine.proofs.Epochs.{epoch-append, installed, none_between, rising-left, rising-right, shut-append}
-use Rattle.theory_machine.proofs.Epochs.{still_shut, prepared_or_done}
+use Rattle.theory_machine.proofs.Epochs.{installed, rising-left}
 use Rattle.theory_machine.proofs.Keeps.{laws}
 use Rattle.theory_machine.proofs.LogKeeps.{log_laws}
-use Rattle.theory_machine.proofs.Grants.{between, holds_granted, site_laws, spares_front}
-use Rattle.theory_machine.proofs.Order.{ended, first_done_recorded, stamp_of, spared}
+use Rattle.theory_machine.proofs.Grants.{holds_granted, site_laws}
+use Rattle.theory_machine.proofs.Order.{first_done_recorded, spared}
 use Rattle.theory_machine.proofs.Quorums.{closed_last, closed_read, closing_site, heavy}
-
--- a front and a place in one list
-pub data Fronts (a b : List Deed) (x : Deed) (p q : List Deed) : Type 0 where
-  Within : (m : List Deed) → b ≡ a ++ x ∷ m → p ≡ m ++ q → Fronts a b x p q
-  Before : (m : List Deed) → a ≡ b ++ m → Fronts a b x p q
-
-fronts : (a b : List Deed) (x : Deed) (p q : List Deed) → a ++ x ∷ p ≡ b ++ q → Fronts a b x p q
-fronts a [] x p q e = Before a refl
-fronts [] (c ∷ cs) x p q e = let h : x ≡ c = cc in Within cs (ap (λ (z : Deed). z ∷ cs) (sym h)) (cc)
-fronts (c ∷ cs) (d ∷ ds) x p q e =
-    let h : c ≡ d = cc in
-    elim (fronts cs ds x p q (cc)) [
-      | Within m b s ↦ Within m (ap (λ (l : List Deed). d ∷ l) b ∙ ap (λ (z : Deed). z ∷ cs ++ x ∷ m) (sym h)) s
-      | Before m b ↦ Before m (ap (λ (l : List Deed). c ∷ l) b ∙ ap (λ (z : Deed). z ∷ ds ++ m) h)
-    ]
-
-spares_left : (tx : TxId) (m q : List Deed) → SparesUntilDone tx false (m ++ q) → SparesUntilDone tx false m
-spares_left tx m [] u = subst (λ (ds : List Deed). SparesUntilDone tx false ds) (append-nil m) u
-spares_left tx m (d ∷ q) u = spares_front tx m d q false u
+use Rattle.theory_machine.proofs.SnapshotGrants.{done_stamp, past, tells, verdict}
 
 pub order : (a b : ℕ) → a < suc b → (a ≡ b) ⊎ (a < b)
 order a b l = elim (cases_eq a b) [ inl e ↦ inl e | inr ne ↦ inr (let n = ne in omega arith) ]
@@ -65,98 +44,6 @@ module _ (decl : Declaration) (accepted : IsAccepted decl) (acts : List Act) (ru
   ll : LogLaws decl (state acts)
   ll = log_laws decl accepted acts run
 
-  -- what a snapshot has of a grant of its epoch
-  pub record IsPast (g : Granted) (sn : Snapshot) : Type 0 where
-    pub since : List Deed
-    pub is : sn.before ≡ g.before ++ Grants g.tx g.items g.view ∷ since
-    pub spared : SparesUntilDone g.tx false since
-    pub none : HaveNoInstall since
-    pub shut : shut_from false since ≡ true
-    pub later : List Deed
-    pub within : (state acts).deeds g.site ≡ sn.before ++ later
-
-  pub past : (g : Granted) (sn : Snapshot) → In g (state acts).counted
-      → ((k : CountedLaw ((state acts).deeds g.site) ((state acts).life g.site) ((state acts).status g.tx)
-      (state acts).votes g) → SparesUntilDone g.tx false k.post)
-      → In sn (state acts).snapshots → sn.site ≡ g.site → epoch_from 1 sn.before ≡ g.epoch → IsPast g sn
-  past g sn hg spares hs site epoch =
-      let k = wl.counted g hg in
-      let r = wl.snapped sn hs in
-      let whole : (state acts).deeds g.site ≡ sn.before ++ r.0 = ap (state acts).deeds (sym site) ∙ r.1 in
-      by k r.0 whole (fronts g.before sn.before (Grants g.tx g.items g.view) k.post r.0 (sym k.split ∙ whole))
-    where
-      by :
-          (k : CountedLaw ((state acts).deeds g.site) ((state acts).life g.site) ((state acts).status g.tx)
-          (state acts).votes g) (later : List Deed) → (state acts).deeds g.site ≡ sn.before ++ later
-          → Fronts g.before sn.before (Grants g.tx g.items g.view) k.post later → IsPast g sn
-      by k later whole (Within m b s) = record {
-        since = m;
-        is = b;
-        spared = spares_left g.tx m later (subst (λ (ds : List Deed). SparesUntilDone g.tx false ds) s (spares k));
-        none = between g.before (Grants g.tx g.items g.view) m g.epoch (subst (λ (ds : List Deed). HasRisingEpochs 1 ds) b (rising-left sn.before later 1 (subst (λ (ds : List Deed). HasRisingEpochs 1 ds) whole (wl.rising g.site)))) tt
-            (wl.facts g (wl.known g hg)).current (ap (epoch_from 1) (sym b) ∙ epoch);
-        shut =
-            sym (ap (λ (t : Bool). shut_from t m) (wl.facts g (wl.known g hg)).unshut)
-            ∙ sym (shut-append g.before (Grants g.tx g.items g.view ∷ m) false) ∙ ap (shut_from false) (sym b)
-            ∙ (wl.answers sn hs).shut;
-        later = later;
-        within = whole;
-      }
-      by k later whole (Before m b) =
-          let r1 : HasRisingEpochs 1 (sn.before ++ m) =
-          subst (λ (ds : List Deed). HasRisingEpochs 1 ds) b
-          (rising-left g.before (Grants g.tx g.items g.view ∷ k.post) 1
-          (subst (λ (ds : List Deed). HasRisingEpochs 1 ds) k.split (wl.rising g.site))) in
-          let same : epoch_from (epoch_from 1 sn.before) m ≡ epoch_from 1 sn.before =
-          sym (epoch-append sn.before m 1) ∙ ap (epoch_from 1) (sym b) ∙ (wl.facts g (wl.known g hg)).current
-          ∙ sym epoch in
-          let none : HaveNoInstall m = none_between m (epoch_from 1 sn.before) (rising-right sn.before m 1 r1) same in
-          let shut : shut_from false g.before ≡ true =
-          ap (shut_from false) b ∙ shut-append sn.before m false
-          ∙ ap (λ (t : Bool). shut_from t m) (wl.answers sn hs).shut ∙ still_shut m none in
-          let open_ : shut_from false g.before ≡ false = (wl.facts g (wl.known g hg)).unshut in
-          absurd (let never : ⊥ = cc in never)
-
-  -- it has it prepared, or its Done
-  pub tells : (g : Granted) (sn : Snapshot) (item : Item) → In g (state acts).counted → In item g.items
-      → (p : IsPast g sn) → IsPreparedWith g.tx item (site_after sn.before) ⊎ HasDone g.tx false p.since
-  tells g sn item hg hi p =
-      let eq : site_after sn.before ≡ site_from (after_deed (site_after g.before) (Grants g.tx g.items g.view)) p.since = ap site_after p.is ∙ after_append g.before (Grants g.tx g.items g.view ∷ p.since) empty_site in
-      elim (prepared_or_done p.since g.tx item (after_deed (site_after g.before) (Grants g.tx g.items g.view))
-      (holds_granted g item (wl.counted g hg).fresh hi) p.spared p.none p.shut) [
-        | inl t ↦ inl (subst (λ (x : Site). IsPreparedWith g.tx item x) (sym eq) t)
-        | inr d ↦ inr d
-      ]
-
-  -- the Done in the snapshot's past has the record's stamp
-  done_stamp : (g : Granted) (c : CommitRecord) (sn : Snapshot) → (state acts).status g.tx ≡ Committed c
-      → (p : IsPast g sn) → (d : HasDone g.tx false p.since) → c.stamp ≡ d.stamp
-  done_stamp g c sn sg p d =
-      stamp_of decl acts run g.tx c sg g.site d.stamp
-      (subst (λ (ds : List Deed). In (LearnsCommit g.tx d.stamp) ds)
-      (sym (p.within ∙ ap (λ (ds : List Deed). ds ++ p.later) p.is))
-      (In-first (LearnsCommit g.tx d.stamp) (g.before ++ Grants g.tx g.items g.view ∷ p.since) p.later
-      (In-second (LearnsCommit g.tx d.stamp) g.before (Grants g.tx g.items g.view ∷ p.since)
-      (inr (ended decl acts run p.since g.tx d)))))
-
-  -- the verdict on a committed transaction that a snapshot had prepared
-  verdict : (tx : TxId) (c : CommitRecord) (d : Decision) (p : Promise) → (state acts).status tx ≡ Committed c
-      → p.tx ≡ tx → IsResolved (state acts).verdicts d p
-      → ((o : OwnLine) → In (Own o) p.items → In (committed_line c.stamp tx o) d.log) × (c.stamp.clock ≤ d.clock)
-  verdict tx c d p is its (inl r) =
-      let k : IsOutcome ((state acts).status tx) (Some r.0) =
-      subst (λ (t : TxId). IsOutcome ((state acts).status t) (Some r.0)) its
-      (wl.verdicts (record { tx = p.tx; stamp = Some r.0 }) r.1) in
-      let s : c.stamp ≡ r.0 = subst (λ (x : Status). IsOutcome x (Some r.0)) is k in (
-        λ o h. subst (λ (t : TxId). In (committed_line c.stamp t o) d.log) its
-            (subst (λ (x : Stamp). In (committed_line x p.tx o) d.log) (sym s) (r.2 o h)),
-        subst (λ (x : Stamp). x.clock ≤ d.clock) (sym s) r.3,
-      )
-  verdict tx c d p is its (inr r) =
-      absurd (subst (λ (x : Status). IsOutcome x None) is
-      (subst (λ (t : TxId). IsOutcome ((state acts).status t) None) its
-      (wl.verdicts (record { tx = p.tx; stamp = None }) r)))
-
   -- what a site has of its epoch's Decide record
   pub record IsOfEpoch (before : List Deed) (k : ℕ) : Type 0 where
     pub by : Decision
@@ -171,8 +58,14 @@ module _ (decl : Declaration) (accepted : IsAccepted decl) (acts : List Act) (ru
   pub of_epoch : (site k : ℕ) (before later : List Deed) → (state acts).deeds site ≡ before ++ later
       → epoch_from 1 before ≡ k → 1 < k → IsOfEpoch before k
   of_epoch site k before later split epoch less =
-      let i = installed before empty_site 1 k (record { less = λ l h. h; prepared = λ p h. h }) (rising-left before later 1 (subst (λ (ds : List Deed). HasRisingEpochs 1 ds) split (wl.rising site))) epoch less in
-      let d = wl.installed site k i.clock i.log (subst (λ (ds : List Deed). In (Installs k i.clock i.log) ds) (sym split) (In-first (Installs k i.clock i.log) before later i.stands)) in
+      let i =
+      installed before empty_site 1 k (record { less = λ l h. h; prepared = λ p h. h })
+      (rising-left before later 1 (subst (λ (ds : List Deed). HasRisingEpochs 1 ds) split (wl.rising site)))
+      epoch less in
+      let d =
+      wl.installed site k i.clock i.log
+      (subst (λ (ds : List Deed). In (Installs k i.clock i.log) ds) (sym split)
+      (In-first (Installs k i.clock i.log) before later i.stands)) in
       record {
         by = d.by;
         stands = d.stands;
@@ -195,7 +88,9 @@ module _ (decl : Declaration) (accepted : IsAccepted decl) (acts : List Act) (ru
   begun tx c e = λ u. let x : Committed c ≡ NotBegun = sym e ∙ u in cc
 
   -- the lines of earlier epochs on which something depends are in a decided log
-  pub kept_lines : (n : ℕ) (d : Decision) → d.epoch ≤ n → In d (state acts).decided → (u : TxId) (c : CommitRecord) (a : Executed) → (state acts).status u ≡ Committed c → In a ((state acts).executed u) → IsSome a.op.resp
+  pub kept_lines : (n : ℕ) (d : Decision) → d.epoch ≤ n → In d (state acts).decided
+      → (u : TxId) (c : CommitRecord) (a : Executed) → (state acts).status u ≡ Committed c
+      → In a ((state acts).executed u) → IsSome a.op.resp
       → IsDependedOn decl a.op.object a.event → (state acts).epoch u < d.epoch
       → In (committed_line c.stamp u (own_line a)) d.log
   kept_lines zero d small hd u c a su ha some dep less = absurd (omega arith)
@@ -205,17 +100,26 @@ module _ (decl : Declaration) (accepted : IsAccepted decl) (acts : List Act) (ru
       made = wl.made d hd
 
       by : ((m : ℕ) × (d.epoch ≡ suc m))
-          → ((e : Decision) → e.epoch ≤ n → In e (state acts).decided → (u : TxId) (c : CommitRecord) (a : Executed) → (state acts).status u ≡ Committed c → In a ((state acts).executed u) → IsSome a.op.resp
-          → IsDependedOn decl a.op.object a.event → (state acts).epoch u < e.epoch → In (committed_line c.stamp u (own_line a)) e.log)
+          → ((e : Decision) → e.epoch ≤ n → In e (state acts).decided → (u : TxId) (c : CommitRecord) (a : Executed)
+          → (state acts).status u ≡ Committed c → In a ((state acts).executed u) → IsSome a.op.resp
+          → IsDependedOn decl a.op.object a.event → (state acts).epoch u < e.epoch
+          → In (committed_line c.stamp u (own_line a)) e.log)
           → In (committed_line c.stamp u (own_line a)) d.log
       by (m, is) ih =
           let planned : plan_in decl m ≡ Some (wl.made d hd).plan = (wl.made d hd).planned m is in
-          let h = heavy decl accepted m a.op.object dep.inv a.event dep.kind (wl.made d hd).plan planned dep.typed dep.low dep.within dep.depends in
+          let h =
+          heavy decl accepted m a.op.object dep.inv a.event dep.kind (wl.made d hd).plan planned dep.typed
+          dep.low dep.within dep.depends in
           elim (order ((state acts).epoch u) m (omega arith)) [
             | inl now ↦
                 let q = ll.written u a ha some in
-                let enough : append_need_of decl m a.op.object a.event ≤ weight q.sites (weights_of decl m) = subst (λ (e : ℕ). append_need_of decl e a.op.object a.event ≤ weight q.sites (weights_of decl e)) now q.enough in
-                let s = closed_last decl accepted m a.op.object dep.inv a.event (wl.made d hd).plan (wl.made d hd).sites q.sites planned h (wl.made d hd).closes enough in
+                let enough : append_need_of decl m a.op.object a.event ≤ weight q.sites (weights_of decl m) =
+                subst
+                (λ (e : ℕ). append_need_of decl e a.op.object a.event ≤ weight q.sites (weights_of decl e))
+                now q.enough in
+                let s =
+                closed_last decl accepted m a.op.object dep.inv a.event (wl.made d hd).plan (wl.made d hd).sites
+                q.sites planned h (wl.made d hd).closes enough in
                 let g = q.each s.site s.second in
                 let sn = (wl.made d hd).each s.site s.first in
                 let se = (wl.made d hd).epochs sn.0 sn.1 in
@@ -223,20 +127,43 @@ module _ (decl : Declaration) (accepted : IsAccepted decl) (acts : List Act) (ru
                 let ge : g.grant.epoch ≡ m = wl.counts_epoch g.grant g.counts ∙ ap (state acts).epoch g.its ∙ now in
                 let same : suc (epoch_from 1 sn.0.before) ≡ suc m = sym se.1 ∙ is in
                 let at_epoch : epoch_from 1 sn.0.before ≡ m = (omega arith) in
-                let p = past g.grant sn.0 g.counts (spared decl acts run g.grant c g.counts sg) se.0 (sn.2 ∙ sym g.from) (at_epoch ∙ sym ge) in
-                elim (tells g.grant sn.0 (Own (own_line a)) g.counts g.has p) [
-                  | inl t ↦ (verdict u c d t.by su (t.its ∙ g.its) ((wl.made d hd).resolved sn.0 t.by sn.1 t.stands)).0 (own_line a) t.has
+                let p =
+                past decl accepted acts run g.grant sn.0 g.counts
+                (spared decl acts run g.grant c g.counts sg) se.0 (sn.2 ∙ sym g.from)
+                (at_epoch ∙ sym ge) in
+                elim (tells decl accepted acts run g.grant sn.0 (Own (own_line a)) g.counts g.has p) [
+                  | inl t ↦
+                      (verdict decl accepted acts run u c d t.by su (t.its ∙ g.its)
+                      ((wl.made d hd).resolved sn.0 t.by sn.1 t.stands)).0 (own_line a) t.has
                   | inr done_ ↦
-                      let eq : site_after sn.0.before ≡ site_from (after_deed (site_after g.grant.before) (Grants g.grant.tx g.grant.items g.grant.view)) p.since = ap site_after p.is ∙ after_append g.grant.before (Grants g.grant.tx g.grant.items g.grant.view ∷ p.since) empty_site in
-                      let log = logged_from p.since g.grant.tx (own_line a) (after_deed (site_after g.grant.before) (Grants g.grant.tx g.grant.items g.grant.view))
-                      (laws_after (Grants g.grant.tx g.grant.items g.grant.view ∷ []) (site_after g.grant.before) (site_laws g.grant.before)) (holds_granted g.grant (Own (own_line a)) (wl.counted g.grant g.counts).fresh g.has) p.none done_ in
-                      let stamps : c.stamp ≡ log.first.stamp = done_stamp g.grant c sn.0 sg p log.first in
-                      let there : In (committed_line log.first.stamp g.grant.tx (own_line a)) (site_after sn.0.before).volatile = subst (λ (x : Site). In (committed_line log.first.stamp g.grant.tx (own_line a)) x.volatile) (sym eq) log.line in
+                      let eq : site_after sn.0.before
+                      ≡ site_from (after_deed (site_after g.grant.before)
+                      (Grants g.grant.tx g.grant.items g.grant.view)) p.since =
+                      ap site_after p.is
+                      ∙ after_append g.grant.before (Grants g.grant.tx g.grant.items g.grant.view ∷ p.since)
+                      empty_site in
+                      let log =
+                      logged_from p.since g.grant.tx (own_line a)
+                      (after_deed (site_after g.grant.before) (Grants g.grant.tx g.grant.items g.grant.view))
+                      (laws_after (Grants g.grant.tx g.grant.items g.grant.view ∷ []) (site_after g.grant.before)
+                      (site_laws g.grant.before))
+                      (holds_granted g.grant (Own (own_line a)) (wl.counted g.grant g.counts).fresh g.has) p.none
+                      done_ in
+                      let stamps : c.stamp ≡ log.first.stamp =
+                      done_stamp decl accepted acts run g.grant c sn.0 sg p log.first in
+                      let there : In (committed_line log.first.stamp g.grant.tx (own_line a))
+                      (site_after sn.0.before).volatile =
+                      subst (λ (x : Site). In (committed_line log.first.stamp g.grant.tx (own_line a)) x.volatile)
+                      (sym eq) log.line in
                       (wl.made d hd).logs sn.0 (committed_line c.stamp u (own_line a)) sn.1
-                      (subst (λ (l : Line). In l (site_after sn.0.before).volatile) (ap (λ (x : Stamp). committed_line x g.grant.tx (own_line a)) (sym stamps) ∙ ap (λ (t : TxId). committed_line c.stamp t (own_line a)) g.its) there)
+                      (subst (λ (l : Line). In l (site_after sn.0.before).volatile)
+                      (ap (λ (x : Stamp). committed_line x g.grant.tx (own_line a)) (sym stamps)
+                      ∙ ap (λ (t : TxId). committed_line c.stamp t (own_line a)) g.its) there)
                 ]
             | inr old ↦
-                let s = closing_site decl accepted m a.op.object dep.inv a.event (wl.made d hd).plan (wl.made d hd).sites planned h (wl.made d hd).closes in
+                let s =
+                closing_site decl accepted m a.op.object dep.inv a.event (wl.made d hd).plan
+                (wl.made d hd).sites planned h (wl.made d hd).closes in
                 let sn = (wl.made d hd).each s.0 s.1 in
                 let se = (wl.made d hd).epochs sn.0 sn.1 in
                 let same : suc (epoch_from 1 sn.0.before) ≡ suc m = sym se.1 ∙ is in
@@ -245,25 +172,40 @@ module _ (decl : Declaration) (accepted : IsAccepted decl) (acts : List Act) (ru
                 let r = wl.snapped sn.0 se.0 in
                 let o = of_epoch sn.0.site m sn.0.before r.0 r.1 at_epoch (omega arith) in
                 let oe : o.by.epoch ≡ m = o.epoch in
-                (wl.made d hd).logs sn.0 (committed_line c.stamp u (own_line a)) sn.1 (o.log_stays (committed_line c.stamp u (own_line a)) (ih o.by (omega arith) o.stands u c a su ha some dep (omega arith)))
+                (wl.made d hd).logs sn.0 (committed_line c.stamp u (own_line a)) sn.1
+                (o.log_stays (committed_line c.stamp u (own_line a))
+                (ih o.by (omega arith) o.stands u c a su ha some dep (omega arith)))
           ]
 
   -- and its clock has passed the stamps of those whose operation depends on something
-  pub passed_stamps : (n : ℕ) (d : Decision) → d.epoch ≤ n → In d (state acts).decided → (v : TxId) (c : CommitRecord) (b : Executed) (number : ℕ) (kind : Kind) → (state acts).status v ≡ Committed c → In b ((state acts).executed v)
-      → kind_at decl b.op.object ≡ Some kind → b.op.inv < kind.table.invs → number < length (events_of kind.table.rows) → IsTrue (depends_at decl b.op.object b.op.inv number)
+  pub passed_stamps : (n : ℕ) (d : Decision) → d.epoch ≤ n → In d (state acts).decided
+      → (v : TxId) (c : CommitRecord) (b : Executed) (number : ℕ) (kind : Kind) → (state acts).status v ≡ Committed c
+      → In b ((state acts).executed v)
+      → kind_at decl b.op.object ≡ Some kind → b.op.inv < kind.table.invs → number < length (events_of kind.table.rows)
+      → IsTrue (depends_at decl b.op.object b.op.inv number)
       → (state acts).epoch v < d.epoch → c.stamp.clock ≤ d.clock
   passed_stamps zero d small hd v c b number kind sv hb typed low within dep less = absurd (omega arith)
-  passed_stamps (suc n) d small hd v c b number kind sv hb typed low within dep less = by (suc_of d.epoch (omega arith)) (λ e small' he less'. passed_stamps n e small' he v c b number kind sv hb typed low within dep less')
+  passed_stamps (suc n) d small hd v c b number kind sv hb typed low within dep less =
+      by (suc_of d.epoch (omega arith))
+      (λ e small' he less'. passed_stamps n e small' he v c b number kind sv hb typed low within dep less')
     where
-      by : ((m : ℕ) × (d.epoch ≡ suc m)) → ((e : Decision) → e.epoch ≤ n → In e (state acts).decided → (state acts).epoch v < e.epoch → c.stamp.clock ≤ e.clock) → c.stamp.clock ≤ d.clock
+      by : ((m : ℕ) × (d.epoch ≡ suc m))
+          → ((e : Decision) → e.epoch ≤ n → In e (state acts).decided → (state acts).epoch v < e.epoch
+          → c.stamp.clock ≤ e.clock) → c.stamp.clock ≤ d.clock
       by (m, is) ih =
           let planned : plan_in decl m ≡ Some (wl.made d hd).plan = (wl.made d hd).planned m is in
-          let h = heavy decl accepted m b.op.object b.op.inv number kind (wl.made d hd).plan planned typed low within dep in
+          let h =
+          heavy decl accepted m b.op.object b.op.inv number kind (wl.made d hd).plan planned typed low within
+          dep in
           elim (order ((state acts).epoch v) m (omega arith)) [
             | inl now ↦
                 let q = (ll.right v b (inl hb)).met in
-                let enough : read_need_of decl m b.op.object b.op.inv ≤ weight q.sites (weights_of decl m) = subst (λ (e : ℕ). read_need_of decl e b.op.object b.op.inv ≤ weight q.sites (weights_of decl e)) now q.enough in
-                let s = closed_read decl accepted m b.op.object b.op.inv number (wl.made d hd).plan (wl.made d hd).sites q.sites planned h (wl.made d hd).closes enough in
+                let enough : read_need_of decl m b.op.object b.op.inv ≤ weight q.sites (weights_of decl m) =
+                subst (λ (e : ℕ). read_need_of decl e b.op.object b.op.inv ≤ weight q.sites (weights_of decl e))
+                now q.enough in
+                let s =
+                closed_read decl accepted m b.op.object b.op.inv number (wl.made d hd).plan (wl.made d hd).sites
+                q.sites planned h (wl.made d hd).closes enough in
                 let g = q.each s.site s.second in
                 let sn = (wl.made d hd).each s.site s.first in
                 let se = (wl.made d hd).epochs sn.0 sn.1 in
@@ -271,19 +213,33 @@ module _ (decl : Declaration) (accepted : IsAccepted decl) (acts : List Act) (ru
                 let ge : g.grant.epoch ≡ m = wl.counts_epoch g.grant g.counts ∙ ap (state acts).epoch g.its ∙ now in
                 let same : suc (epoch_from 1 sn.0.before) ≡ suc m = sym se.1 ∙ is in
                 let at_epoch : epoch_from 1 sn.0.before ≡ m = (omega arith) in
-                let p = past g.grant sn.0 g.counts (spared decl acts run g.grant c g.counts sg) se.0 (sn.2 ∙ sym g.from) (at_epoch ∙ sym ge) in
-                elim (tells g.grant sn.0 (Lock (read_lock b.op)) g.counts g.has p) [
-                  | inl t ↦ (verdict v c d t.by sv (t.its ∙ g.its) ((wl.made d hd).resolved sn.0 t.by sn.1 t.stands)).1
+                let p =
+                past decl accepted acts run g.grant sn.0 g.counts
+                (spared decl acts run g.grant c g.counts sg) se.0 (sn.2 ∙ sym g.from)
+                (at_epoch ∙ sym ge) in
+                elim (tells decl accepted acts run g.grant sn.0 (Lock (read_lock b.op)) g.counts g.has p) [
+                  | inl t ↦
+                      (verdict decl accepted acts run v c d t.by sv (t.its ∙ g.its)
+                      ((wl.made d hd).resolved sn.0 t.by sn.1 t.stands)).1
                   | inr done_ ↦
-                      let stamps : c.stamp ≡ done_.stamp = done_stamp g.grant c sn.0 sg p done_ in
+                      let stamps : c.stamp ≡ done_.stamp =
+                      done_stamp decl accepted acts run g.grant c sn.0 sg p done_ in
                       let clocks : c.stamp.clock ≡ done_.stamp.clock = ap (λ (x : Stamp). x.clock) stamps in
-                      let done_there = first_done_recorded g.grant (Lock (read_lock b.op)) p.since (holds_granted g.grant (Lock (read_lock b.op)) (wl.counted g.grant g.counts).fresh g.has) done_ in
-                      let low' : done_.stamp.clock ≤ sn.0.clock = (wl.answers sn.0 se.0).passes_done g.grant.tx done_.stamp (subst (λ (ds : List Deed). In (record { tx = g.grant.tx; stamp = done_.stamp }) (done_records empty_site ds)) (sym p.is) done_there) in
+                      let done_there =
+                      first_done_recorded g.grant (Lock (read_lock b.op)) p.since
+                      (holds_granted g.grant (Lock (read_lock b.op)) (wl.counted g.grant g.counts).fresh g.has)
+                      done_ in
+                      let low' : done_.stamp.clock ≤ sn.0.clock =
+                      (wl.answers sn.0 se.0).passes_done g.grant.tx done_.stamp
+                      (subst (λ (ds : List Deed). In (record { tx = g.grant.tx; stamp = done_.stamp })
+                      (done_records empty_site ds)) (sym p.is) done_there) in
                       let high : sn.0.clock ≤ d.clock = (wl.made d hd).clocks sn.0 sn.1 in
                       omega arith
                 ]
             | inr old ↦
-                let s = closing_site decl accepted m b.op.object b.op.inv number (wl.made d hd).plan (wl.made d hd).sites planned h (wl.made d hd).closes in
+                let s =
+                closing_site decl accepted m b.op.object b.op.inv number (wl.made d hd).plan
+                (wl.made d hd).sites planned h (wl.made d hd).closes in
                 let sn = (wl.made d hd).each s.0 s.1 in
                 let se = (wl.made d hd).epochs sn.0 sn.1 in
                 let same : suc (epoch_from 1 sn.0.before) ≡ suc m = sym se.1 ∙ is in

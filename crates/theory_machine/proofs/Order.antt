@@ -1,5 +1,5 @@
--- The ordering lemma at a shared site: of two counted grants that conflict, the Done of the earlier one's transaction stands
--- before the later one, so its line is there, or its stamp is smaller (two-phase locking; Lamport 1978).
+-- The ordering lemma at a shared site: of two counted grants that conflict, the Done of the earlier one's transaction
+-- stands before the later one, so its line is there, or its stamp is smaller (two-phase locking; Lamport 1978).
 use Rattle.std.proofs.Common.{[], ◌≡◌, ◌≢◌, ℕ, ◌<◌, ◌≤◌, Bool, true, false, IsTrue, ◌⊎◌, inl, inr, List, ◌∷◌, ◌++◌}
 use Rattle.std.proofs.Common.{Some, IsSome, refl, sym, ap, ◌∙◌, subst, arith, append_assoc}
 use Rattle.qc_stamp.specs.declared.stamp.Stamp.{Stamp}
@@ -34,8 +34,13 @@ first_done_recorded g item m h d =
     (site_from (after_deed (site_after g.before) (Grants g.tx g.items g.view)) d.before)) d.prepared
     (held_after d.before false g.tx item (after_deed (site_after g.before) (Grants g.tx g.items g.view)) h
     d.spares) in
-    let some : IsSome (promise_of g.tx (site_from (after_deed (site_after g.before) (Grants g.tx g.items g.view)) d.before).prepared) = found_some g.tx (site_from (after_deed (site_after g.before) (Grants g.tx g.items g.view)) d.before).prepared hm.phase.by hm.phase.stands hm.phase.its in
-    let there : site_from empty_site (g.before ++ Grants g.tx g.items g.view ∷ d.before) ≡ site_from (after_deed (site_after g.before) (Grants g.tx g.items g.view)) d.before = after_append g.before (Grants g.tx g.items g.view ∷ d.before) empty_site in
+    let some : IsSome (promise_of g.tx
+    (site_from (after_deed (site_after g.before) (Grants g.tx g.items g.view)) d.before).prepared) =
+    found_some g.tx (site_from (after_deed (site_after g.before) (Grants g.tx g.items g.view)) d.before).prepared
+    hm.phase.by hm.phase.stands hm.phase.its in
+    let there : site_from empty_site (g.before ++ Grants g.tx g.items g.view ∷ d.before)
+    ≡ site_from (after_deed (site_after g.before) (Grants g.tx g.items g.view)) d.before =
+    after_append g.before (Grants g.tx g.items g.view ∷ d.before) empty_site in
     let r =
     done_at (g.before ++ Grants g.tx g.items g.view ∷ d.before) g.tx d.stamp d.after empty_site
     (subst (λ (x : Site). IsSome (promise_of g.tx x.prepared)) (sym there) some) in
@@ -110,9 +115,17 @@ module _ (decl : Declaration) (acts : List Act) (run : IsRun decl acts) where
           let um : SparesUntilDone gv.tx false m =
           spares_front gv.tx m (Grants gu.tx gu.items gu.view) ku.post false
           (subst (λ (ds : List Deed). SparesUntilDone gv.tx false ds) s (spared gv cv hv sv kv)) in
-          let eq : site_after gu.before ≡ site_from (after_deed (site_after gv.before) (Grants gv.tx gv.items gv.view)) m = ap (λ (ds : List Deed). site_after ds) b ∙ after_append gv.before (Grants gv.tx gv.items gv.view ∷ m) empty_site in
-          elim (held_or_done m gv.tx (Lock lock) (after_deed (site_after gv.before) (Grants gv.tx gv.items gv.view)) (holds_granted gv (Lock lock) kv.fresh locks) um
-          (between gv.before (Grants gv.tx gv.items gv.view) m gv.epoch (subst (λ (ds : List Deed). HasRisingEpochs 1 ds) b (rising-left gu.before (Grants gu.tx gu.items gu.view ∷ ku.post) 1 (subst (λ (ds : List Deed). HasRisingEpochs 1 ds) ku.split (l.rising gu.site)))) tt fv (ap (epoch_from 1) (sym b) ∙ fu ∙ sym epochs))) [
+          let eq : site_after gu.before
+          ≡ site_from (after_deed (site_after gv.before) (Grants gv.tx gv.items gv.view)) m =
+          ap (λ (ds : List Deed). site_after ds) b
+          ∙ after_append gv.before (Grants gv.tx gv.items gv.view ∷ m) empty_site in
+          elim (held_or_done m gv.tx (Lock lock) (after_deed (site_after gv.before) (Grants gv.tx gv.items gv.view))
+          (holds_granted gv (Lock lock) kv.fresh locks) um
+          (between gv.before (Grants gv.tx gv.items gv.view) m gv.epoch
+          (subst (λ (ds : List Deed). HasRisingEpochs 1 ds) b
+          (rising-left gu.before (Grants gu.tx gu.items gu.view ∷ ku.post) 1
+          (subst (λ (ds : List Deed). HasRisingEpochs 1 ds) ku.split (l.rising gu.site)))) tt fv
+          (ap (epoch_from 1) (sym b) ∙ fu ∙ sym epochs))) [
             | inl held ↦
                 absurd
                 ((l.facts gu (l.known gu hu)).free gv.tx (Own own) (Lock lock) owns
@@ -147,7 +160,10 @@ module _ (decl : Declaration) (acts : List Act) (run : IsRun decl acts) where
           let um : SparesUntilDone gu.tx false m =
           spares_front gu.tx m (Grants gv.tx gv.items gv.view) kv.post false
           (subst (λ (ds : List Deed). SparesUntilDone gu.tx false ds) s (spared gu cu hu su ku)) in
-          let eq : site_after gv.before ≡ site_from (after_deed (site_after gu.before) (Grants gu.tx gu.items gu.view)) m = ap (λ (ds : List Deed). site_after ds) b ∙ after_append gu.before (Grants gu.tx gu.items gu.view ∷ m) empty_site in
+          let eq : site_after gv.before
+          ≡ site_from (after_deed (site_after gu.before) (Grants gu.tx gu.items gu.view)) m =
+          ap (λ (ds : List Deed). site_after ds) b
+          ∙ after_append gu.before (Grants gu.tx gu.items gu.view ∷ m) empty_site in
           let within : (d : Deed) → In d m → In d gv.before =
           λ d h. subst (λ (ds : List Deed). In d ds) (sym b)
           (In-second d gu.before (Grants gu.tx gu.items gu.view ∷ m) (inr h)) in
@@ -157,7 +173,11 @@ module _ (decl : Declaration) (acts : List Act) (run : IsRun decl acts) where
           elim (held_or_logged m gu.tx own (after_deed (site_after gu.before) (Grants gu.tx gu.items gu.view))
           (laws_after (Grants gu.tx gu.items gu.view ∷ []) (site_after gu.before) (site_laws gu.before))
           (holds_granted gu (Own own) ku.fresh owns) um
-          (between gu.before (Grants gu.tx gu.items gu.view) m gu.epoch (subst (λ (ds : List Deed). HasRisingEpochs 1 ds) b (rising-left gv.before (Grants gv.tx gv.items gv.view ∷ kv.post) 1 (subst (λ (ds : List Deed). HasRisingEpochs 1 ds) kv.split (l.rising gv.site)))) tt fu (ap (epoch_from 1) (sym b) ∙ fv ∙ epochs))) [
+          (between gu.before (Grants gu.tx gu.items gu.view) m gu.epoch
+          (subst (λ (ds : List Deed). HasRisingEpochs 1 ds) b
+          (rising-left gv.before (Grants gv.tx gv.items gv.view ∷ kv.post) 1
+          (subst (λ (ds : List Deed). HasRisingEpochs 1 ds) kv.split (l.rising gv.site)))) tt fu
+          (ap (epoch_from 1) (sym b) ∙ fv ∙ epochs))) [
             | inl held ↦
                 absurd ((l.facts gv (l.known gv hv)).free gu.tx (Lock lock) (Own own) locks
                 (subst (λ (x : Site). In (Own own) (items_of gu.tx x.held)) (sym eq) held) ne (on, dep))

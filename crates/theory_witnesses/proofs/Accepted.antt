@@ -44,7 +44,8 @@ module _ (actors : ℕ) (kind : Kind) (names : KindNames) (objects : List ℕ) (
       → Option (AreThresholds decl places lists)
   thresholds_found typed places lists =
       option_map made (both (same_number (length lists) (length objects)) (both
-      (each_place (λ (list : List ℕ). length list ≡ places kind) (λ list. same_number (length list) (places kind)) lists)
+      (each_place (λ (list : List ℕ). length list ≡ places kind)
+      (λ list. same_number (length list) (places kind)) lists)
       (each_item (All IsThreshold) (each_item IsThreshold (λ n. at_most n greatest_threshold)) lists)))
     where
       made : (length lists ≡ length objects)
@@ -112,7 +113,8 @@ module _ (actors : ℕ) (kind : Kind) (names : KindNames) (objects : List ℕ) (
       made f = record { type_name = f.0; parts = (f.1).0; object_names = (f.1).1 }
 
   -- each plan is good, and lists its thresholds
-  abbrev plans_found : AreTyped → Option (((place : ℕ) (plan : Plan) → slice_get plans place ≡ Some plan → IsGood decl plan)
+  abbrev plans_found : AreTyped
+      → Option (((place : ℕ) (plan : Plan) → slice_get plans place ≡ Some plan → IsGood decl plan)
       × ((place : ℕ) (plan : Plan) → slice_get plans place ≡ Some plan → HasThresholds decl plan))
   plans_found typed =
       both (each_place (IsGood decl) (good_plan decl) plans)
@@ -157,7 +159,8 @@ module _ (actors : ℕ) (kind : Kind) (names : KindNames) (objects : List ℕ) (
   store_accepted right typed = option_map made (both few_found (both named_found (plans_found typed)))
     where
       made : AreFew × (AreNamed × (((place : ℕ) (plan : Plan) → slice_get plans place ≡ Some plan → IsGood decl plan)
-          × ((place : ℕ) (plan : Plan) → slice_get plans place ≡ Some plan → HasThresholds decl plan))) → IsAccepted decl
+          × ((place : ℕ) (plan : Plan) → slice_get plans place ≡ Some plan → HasThresholds decl plan)))
+          → IsAccepted decl
       made f = accepted_by f.0 (f.1).0 typed right ((f.1).1).0 ((f.1).1).1
 
 one_object : (object number : ℕ) → slice_get (0 ∷ []) object ≡ Some number → number < 1
