@@ -128,7 +128,8 @@ module _ (fits : ℕ → List Record → Type 0) (decl : Declaration) (script : 
             actor = w;
             client = writer;
             listed = subst (In (records.Commit c)) (sym
-                ((reached fits decl script h open_inputs accepted sound run kept).records_are w (inr (inl writer)))) among;
+                ((reached fits decl script h open_inputs accepted sound run kept).records_are w (inr (inl writer))))
+                among;
           }));
     }
       where

@@ -1,4 +1,5 @@
--- No client is told that its transaction aborted because a site has forgotten it, in a run with falls; and nobody else is.
+-- No client is told that its transaction aborted because a site has forgotten it, in a run with falls;
+-- and nobody else is.
 use Rattle.std.proofs.Common.{◌*◌, ◌≡◌, ◌≤◌, ◌<◌, ◌+◌, ◌-◌, ◌==◌, ℕ, Bool, true, false, if◌then◌else◌, List, [], ◌∷◌}
 use Rattle.std.proofs.Common.{◌++◌, inl, inr, Option, Some, None, is_some, length, refl, sym, ap, ◌∙◌, subst, arith}
 use Rattle.std.proofs.Common.{eqb-true, ltb-true}
@@ -261,7 +262,8 @@ module _ (fits : ℕ → List Record → Type 0) (decl : Declaration) (script : 
   client_told : is_client decl a ≡ true → ⊥
   client_told client =
       let p = in_place (Tells (replies.Aborted (causes.Forgot site))) (deeds a [] h) told in
-      let behind : AreDeedsDue decl (account_of decl (a - decl.sites) p.0) (Tells (replies.Aborted (causes.Forgot site)) ∷ p.1.0) =
+      let behind : AreDeedsDue decl (account_of decl (a - decl.sites) p.0)
+      (Tells (replies.Aborted (causes.Forgot site)) ∷ p.1.0) =
       due_behind decl p.0 (Tells (replies.Aborted (causes.Forgot site)) ∷ p.1.0) (new_account (a - decl.sites))
       (subst (AreRepliesDue decl (a - decl.sites)) p.1.1
       (client_due fits decl script h inputs accepted sound run kept a client)) in
