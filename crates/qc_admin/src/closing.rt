@@ -1,14 +1,12 @@
 //! A round of Closes: the sites that have closed are to meet every quorum of
 //! the epoch that ends.
 
-ghost use Rattle.std.specs.Prelude.{◌≡◌, ◌+◌, ◌<◌, ◌≤◌, ◌^◌, [], IfOk, OnErr, OnOk, length, map};
+ghost use Rattle.std.specs.Prelude.{◌≡◌, ◌+◌, ◌<◌, ◌^◌, [], IfOk, OnErr, OnOk, map};
 ghost use Rattle.std.specs.Option.{option_copied};
 ghost use Rattle.qc_decl.specs.Accepted.{IsAccepted};
 ghost use Rattle.qc_decl.specs.Limits.{most_sites};
 ghost use Rattle.qc_epoch.specs.Admin.{Admin as AdminState, Doing as DoingState};
 ghost use Rattle.qc_epoch.specs.Conduct.{answered_in, close_of, close_round, closes, doing, goes_on};
-ghost use Rattle.qc_front.specs.Conduct.{awaited};
-ghost use Rattle.qc_msg.specs.Calls.{calls_from};
 ghost use Rattle.qc_plan.specs.Round.{asking_all, wanted};
 ghost use Rattle.qc_admin.specs.Fits.{AnswerFits, AreSites, DoingFits, ShutsFit, sites_in};
 ghost use Rattle.qc_admin.specs.Next.{becomes};
@@ -22,6 +20,7 @@ use crate::doing::Doing;
 use crate::next::Next;
 use crate::shut::{ShutSite, Shuts, in_asked_order};
 use qc_decl::Declaration;
+use qc_front::calls_of;
 use qc_list::{List, OutOfMemory};
 use qc_msg::{Answer, Calls, Half, Message, Posting, Reply, Sends, Sites, Turn};
 use qc_plan::{Round, Verdict, close_weight};
@@ -211,22 +210,4 @@ fn closes(alloc: Global, epoch: u8, sites: &Sites) -> Result<Sends, OutOfMemory>
         })?;
     }
     Ok(sends)
-}
-
-/// Requests to the sites of which nothing is noted, with the numbers from
-/// `first` on.
-fn calls_of(round: &Round, first: u32) -> Calls
-    requires few { length round.now.asked ≤ most_sites }
-    requires numbers { first + most_sites < 2 ^ 32 }
-    ensures { result ≡ calls_from first (awaited round.now) }
-{
-    let mut calls = Calls::new();
-    let mut number = first;
-    for asked in round.asked_sites() {
-        if asked.standing.is_none() {
-            calls.add(number, asked.site);
-            number += 1;
-        }
-    }
-    calls
 }

@@ -25,4 +25,5 @@ pub use laws::{
     new_front_ends_hold, numbers_keep_hold, replies_are_as_rounds_come, requests_count_once,
     sites_have_one_open_request, turns_send_requests_and_verdicts,
 };
+pub use sent::calls_of;
 pub use transaction::{Transaction, Views};

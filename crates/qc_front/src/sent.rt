@@ -42,7 +42,7 @@ fn number(calls: &mut Calls, round: &Round, first: u32)
 
 /// Requests to the sites of which nothing is noted, with the numbers from
 /// `first` on.
-fn calls_of(round: &Round, first: u32) -> Calls
+pub fn calls_of(round: &Round, first: u32) -> Calls
     requires room { first + most_sites < 2 ^ 32 }
     requires few { length round.now.asked ≤ most_sites }
     ensures { result ≡ calls_from first (awaited round.now) }

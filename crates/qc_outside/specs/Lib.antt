@@ -8,6 +8,7 @@ pub mod Images
 pub mod MemRack
 pub mod Memory
 pub mod Places
+pub mod Rot
 pub mod Shelf
 pub mod Sink
 pub mod Vocabulary

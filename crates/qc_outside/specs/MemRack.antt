@@ -1,9 +1,10 @@
 -- What the places of a rack in memory hold.
 use Rattle.std.specs.Prelude.{◌≡◌, ℕ, ◌<◌, Bool, true, false, ◌&&◌, nat_eq, List, [], ◌∷◌, ◌++◌, length, take, find}
-use Rattle.std.specs.Prelude.{bytes_eq, HoldsAt, Option, Some, None, option_map, Vec}
+use Rattle.std.specs.Prelude.{bytes_eq, HoldsAt, Option, Some, None, option_map, Vec, if◌then◌else◌}
 use Rattle.std.specs.declared.alloc.Global.{Global}
 use Rattle.qc_outside.specs.Places.{Place, Places}
 use Rattle.qc_outside.specs.declared.mem_rack.Kept.{Kept}
+use Rattle.qc_outside.specs.declared.tear.Tear.{Tear}
 
 -- both are none, or the same name
 abbrev pub is_folder : Option (List ℕ) → Option (List ℕ) → Bool
@@ -39,3 +40,8 @@ pub record IsEmptyPlace (place : Place) (kept : Kept) : Type 0 where
 -- one such more is kept
 abbrev pub IsAdded : List Kept → Place → List Kept → Type 0
 IsAdded old place new = (kept : Kept) × IsEmptyPlace place kept × (new ≡ old ++ kept ∷ [])
+
+-- what the falls of an actor's disks do: what the first that is listed for it says, or what those of the others do
+abbrev pub tear_of : List (ℕ × Tear) → Tear → ℕ → Tear
+tear_of [] others actor = others
+tear_of (listed ∷ tears) others actor = if nat_eq listed.0 actor then listed.1 else tear_of tears others actor

@@ -118,7 +118,7 @@ impl MemDisk {
 }
 
 /// Where a write ends.
-fn end_of(at: usize, bytes: &[u8]) -> Result<usize, OutOfMemory>
+pub(crate) fn end_of(at: usize, bytes: &[u8]) -> Result<usize, OutOfMemory>
     ensures end { IfOk result (λ end. end ≡ at + length bytes.now) }
     ensures err { OnErr result (2 ^ 64 ≤ at + length bytes.now) }
 {

@@ -1,11 +1,13 @@
-//! A rack of disks in memory, whose falls tear as the rack was told.
+//! A rack of disks in memory, whose falls tear as the rack was told, for each
+//! actor.
 
 ghost use Rattle.std.specs.Prelude.{◌≡◌, ◌≢◌, ℕ, Some, [], Err, IfOk, IfErr, OnOk, OnErr, option_copied};
 ghost use Rattle.qc_outside.specs.Disk.{RackRose, NamesActor};
 ghost use Rattle.qc_outside.specs.Images.{told_at_first};
 ghost use Rattle.qc_outside.specs.Places.{HandsOut, PutsBack};
 ghost use Rattle.qc_outside.specs.declared.rack.RackFault.TheVariants.{Failed};
-ghost use Rattle.qc_outside.specs.MemRack.{IsAdded, IsFirstAt, is_at, held, name_of};
+ghost use Rattle.qc_outside.specs.declared.tear.Tear.TheVariants.{Nothing};
+ghost use Rattle.qc_outside.specs.MemRack.{IsAdded, IsFirstAt, is_at, held, name_of, tear_of};
 
 use crate::{Disk, MemDisk, Rack, RackFault, Tear};
 use qc_list::OutOfMemory;
@@ -47,6 +49,9 @@ fn name_owned(alloc: Global, dir: Option<&str>) -> Result<Option<Vec<u8>>, OutOf
 #[derive(Drop)]
 pub struct MemRack {
     alloc: Global,
+    /// What the falls of a listed actor's disks do, the first for each.
+    tears: Vec<(u8, Tear)>,
+    /// What those of the other actors' disks do.
     tear: Tear,
     places: Vec<Kept>,
 }
@@ -55,11 +60,29 @@ impl MemRack {
     /// A rack whose places hold no byte, and whose disks' falls tear so.
     pub fn new(alloc: Global, tear: Tear) -> Result<MemRack, OutOfMemory>
         ensures none { IfOk result (λ r. r.places.items ≡ []) }
+        ensures tears { IfOk result (λ r. r.tears.items ≡ []) }
         ensures tear { IfOk result (λ r. r.tear ≡ tear) }
     {
         Ok(MemRack {
             alloc,
+            tears: Vec::new(alloc),
             tear,
+            places: Vec::new(alloc),
+        })
+    }
+
+    /// A rack whose places hold no byte. The falls of a listed actor's disks do
+    /// what the first of the list says for it, and those of the others undo what
+    /// wasn't synced.
+    pub fn torn(alloc: Global, tears: Vec<(u8, Tear)>) -> Result<MemRack, OutOfMemory>
+        ensures none { IfOk result (λ r. r.places.items ≡ []) }
+        ensures tears { IfOk result (λ r. r.tears.items ≡ tears.items) }
+        ensures tear { IfOk result (λ r. r.tear ≡ Nothing) }
+    {
+        Ok(MemRack {
+            alloc,
+            tears,
+            tear: Tear::Nothing,
             places: Vec::new(alloc),
         })
     }
@@ -69,7 +92,7 @@ impl MemRack {
         ensures added { OnOk result (IsAdded self.old.places.items
             (record { folder = option_copied dir.entry; actor = actor }) self.new.places.items) }
         ensures err { OnErr result (self.new.places.items ≡ self.old.places.items) }
-        ensures tear { self.new.tear ≡ self.old.tear }
+        ensures tears { (self.new.tears.items ≡ self.old.tears.items) × (self.new.tear ≡ self.old.tear) }
     {
         let folder = name_owned(self.alloc, dir)?;
         let bytes = Vec::new(self.alloc);
@@ -87,7 +110,7 @@ impl MemRack {
             (record { folder = option_copied dir.entry; actor = actor }) result (held self.new.places.items) }
         ensures named { IfErr result (NamesActor actor) }
         ensures whole { (named : ℕ) → result ≢ Err (Failed named) }
-        ensures tear { self.new.tear ≡ self.old.tear }
+        ensures tears { (self.new.tears.items ≡ self.old.tears.items) × (self.new.tear ≡ self.old.tear) }
     {
         match place_at(&self.places, dir, actor) {
             None => self.add(dir, actor)?,
@@ -115,6 +138,19 @@ fn place_at(places: &[Kept], dir: Option<&str>, actor: u8) -> Option<usize>
     None
 }
 
+/// What the falls of an actor's disks do: what the first that is listed for it
+/// says, or what those of the others do.
+fn tear_of(tears: &[(u8, Tear)], others: Tear, actor: u8) -> Tear
+    ensures { result ≡ tear_of tears.now others actor }
+{
+    'tears: for listed in tears {
+        if listed.0 == actor {
+            return listed.1;
+        }
+    }
+    others
+}
+
 impl Rack for MemRack {
     type D = MemDisk;
 
@@ -128,10 +164,11 @@ impl Rack for MemRack {
             (record { folder = option_copied dir.entry; actor = actor }) result (held self.new.places.items) }
         ensures named { IfErr result (NamesActor actor) }
         ensures cause { RackRose 0 0 result }
-        ensures torn { IfOk result (λ d. d.tear ≡ self.old.tear) }
-        ensures tear { self.new.tear ≡ self.old.tear }
+        ensures torn { IfOk result (λ d. d.tear ≡ tear_of self.old.tears.items self.old.tear actor) }
+        ensures tears { (self.new.tears.items ≡ self.old.tears.items) × (self.new.tear ≡ self.old.tear) }
     {
-        let disk = MemDisk::new(self.alloc, self.tear)?;
+        let tear = tear_of(&self.tears, self.tear, actor);
+        let disk = MemDisk::new(self.alloc, tear)?;
         self.lend(dir, actor)?;
         Ok(disk)
     }
@@ -139,7 +176,7 @@ impl Rack for MemRack {
     fn keep(&mut self, dir: Option<&str>, actor: u8, disk: MemDisk)
         ensures put { PutsBack (held self.old.places.items) (record { folder = option_copied dir.entry; actor = actor })
             (⟦<MemDisk as Disk>⟧.told disk) (held self.new.places.items) }
-        ensures tear { self.new.tear ≡ self.old.tear }
+        ensures tears { (self.new.tears.items ≡ self.old.tears.items) × (self.new.tear ≡ self.old.tear) }
     {
         if let Some(index) = place_at(&self.places, dir, actor) {
             self.places[index].bytes = disk.into_bytes();

@@ -1,3 +1,4 @@
+pub mod Floors
 pub mod Form
 pub mod Records
 pub mod Legal

@@ -3,7 +3,8 @@
 ghost use Rattle.std.specs.Prelude.{◌≡◌, ◌≤◌, ◌<◌, ◌^◌, ◌++◌, OnOk, IfOk};
 ghost use Rattle.byteorder.specs.Endian.{big_bytes};
 ghost use Rattle.qc_record.specs.Answers.{Gives};
-ghost use Rattle.qc_record.specs.Form.{number_at, within, is_at_least, is_above, tied, climbs, tops};
+ghost use Rattle.qc_record.specs.Floors.{clears, lets_through};
+ghost use Rattle.qc_record.specs.Form.{number_at, within, tied};
 ghost use Rattle.qc_record.specs.Records.{is_response};
 
 use crate::fault::Halt;
@@ -46,73 +47,49 @@ pub(crate) fn response_number(bytes: &[u8]) -> Result<(u64, &[u8]), Halt>
     Ok((number, rest))
 }
 
-/// A number where it is within a range and at least the floor's first.
+/// What the order of items wants of a field: the numbers of the item before in the
+/// fields from this one on, where the item still ties with it.
+#[derive(Clone, Copy)]
+pub(crate) enum Floor<'a> {
+    /// At least the first of these.
+    AtLeast(&'a [u64]),
+    /// Above the first of these: it is the last field that the order looks at.
+    Above(&'a [u64]),
+}
+
+/// A number within a range that the floor lets through.
 #[tactic(auto, unfolding(crate::specs::Form::number_at))]
 pub(crate) fn climb<'a>(
     bytes: &'a [u8],
     width: usize,
     low: u64,
     high: u64,
-    floor: &[u64],
+    floor: Floor<'_>,
 ) -> Result<(u64, &'a [u8]), Halt>
     requires narrow { 1 ≤ width }
     requires wide { width ≤ 8 }
-    ensures given { Gives (λ x. (x.0, x.1.now)) result (number_at width (climbs low high floor.now) bytes.now) }
+    ensures given { Gives (λ x. (x.0, x.1.now)) result (number_at width (clears low high floor.entry) bytes.now) }
     ensures range { IfOk result (λ x. x.0 ≤ high) }
 {
     if bytes.len() < width {
         return Err(Halt::Left(0));
     }
     let number = BigEndian::read_uint(bytes, width);
-    if number < low || number > high || !at_least(floor, number) {
+    if number < low || number > high || !lets_through(floor, number) {
         return Err(Halt::Left(bytes.len()));
     }
     let (_, rest) = bytes.split_at(width);
     Ok((number, rest))
 }
 
-/// The same, where the number is above the floor's first.
-#[tactic(auto, unfolding(crate::specs::Form::number_at))]
-pub(crate) fn top<'a>(
-    bytes: &'a [u8],
-    width: usize,
-    low: u64,
-    high: u64,
-    floor: &[u64],
-) -> Result<(u64, &'a [u8]), Halt>
-    requires narrow { 1 ≤ width }
-    requires wide { width ≤ 8 }
-    ensures given { Gives (λ x. (x.0, x.1.now)) result (number_at width (tops low high floor.now) bytes.now) }
-    ensures range { IfOk result (λ x. x.0 ≤ high) }
-{
-    if bytes.len() < width {
-        return Err(Halt::Left(0));
-    }
-    let number = BigEndian::read_uint(bytes, width);
-    if number < low || number > high || !above(floor, number) {
-        return Err(Halt::Left(bytes.len()));
-    }
-    let (_, rest) = bytes.split_at(width);
-    Ok((number, rest))
-}
-
-/// Whether a number is at least the floor's first, if there is one.
-fn at_least(floor: &[u64], number: u64) -> bool
-    ensures { result ≡ is_at_least floor.now number }
+/// Whether a floor lets a number through.
+fn lets_through(floor: Floor<'_>, number: u64) -> bool
+    ensures { result ≡ lets_through floor.entry number }
 {
     match floor {
-        [] => true,
-        [first, ..] => *first <= number,
-    }
-}
-
-/// Whether a number is above the floor's first, if there is one.
-fn above(floor: &[u64], number: u64) -> bool
-    ensures { result ≡ is_above floor.now number }
-{
-    match floor {
-        [] => true,
-        [first, ..] => *first < number,
+        Floor::AtLeast([first, ..]) => *first <= number,
+        Floor::Above([first, ..]) => *first < number,
+        Floor::AtLeast([]) | Floor::Above([]) => true,
     }
 }
 

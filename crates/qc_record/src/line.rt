@@ -6,7 +6,7 @@ ghost use Rattle.qc_record.specs.Answers.{Gives};
 ghost use Rattle.qc_record.specs.Records.{line_after, line_form, lines_form};
 
 use crate::fault::Halt;
-use crate::field::{climb, next, put, top};
+use crate::field::{Floor, climb, next, put};
 use crate::item::{Item, list, put_list};
 use crate::parts::{GREATEST_CLOCK, GREATEST_ORDINAL, put_tx};
 use qc_entry::{Line, Log};
@@ -18,18 +18,18 @@ use std::alloc::Global;
 fn line_above<'a>(bytes: &'a [u8], floor: &[u64]) -> Result<(Line, &'a [u8]), Halt>
     ensures { Gives (λ x. (x.0, x.1.now)) result ((line_after floor.now).read bytes.now) }
 {
-    let (clock, rest) = climb(bytes, 8, 1, GREATEST_CLOCK, floor)?;
+    let (clock, rest) = climb(bytes, 8, 1, GREATEST_CLOCK, Floor::AtLeast(floor))?;
     let floor = next(floor, clock);
-    let (client, rest) = climb(rest, 1, 0, 15, floor)?;
+    let (client, rest) = climb(rest, 1, 0, 15, Floor::AtLeast(floor))?;
     let floor = next(floor, client);
-    let (life, rest) = climb(rest, 4, 1, GREATEST_ORDINAL, floor)?;
+    let (life, rest) = climb(rest, 4, 1, GREATEST_ORDINAL, Floor::AtLeast(floor))?;
     let floor = next(floor, life);
-    let (number, rest) = climb(rest, 4, 1, GREATEST_ORDINAL, floor)?;
+    let (number, rest) = climb(rest, 4, 1, GREATEST_ORDINAL, Floor::AtLeast(floor))?;
     let floor = next(floor, number);
-    let (op, rest) = climb(rest, 1, 1, 16, floor)?;
+    let (op, rest) = climb(rest, 1, 1, 16, Floor::AtLeast(floor))?;
     let floor = next(floor, op);
-    let (object, rest) = climb(rest, 1, 0, 15, floor)?;
-    let (event, rest) = top(rest, 1, 0, 63, next(floor, object))?;
+    let (object, rest) = climb(rest, 1, 0, 15, Floor::AtLeast(floor))?;
+    let (event, rest) = climb(rest, 1, 0, 63, Floor::Above(next(floor, object)))?;
     let client = client as u8;
     let line = Line {
         stamp: Stamp { clock, client },

@@ -6,7 +6,7 @@ ghost use Rattle.qc_record.specs.Records.{lock_after, lock_form, op_form, own_af
 ghost use Rattle.qc_record.specs.Records.{response_form, response_of, tx_form};
 
 use crate::fault::Halt;
-use crate::field::{climb, next, number, put, response_number, top};
+use crate::field::{Floor, climb, next, number, put, response_number};
 use crate::item::Item;
 use qc_entry::{Op, OwnLine, ReadLock};
 use qc_list::OutOfMemory;
@@ -46,8 +46,8 @@ pub(crate) fn put_tx(out: &mut Vec<u8>, tx: &TxId) -> Result<(), OutOfMemory>
 fn lock_above<'a>(bytes: &'a [u8], floor: &[u64]) -> Result<(ReadLock, &'a [u8]), Halt>
     ensures { Gives (λ x. (x.0, x.1.now)) result ((lock_after floor.now).read bytes.now) }
 {
-    let (object, rest) = climb(bytes, 1, 0, 15, floor)?;
-    let (inv, rest) = top(rest, 1, 0, 31, next(floor, object))?;
+    let (object, rest) = climb(bytes, 1, 0, 15, Floor::AtLeast(floor))?;
+    let (inv, rest) = climb(rest, 1, 0, 31, Floor::Above(next(floor, object)))?;
     let lock = ReadLock {
         object: object as u8,
         inv: inv as u8,
@@ -77,7 +77,7 @@ impl Item for ReadLock {
 fn own_above<'a>(bytes: &'a [u8], floor: &[u64]) -> Result<(OwnLine, &'a [u8]), Halt>
     ensures { Gives (λ x. (x.0, x.1.now)) result ((own_after floor.now).read bytes.now) }
 {
-    let (op, rest) = top(bytes, 1, 1, 16, floor)?;
+    let (op, rest) = climb(bytes, 1, 1, 16, Floor::Above(floor))?;
     let (object, rest) = number(rest, 1, 0, 15)?;
     let (event, rest) = number(rest, 1, 0, 63)?;
     let own = OwnLine {
