@@ -1,5 +1,5 @@
--- An actor through its falls and rises: who is down has no state; who never falls lives as it acts; what it puts into its
--- journal its steps put there.
+-- An actor through its falls and rises: who is down has no state; who never falls lives as it acts; what it puts into
+-- its journal its steps put there.
 use Rattle.std.proofs.Common.{[], ◌≡◌, ℕ, ◌+◌, ◌-◌, ◌==◌, Bool, true, false, cond, List, ◌∷◌, ◌++◌, fold, length}
 use Rattle.std.proofs.Common.{filter, map, Option, Some, None, option_to_list, slice_get, append_assoc, refl, sym, ap}
 use Rattle.std.proofs.Common.{◌∙◌, subst}

@@ -82,7 +82,8 @@ module _ (decl : Declaration) (script : Script) (few : actors decl ≤ most_acto
   by_deeds : is_up (deeds a [] h) ≡ is_up_in (inbox script 0 h).up a
   by_deeds =
       up_or_down true false (deeds a [] h) refl
-      ∙ sym (up_by_deeds (IsLawfulWithFalls decl) (fits_of decl) decl script h inputs few (who_is_down_only_tells decl) run a 0
+      ∙ sym (up_by_deeds (IsLawfulWithFalls decl) (fits_of decl) decl script h inputs few
+      (who_is_down_only_tells decl) run a 0
       (omega (arith, low, few)) (omega (arith)))
 
   pub crashed_up : MayDo decl script h inputs (controls.Crash a)
