@@ -11,7 +11,7 @@ use Rattle.qc_promise.specs.Vocabulary.{Journal, Kept}
 use Rattle.qc_script.specs.Vocabulary.{IsScriptFor, RunsWithFalls}
 use Rattle.qc_script.specs.declared.script.Script.{Script}
 use Rattle.laws_due.specs.Vocabulary.{Declares}
-use Rattle.qc_core.proofs.KeptBack.{kept_given_back}
+use Rattle.qc_core.proofs.KeptBack.{rises_give_back_journals_where_records_are_kept}
 use Rattle.laws_reach.proofs.RisingStamps.{Rise, commits_more, commits_of, rise_first, rise_pairs}
 use Rattle.laws_reach.proofs.StampsUp.{WithPending}
 use Rattle.laws_reach.proofs.Stamped.{course_rises}
@@ -29,7 +29,7 @@ module _ (decl : Declaration) (script : Script) (fits : ℕ → List Record → 
       lived decl script fits accepted sound h open_inputs run a client in
       let d : Declares decl (deeds a [] h) = declares decl script fits accepted sound h open_inputs run kept a in
       course_rises decl a client d.first (deeds a [] h) l.is_open l.in_run.above l.in_run.lives d.deeds
-      (kept_given_back h kept a)
+      (rises_give_back_journals_where_records_are_kept h kept a)
 
   pub pending_rise : (h : List Entry) (open_inputs : List Bool) → IsRun h open_inputs → Kept h → (a : ℕ)
       → is_client decl a ≡ true

@@ -11,15 +11,15 @@ use Rattle.qc_core.specs.Vocabulary.{journal_at, up_at}
 use Rattle.qc_decl.specs.Vocabulary.{IsAccepted, actors, controller}
 use Rattle.qc_msg.specs.declared.step.Command.{Command}
 use Rattle.qc_decl.specs.declared.declaration.Declaration.{Declaration}
-use Rattle.qc_mailbox.proofs.FallLaws.{lines_close, restarts_down}
-use Rattle.qc_mailbox.proofs.FallMail.{ready_sent}
+use Rattle.qc_mailbox.proofs.FallLaws.{no_input_is_open_while_a_line_is_left, restarts_down}
+use Rattle.qc_mailbox.proofs.FallMail.{ready_messages_were_sent_through_falls}
 use Rattle.laws_turns.proofs.Acted.{deeds-silent}
 use Rattle.laws_turns.proofs.Numbered.{IsSilent, mail-silent, phase_silent}
 use Rattle.laws_turns.proofs.Places.{replicate_at}
 use Rattle.laws_turns.specs.Vocabulary.{LivesIn}
 use Rattle.laws_turns.proofs.Commands.{may_take}
 use Rattle.laws_turns.proofs.LivedMoves.{line_silent}
-use Rattle.laws_turns.proofs.Lived.{run_lives}
+use Rattle.laws_turns.proofs.Lived.{actors_live_in_runs_with_falls}
 use Rattle.qc_msg.specs.declared.message.Envelope.{Envelope}
 use Rattle.qc_msg.specs.declared.record.Record.{Record}
 use Rattle.qc_msg.specs.declared.step.Control.{Control}
@@ -68,13 +68,15 @@ module _ (decl : Declaration) (script : Script) (fits : ℕ → List Record → 
       now_taken = h ++ marked a (step_of g) ∷ []
 
       sent : WasSentTo a (mail h) g
-      sent = ready_sent (IsLawfulWithFalls decl) fits decl script h inputs run a g rdy
+      sent = ready_messages_were_sent_through_falls (IsLawfulWithFalls decl) fits decl script h inputs run a g rdy
 
       grows : mail now_taken ≡ mail h ++ []
       grows = mail-taken h a g ∙ sym (append-nil (mail h))
 
       life : LivesIn decl a h false
-      life = run_lives decl script fits (few decl script fits accepted sound) h inputs run a false free
+      life =
+          actors_live_in_runs_with_falls decl script fits (few decl script fits accepted sound) h inputs run a false
+          free
 
       named : (command : Command) → g ≡ given.Called command → IsNamed decl command
       named command is =
@@ -157,7 +159,8 @@ module _ (decl : Declaration) (script : Script) (fits : ℕ → List Record → 
         → Stood decl (h ++ by a (steps.Rose records ∷ posted_as turn.append (length (mail h)) turn)) inputs
     stands_risen a records turn lines left law back =
         rise.rises decl h inputs old records turn a law back down
-        (lines_close (IsLawfulWithFalls decl) fits decl script h inputs (few decl script fits accepted sound) run
+        (no_input_is_open_while_a_line_is_left (IsLawfulWithFalls decl) fits decl script h inputs
+        (few decl script fits accepted sound) run
         (controls.Restart a) lines left a)
       where
         down : is_up (deeds a [] h) ≡ false

@@ -8,7 +8,7 @@ use Rattle.qc_decl.proofs.Clients.{client_within}
 use Rattle.qc_core.specs.Vocabulary.{IsLawfulWithFalls, is_up, journal_after, journal_at, up_at}
 use Rattle.qc_decl.specs.Vocabulary.{IsAccepted, actors, administrator, is_administrator, is_client, is_site}
 use Rattle.qc_decl.specs.declared.declaration.Declaration.{Declaration}
-use Rattle.qc_mailbox.proofs.FallLaws.{crashes_up, restarts_down, up_by_deeds}
+use Rattle.qc_mailbox.proofs.FallLaws.{crashes_up, restarts_down, inboxes_know_who_is_up}
 use Rattle.qc_link.specs.Vocabulary.{most_actors}
 use Rattle.laws_turns.proofs.Downs.{who_is_down_only_tells, up_is}
 use Rattle.laws_turns.proofs.LivedMoves.{deeds-fall}
@@ -57,7 +57,8 @@ module _ (decl : Declaration) (script : Script) (fits : ℕ → List Record → 
     pub up_in : (a : ℕ) → TakesInputs decl a → boxes.is_up (inbox script 0 h).up a ≡ is_up (deeds a [] h)
     up_in a is =
         let low : a < actors decl = within decl a is in
-        up_by_deeds (IsLawfulWithFalls decl) fits decl script h inputs few (who_is_down_only_tells decl) run a 0
+        inboxes_know_who_is_up (IsLawfulWithFalls decl) fits decl script h inputs few (who_is_down_only_tells decl) run
+        a 0
         (let f = few in omega arith) (omega arith) ∙ sym (up_is (deeds a [] h))
 
     fell_up : (a : ℕ) (cause : Fall) → is_up (deeds a [] (fallen a cause)) ≡ false

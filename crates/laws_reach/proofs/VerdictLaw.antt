@@ -8,7 +8,7 @@ use Rattle.qc_msg.specs.Vocabulary.{Deed, Entry, Falls, Rises, Sends, Takes, Was
 use Rattle.qc_msg.specs.Vocabulary.{marked, posted_as, step_of}
 use Rattle.qc_decl.specs.Vocabulary.{IsAccepted, actors, client_actor, controller, is_client}
 use Rattle.qc_decl.specs.declared.declaration.Declaration.{Declaration}
-use Rattle.qc_mailbox.proofs.FallMail.{ready_sent}
+use Rattle.qc_mailbox.proofs.FallMail.{ready_messages_were_sent_through_falls}
 use Rattle.laws_turns.proofs.Acted.{deeds-silent}
 use Rattle.laws_turns.proofs.Numbered.{IsSilent, phase_silent}
 use Rattle.laws_turns.proofs.Places.{slice_get-within}
@@ -16,7 +16,7 @@ use Rattle.qc_list.specs.Vocabulary.{In}
 use Rattle.qc_list.proofs.Members.{every-at}
 use Rattle.laws_turns.specs.Vocabulary.{LivesIn}
 use Rattle.laws_turns.proofs.LivedMoves.{deeds-fall, deeds-rise, line_silent}
-use Rattle.laws_turns.proofs.Lived.{run_lives, run_long}
+use Rattle.laws_turns.proofs.Lived.{actors_live_in_runs_with_falls, run_long}
 use Rattle.qc_msg.specs.declared.message.Envelope.{Envelope}
 use Rattle.qc_msg.specs.declared.message.Message.{Message}
 use Rattle.qc_msg.specs.declared.message.Message.TheVariants as messages
@@ -47,11 +47,11 @@ use Rattle.qc_stamp.proofs.Orders.{same_tx_is, same_tx_itself}
 use Rattle.laws_due.specs.Vocabulary.{Declares}
 use Rattle.laws_due.proofs.AccountDeclared.{scripts_ask_what_is_declared}
 use Rattle.laws_due.proofs.Declared.{run_declares}
-use Rattle.laws_due.proofs.KeptPlanned.{kept_planned}
+use Rattle.laws_due.proofs.KeptPlanned.{what_rises_is_planned_where_records_are_kept}
 use Rattle.laws_reach.specs.Vocabulary.{IsReachedWithFalls, IsRecorded}
 use Rattle.laws_reach.proofs.Reaching.{runs_with_falls_reach_nets}
 use Rattle.laws_reach.proofs.Rightly.{Shows, course_shows}
-use Rattle.qc_core.proofs.KeptBack.{kept_given_back}
+use Rattle.qc_core.proofs.KeptBack.{rises_give_back_journals_where_records_are_kept}
 use Rattle.laws_reach.proofs.Putting.{part_kept}
 use Rattle.laws_reach.proofs.Questions.{Asked, IsRequested, run_asked}
 use Rattle.laws_reach.proofs.Sent.{mail_deed}
@@ -72,7 +72,8 @@ module _ (decl : Declaration) (script : Script) (fits : ℕ → List Record → 
       → Declares decl (deeds a [] h)
   declares h open_inputs run kept a =
       run_declares decl script fits accepted (scripts_ask_what_is_declared decl script accepted sound) h open_inputs run
-      (kept_planned decl script fits accepted (scripts_ask_what_is_declared decl script accepted sound) h open_inputs
+      (what_rises_is_planned_where_records_are_kept decl script fits accepted
+      (scripts_ask_what_is_declared decl script accepted sound) h open_inputs
       run kept) a
 
   pub record Lived (h : List Entry) (open_inputs : List Bool) (a : ℕ) : Type 0 where
@@ -89,7 +90,8 @@ module _ (decl : Declaration) (script : Script) (fits : ℕ → List Record → 
       record {
         is_open = place.0;
         in_run =
-            run_lives decl script fits (few decl script fits accepted sound) h open_inputs run a place.0 place.1;
+            actors_live_in_runs_with_falls decl script fits (few decl script fits accepted sound) h open_inputs run a
+            place.0 place.1;
       }
 
   module _ (h : List Entry) (open_inputs : List Bool) (run : IsRun h open_inputs) (kept : Kept h)
@@ -99,7 +101,7 @@ module _ (decl : Declaration) (script : Script) (fits : ℕ → List Record → 
         let l : Lived h open_inputs a = lived h open_inputs run a client in
         let d : Declares decl (deeds a [] h) = declares h open_inputs run kept a in
         course_shows decl a client tx d.first (deeds a [] h) l.is_open l.in_run.above l.in_run.lives d.deeds
-        (kept_given_back h kept a) (known a client tx)
+        (rises_give_back_journals_where_records_are_kept h kept a) (known a client tx)
 
     -- one that was asked for was begun
     asked_born : (a : ℕ) → is_client decl a ≡ true → (tx : TxId) → a ≡ client_actor decl tx.client
@@ -175,7 +177,7 @@ module _ (decl : Declaration) (script : Script) (fits : ℕ → List Record → 
   all_known h open_inputs (takes b g before older run free rdy) kept a client tx =
       let known : AreKnown older = all_known older before run (part_kept older _ kept) in
       let was : WasSentTo b (mail older) g =
-      ready_sent (IsLawfulWithFalls decl) fits decl script older before run b g rdy in
+      ready_messages_were_sent_through_falls (IsLawfulWithFalls decl) fits decl script older before run b g rdy in
       by_actor b a tx older (step_of g ∷ []) (Takes g ∷ []) (deeds-taken b older g was) (known a client tx)
       (λ same. (
         known_given older before run (part_kept older _ kept) known b (ap (is_client decl) same ∙ client) tx g
