@@ -68,7 +68,7 @@ module _ (decl : Declaration) (script : Script) (calm : IsUndisturbed script) wh
         (takes_first older b (lives_and_epochs_are_the_first decl script older before run))))
 
     arrives : Arrives script b older
-    arrives = no_request_is_lost decl script older before calm run b
+    arrives = no_request_is_lost decl script older before calm.lossless run b
 
     -- the open input: what the site took before it is what was sent to it before
     module _ (e : Envelope) (got : at.given ≡ inputs.Got e) where

@@ -32,7 +32,7 @@ what_is_held_at_rest_is_begun decl script accepted asks calm h open_inputs run s
     (held_open decl site (deeds site [] h) (calm_deeds decl script accepted asks h open_inputs run site))
   where
     r : Arrives script site h
-    r = no_request_is_lost decl script h open_inputs calm run site
+    r = no_request_is_lost decl script h open_inputs calm.lossless run site
 
     all : taken site h ≡ sent_to site (mail h)
     all = sym (append-nil (taken site h)) ∙ ap (λ (v : List Envelope). taken site h ++ v) (sym none ∙ r.calm.copies)

@@ -56,7 +56,7 @@ post_written Failed a n turn calm =
 post_written Stopped a n turn calm =
     absurd (behind a (told turn.failed_told) (steps.Fell causes.Stop turn.write ∷ []) (λ c. c.0) calm)
 
-lawful_alone : (decl : Declaration) (a : ℕ) (ds : List Deed) (turn : Turn) → AreSteady ds → a < administrator decl
+pub lawful_alone : (decl : Declaration) (a : ℕ) (ds : List Deed) (turn : Turn) → AreSteady ds → a < administrator decl
     → turn.append ≡ Done → IsLawfulWithFalls decl a ds turn → IsLawful decl a ds turn
 lawful_alone decl a ds turn steady low done law =
     sym (same_turn decl a ds steady low) ∙ law.called_for
@@ -92,7 +92,7 @@ no_input decl a ds n (acts.takes before given m first may) is =
 
 module _ (fits : ℕ → List Record → Type 0) (decl : Declaration) (script : Script) where
   -- who posts isn't the administrator
-  posts_low : (a : ℕ) (older : List Entry) (before : List Bool) → Runs (IsLawful decl) decl script older before
+  pub posts_low : (a : ℕ) (older : List Entry) (before : List Bool) → Runs (IsLawful decl) decl script older before
       → slice_get before a ≡ Some true → deeds (administrator decl) [] older ≡ [] → a < administrator decl
   posts_low a older before run taken idle = elim (cases_lt a (administrator decl)) [
     | inl low ↦ low

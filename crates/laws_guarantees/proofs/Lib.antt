@@ -77,7 +77,7 @@ pub mod GoodRows
 pub mod Dos
 pub mod Commits
 pub mod WrongOnes
-mod Calming
+pub mod Calming
 pub mod Settled
 pub mod SharedSite
 pub mod Paired

@@ -59,7 +59,7 @@ module _ (lawful : ℕ → List Deed → Turn → Type 0) (decl : Declaration) (
   more : (h k : List Entry) → AreNoRises h → AreNoRises k → AreNoRises (h ++ k)
   more h k = every-append (λ (e : Entry). IsNoRise e.step) h k
 
-  never_risen : (h : List Entry) (open_inputs : List Bool) → Runs lawful decl script h open_inputs → AreNoRises h
+  pub never_risen : (h : List Entry) (open_inputs : List Bool) → Runs lawful decl script h open_inputs → AreNoRises h
   never_risen h open_inputs begins = tt
   never_risen h open_inputs (takes a given before older run free ready) =
       more older (marked a (step_of given) ∷ []) (never_risen older before run) (no_input given, tt)

@@ -1,4 +1,4 @@
--- In an undisturbed run nobody takes that a request is lost, and no account counts a loss.
+-- In a run of a script that loses nothing nobody takes that a request is lost, and no account counts a loss.
 use Rattle.std.proofs.Common.{[], ◌≡◌, ℕ, ◌+◌, ◌-◌, ◌==◌, ◌⊎◌, inl, inr, Bool, true, false, List, ◌∷◌, ◌++◌, fold}
 use Rattle.std.proofs.Common.{length, Option, Some, None, refl, sym, ap, ◌∙◌, subst, eqb-true}
 use Rattle.std.specs.Prelude.{drop}
@@ -30,7 +30,7 @@ use Rattle.qc_promise.specs.Vocabulary.{account_taken, account_with, account_wri
 use Rattle.qc_promise.specs.Vocabulary.{taken_for}
 use Rattle.laws_turns.proofs.Bounding.{turn-posts}
 use Rattle.laws_turns.proofs.ClientsWithin.{IsPost}
-use Rattle.laws_guarantees.specs.Vocabulary.{Arrives, IsUndisturbed}
+use Rattle.laws_guarantees.specs.Vocabulary.{Arrives, IsLossless}
 use Rattle.laws_guarantees.proofs.Accounts.{IsTakenNow, after_taken, told_requests}
 use Rattle.laws_guarantees.proofs.Passing.{no_request_is_lost}
 use Rattle.laws_guarantees.proofs.AccountCases.{heard_cases, sent_cases, written_cases}
@@ -106,9 +106,9 @@ post_lost (Tells reply ∷ ds) all = (tt, post_lost ds all.1)
 post_lost (Falls cause pending ∷ ds) all = (tt, post_lost ds all.1)
 post_lost (Rises records ∷ ds) all = (tt, post_lost ds all.1)
 
--- in an undisturbed run nobody takes that a request is lost
+-- in a run of a script that loses nothing nobody takes that a request is lost
 
-module _ (decl : Declaration) (script : Script) (calm : IsUndisturbed script) where
+module _ (decl : Declaration) (script : Script) (calm : IsLossless script) where
   pub run_no_loss : (h : List Entry) (open_inputs : List Bool) → Runs (IsLawful decl) decl script h open_inputs
       → (a : ℕ)
       → Every IsNoLoss (deeds a [] h)

@@ -35,13 +35,13 @@ use Rattle.laws_turns.proofs.Acted.{deeds-silent}
 use Rattle.laws_turns.proofs.Arrivals.{what_is_ready_was_sent}
 use Rattle.laws_turns.proofs.ReadyFirst.{ready_copy, ready_loss}
 use Rattle.laws_turns.proofs.Numbered.{mail-silent, phase_silent}
-use Rattle.laws_guarantees.specs.Vocabulary.{Arrives, IsCalm, IsUndisturbed, message_in, sent_to, taken, taken_by}
+use Rattle.laws_guarantees.specs.Vocabulary.{Arrives, IsCalm, IsLossless, message_in, sent_to, taken, taken_by}
 use Rattle.laws_guarantees.specs.Vocabulary.{taken_in}
 use Rattle.laws_guarantees.proofs.Calm.{after, turn_calm}
 
 -- in each run
 
-module _ (decl : Declaration) (script : Script) (calm : IsUndisturbed script) where
+module _ (decl : Declaration) (script : Script) (calm : IsLossless script) where
   inbox_after : (a : ℕ) (h k : List Entry) → inbox script a (h ++ k) ≡ after script a (inbox script a h) k
   inbox_after a h k = fold-append (λ (i : Inbox) (e : Entry). inbox_at script a i e.actor e.step) empty_inbox h k
 
@@ -276,5 +276,5 @@ module _ (decl : Declaration) (script : Script) (calm : IsUndisturbed script) wh
       absurd (let never : ⊥ = cc in never)
 
 pub no_request_is_lost : (decl : Declaration) (script : Script) (h : List Entry) (open_inputs : List Bool)
-    → IsUndisturbed script → Runs (IsLawful decl) decl script h open_inputs → (a : ℕ) → Arrives script a h
+    → IsLossless script → Runs (IsLawful decl) decl script h open_inputs → (a : ℕ) → Arrives script a h
 no_request_is_lost decl script h open_inputs calm run a = run_arrives_in decl script calm h open_inputs run a

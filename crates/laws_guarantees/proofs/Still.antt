@@ -222,7 +222,7 @@ module _ (decl : Declaration) (script : Script) (accepted : IsAccepted decl) (as
   one_still h open_inputs (phase before older run none done rests more) c d c_named d_named differ =
       one_phase older before run none done rests more c d c_named d_named differ
   one_still h open_inputs (control line lines step before older run left is) c d c_named d_named differ =
-      let r : Arrives script 0 older = no_request_is_lost decl script older before calm run 0 in
+      let r : Arrives script 0 older = no_request_is_lost decl script older before calm.lossless run 0 in
       let quiet : (inbox script 0 older).controls ≡ [] = r.calm.controls in
       absurd (let never : ⊥ = cc in never)
 

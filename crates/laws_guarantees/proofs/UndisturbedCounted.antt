@@ -148,5 +148,5 @@ module _ (decl : Declaration) (script : Script) (accepted : IsAccepted decl) (as
       by None is = tt
       by (Some None) is =
           lost_from decl (new_account (a - decl.sites)) (deeds a [] h)
-          (run_no_loss decl script calm h open_inputs run a) (λ p never none. never) q among is
+          (run_no_loss decl script calm.lossless h open_inputs run a) (λ p never none. never) q among is
       by (Some (Some answer)) is = want_good q.want answer (answered answer is)

@@ -11,7 +11,11 @@ pub record AsksOne (phase : PhaseLines) : Type 0 where
   pub actor : ℕ
   pub alone : Every (λ (l : CommandLine). l.actor ≡ actor) phase.commands
 
-pub record IsUndisturbed (script : Script) : Type 0 where
+-- no rule drops, doubles or delays a message, and the controller does nothing between the phases
+pub record IsLossless (script : Script) : Type 0 where
   pub links : script.links ≡ []
   pub controls : Every (λ (p : PhaseLines). p.controls ≡ []) script.phases
+
+pub record IsUndisturbed (script : Script) : Type 0 where
+  pub lossless : IsLossless script
   pub one : Every AsksOne script.phases

@@ -13,7 +13,7 @@ pub use Rattle.laws_guarantees.specs.Ordered.{DependsOn, IsAnsweredFrom, IsOrder
 pub use Rattle.laws_guarantees.specs.Ordered.{IsToldBy, Records}
 pub use Rattle.laws_guarantees.specs.Succeeds.{CommitOf, CommitSucceeds, CommitsSucceed, DoOf, DoSucceeds, DosSucceed}
 pub use Rattle.laws_guarantees.specs.Succeeds.{EachReply, IfTold, IsCommitted, IsDone, OfRunning}
-pub use Rattle.laws_guarantees.specs.Undisturbed.{AsksOne, IsUndisturbed}
+pub use Rattle.laws_guarantees.specs.Undisturbed.{AsksOne, IsLossless, IsUndisturbed}
 pub use Rattle.laws_guarantees.specs.Votes.{IsOpenVote, IsRemembered}
 pub use Rattle.laws_guarantees.specs.WrongGuarantees.{granted, tx}
 pub use Rattle.laws_guarantees.specs.WrongOrder.{line, name, read, reads, told, write, writes}

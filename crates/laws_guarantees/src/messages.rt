@@ -10,13 +10,13 @@ ghost use Rattle.qc_script.specs.declared.script.Script.{Script};
 ghost use Rattle.laws_guarantees.specs.Answers.{AnswersFit};
 ghost use Rattle.laws_guarantees.specs.Arrives.{Arrives};
 ghost use Rattle.laws_guarantees.specs.First.{AreFirst};
-ghost use Rattle.laws_guarantees.specs.Undisturbed.{IsUndisturbed};
+ghost use Rattle.laws_guarantees.specs.Undisturbed.{IsLossless, IsUndisturbed};
 
 /// Each message that was sent to an actor was taken or is ready for it, once
 /// and in order; no request is lost.
 pub fn no_request_is_lost()
     ensures { (decl : Declaration) (script : Script) (h : List Entry) (open_inputs : List Bool)
-        → IsUndisturbed script → Runs (IsLawful decl) decl script h open_inputs → (a : ℕ) → Arrives script a h }
+        → IsLossless script → Runs (IsLawful decl) decl script h open_inputs → (a : ℕ) → Arrives script a h }
 {}
 
 /// In every run, disturbed or not, no message names another life or epoch than
