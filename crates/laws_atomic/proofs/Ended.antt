@@ -56,7 +56,8 @@ module _ (decl : Declaration) (n : ℕ) (answer : Option Answer) (d : Account) w
     room = ap (λ (v : List Op). nat_le most_transaction_operations (length v)) same.ops ∙ r.room;
   }
 
-  module _ (q : ClientRequest) (is_it : find (is_open n) d.requests ≡ Some q) (e : Account) (i : IsTold q.want noted e) where
+  module _ (q : ClientRequest) (is_it : find (is_open n) d.requests ≡ Some q) (e : Account)
+      (i : IsTold q.want noted e) where
     reads_on : DoesRead d → DoesRead e
     reads_on r =
         let h : HasNow q.want r.t e.current = now_of q.want r.t d.current e.current r.runs.current i.current in
@@ -146,7 +147,10 @@ module _ (decl : Declaration) (d : Account) (reply : Reply) (is_due : running_ro
           (in_half is_read d.requests q among
           (every-In (λ (x : ClientRequest). is_read x.want ≡ true) q d.requests r.all among)) is
       by false waits q among is =
-          let none : running_row decl d false ≡ None = do_row_is decl d r.t r.object r.inv r.runs ∙ ap (read_row decl d r.t r.object r.inv) (waiting_verdict (round_of decl d r.t is_read (read_need_of decl r.t.epoch r.object r.inv)) waits) in
+          let none : running_row decl d false ≡ None =
+          do_row_is decl d r.t r.object r.inv r.runs
+          ∙ ap (read_row decl d r.t r.object r.inv)
+          (waiting_verdict (round_of decl d r.t is_read (read_need_of decl r.t.epoch r.object r.inv)) waits) in
           let never : ⊥ = cc in never
 
   appends_done : DoesAppend decl d → NoneOpen d.requests
@@ -193,7 +197,8 @@ module _ (decl : Declaration) (d : Account) (reply : Reply) (is_due : running_ro
           let out : are_votes_in decl d r.t ≡ false =
           ap (λ (b : Bool). (length (participants decl d r.t) == length (requests_for is_prepare d)) && b) waits
           ∙ last_false (length (participants decl d r.t) == length (requests_for is_prepare d)) in
-          let none : running_row decl d false ≡ None = row ∙ ap (λ (b : Bool). cond b (vote_row d false (first_against (requests_for is_prepare d))) None) out in
+          let none : running_row decl d false ≡ None =
+          row ∙ ap (λ (b : Bool). cond b (vote_row d false (first_against (requests_for is_prepare d))) None) out in
           let never : ⊥ = cc in never
 
   pub none_open : Goes decl d → NoneOpen d.requests

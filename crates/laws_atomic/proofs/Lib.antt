@@ -6,6 +6,8 @@ pub mod FirstSites
 pub mod Calm
 pub mod CalmGrants
 pub mod Stood
+pub mod StandsTaken
+pub mod StandsPosted
 pub mod RunsStand
 pub mod Closed
 pub mod Runs

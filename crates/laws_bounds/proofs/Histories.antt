@@ -8,7 +8,7 @@ use Rattle.qc_core.proofs.PostsByTurns.{after_takes, called_turn}
 use Rattle.qc_core.proofs.LivesOfActors.{falls as after_falls, rises as after_rises}
 use Rattle.qc_decl.specs.Vocabulary.{controller}
 use Rattle.qc_decl.specs.declared.declaration.Declaration.{Declaration}
-use Rattle.qc_mailbox.proofs.FallMail.{ready_sent}
+use Rattle.qc_mailbox.proofs.FallMail.{ready_messages_were_sent_through_falls}
 use Rattle.qc_mailbox.proofs.Keeping.{same_mail}
 use Rattle.laws_turns.proofs.Acted.{deeds-silent}
 use Rattle.laws_turns.proofs.Numbered.{IsSilent, mail-silent, phase_silent}
@@ -197,7 +197,7 @@ module _ (decl : Declaration) (script : Script) (fits : ℕ → List Record → 
       (marked c (step_of g) ∷ []) in
       let same : b + length older + 1 ≡ b + length (older ++ marked c (step_of g) ∷ []) = omega arith in same)
       (taken decl c (b + length older) older g
-      (ready_sent (IsLawfulWithFalls decl) fits decl script older before run c g rdy)
+      (ready_messages_were_sent_through_falls (IsLawfulWithFalls decl) fits decl script older before run c g rdy)
       (run_held older before run (rises_part b older (marked c (step_of g) ∷ []) rising)))
   run_held h open_inputs (posts c turn before older run open_input law) rising =
       later_on older (by c (posted_as turn.append (length (mail older)) turn))

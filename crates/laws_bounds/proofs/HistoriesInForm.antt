@@ -11,12 +11,12 @@ use Rattle.qc_core.proofs.LivesOfActors.{falls as after_falls, rises as after_ri
 use Rattle.qc_decl.specs.Vocabulary.{IsAccepted, actors, controller}
 use Rattle.qc_link.specs.Vocabulary.{most_actors}
 use Rattle.qc_decl.specs.declared.declaration.Declaration.{Declaration}
-use Rattle.qc_mailbox.proofs.FallMail.{ready_sent}
+use Rattle.qc_mailbox.proofs.FallMail.{ready_messages_were_sent_through_falls}
 use Rattle.qc_mailbox.proofs.Keeping.{same_mail}
 use Rattle.laws_turns.proofs.Acted.{deeds-silent}
 use Rattle.laws_turns.proofs.Numbered.{IsSilent, mail-silent, phase_silent}
 use Rattle.laws_turns.proofs.LivedMoves.{deeds-fall, deeds-rise, line_silent}
-use Rattle.laws_turns.proofs.Lived.{run_lives}
+use Rattle.laws_turns.proofs.Lived.{actors_live_in_runs_with_falls}
 use Rattle.qc_msg.specs.declared.message.Envelope.{Envelope}
 use Rattle.qc_msg.specs.declared.record.Record.{Record}
 use Rattle.qc_msg.specs.declared.step.Fall.{Fall}
@@ -251,12 +251,12 @@ module _ (decl : Declaration) where
         let low : length older < 2 ^ 31 = before_short older (marked c (step_of g) ∷ []) short in
         let old : AllInForm older = run_form older before run low in
         let sent : WasSentTo c (mail older) g =
-        ready_sent (IsLawfulWithFalls decl) fits decl script older before run c g rdy in
+        ready_messages_were_sent_through_falls (IsLawfulWithFalls decl) fits decl script older before run c g rdy in
         taken accepted c older g low sent (given_form c older (mail older) g old.messages sent rdy) old
     run_form h open_inputs (posts c turn before older run open_input law) short =
         posted c older turn law
         (open_ready decl c (deeds c [] older) turn
-        (run_lives decl script fits
+        (actors_live_in_runs_with_falls decl script fits
         (let sites : decl.sites ≤ 16 = accepted.sites in let clients : decl.clients ≤ 16 = accepted.clients in
         let few : actors decl ≤ most_actors = omega arith in few) older before run c true open_input).lives law)
         (run_form older before run

@@ -9,7 +9,7 @@ use Rattle.qc_core.proofs.PostsByTurns.{after_takes, called_turn}
 use Rattle.qc_core.proofs.LivesOfActors.{falls as after_falls, rises as after_rises}
 use Rattle.qc_decl.specs.Vocabulary.{IsAccepted, controller}
 use Rattle.qc_decl.specs.declared.declaration.Declaration.{Declaration}
-use Rattle.qc_mailbox.proofs.FallMail.{ready_sent}
+use Rattle.qc_mailbox.proofs.FallMail.{ready_messages_were_sent_through_falls}
 use Rattle.qc_mailbox.proofs.Keeping.{same_mail}
 use Rattle.laws_turns.proofs.Acted.{deeds-silent}
 use Rattle.laws_turns.proofs.Numbered.{IsSilent, mail-silent, phase_silent}
@@ -153,7 +153,7 @@ module _ (decl : Declaration) where
     run_named_by h open_inputs (takes c g before older run free rdy) side =
         let old : AllNamed older = run_named_by older before run (part older (marked c (step_of g) ∷ []) side) in
         let sent : WasSentTo c (mail older) g =
-        ready_sent (IsLawfulWithFalls decl) fits decl script older before run c g rdy in
+        ready_messages_were_sent_through_falls (IsLawfulWithFalls decl) fits decl script older before run c g rdy in
         taken accepted c older g sent
         (given_named decl accepted script sound c older (mail older) g old.messages sent rdy) old
     run_named_by h open_inputs (posts c turn before older run open_input law) side =

@@ -174,8 +174,8 @@ module _ (decl : Declaration) (script : Script) (fits : ℕ → List Record → 
   low : length h ≤ greatest_clock
   low = omega arith
 
-  pub kept_rises_fit : AllRiseFit decl h
-  kept_rises_fit =
+  pub what_rises_fits_where_records_are_kept : AllRiseFit decl h
+  what_rises_fits_where_records_are_kept =
       rises_fit decl accepted (length h) low (length h)
       (let few : length h ≤ most_records = omega arith in few) h named.puts bounded.records (kept_rise_few h kept)
 
@@ -205,9 +205,9 @@ module _ (decl : Declaration) (script : Script) (fits : ℕ → List Record → 
   one_record (Some r) = omega arith
 
   -- the record of a lawful turn fits where it would be written
-  pub turn_fits : (a : ℕ) (turn : Turn) → IsLawfulWithFalls decl a (deeds a [] h) turn
+  pub records_of_lawful_turns_fit : (a : ℕ) (turn : Turn) → IsLawfulWithFalls decl a (deeds a [] h) turn
       → AllFit decl a (length (journal_after (deeds a [] h)).records) (option_to_list turn.write)
-  turn_fits a turn law =
+  records_of_lawful_turns_fit a turn law =
       let its : TurnNamed decl a (with_record turn) = turn_named decl a (deeds a [] h) turn law (named.actors_are a) in
       let within : TurnWithin (length h) (with_record turn) =
       subst (TurnWithin (length h)) (called_turn decl a (deeds a [] h) turn law) (bounded.actors a).turn in

@@ -16,7 +16,7 @@ use Rattle.qc_decl.specs.declared.declaration.Declaration.{Declaration}
 use Rattle.qc_mailbox.proofs.Keeping.{same_mail}
 use Rattle.laws_turns.specs.Vocabulary.{LivesIn}
 use Rattle.laws_turns.proofs.LivedMoves.{deeds-rise, line_silent}
-use Rattle.laws_turns.proofs.Lived.{run_lives}
+use Rattle.laws_turns.proofs.Lived.{actors_live_in_runs_with_falls}
 use Rattle.laws_turns.proofs.Numbered.{mail-silent}
 use Rattle.qc_link.specs.Vocabulary.{most_actors}
 use Rattle.qc_msg.specs.declared.message.Envelope.{Envelope}
@@ -93,7 +93,7 @@ module _ (decl : Declaration) (script : Script) (fits : ℕ → List Record → 
       let few : actors decl ≤ most_actors =
       (let sites : decl.sites ≤ 16 = accepted.sites in
       let clients : decl.clients ≤ 16 = accepted.clients in omega arith) in
-      let lived : LivesIn decl a h t = run_lives decl script fits few h open_inputs run a t is in
+      let lived : LivesIn decl a h t = actors_live_in_runs_with_falls decl script fits few h open_inputs run a t is in
       known decl accepted a (deeds a [] h) t lived.above lived.lives
       (deeds_sound a [] h tt (sound_mail (mail h) (run_from decl script fits h open_inputs run) told)
       (rise_clients decl h accepted fit))

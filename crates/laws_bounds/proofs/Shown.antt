@@ -10,8 +10,9 @@ use Rattle.qc_decl.specs.Vocabulary.{IsAccepted, actors, administrator, controll
 use Rattle.qc_decl.specs.declared.declaration.Declaration.{Declaration}
 use Rattle.qc_mailbox.proofs.Acting.{inputs_keep_trays}
 use Rattle.qc_mailbox.proofs.Controlling.{controls_keep_trays, damaged_journals_keep_trays, phases_keep_trays}
-use Rattle.qc_mailbox.proofs.FallLaws.{may_post, restarts_down}
-use Rattle.qc_mailbox.proofs.FallTrays.{falls_by_lines_keep_trays, posts_keep_trays, rises_keep_trays, up_kept}
+use Rattle.qc_mailbox.proofs.FallLaws.{lawful_posts_are_of_who_is_up, restarts_down}
+use Rattle.qc_mailbox.proofs.FallTrays.{falls_by_lines_keep_trays, posts_keep_trays, rises_keep_trays}
+use Rattle.qc_mailbox.proofs.FallTrays.{trays_know_who_is_up}
 use Rattle.qc_mailbox.proofs.Keeping.{new_trays_are_kept}
 use Rattle.qc_mailbox.specs.Vocabulary.{Inboxes, IsKept, after_control, after_fall_by_line, after_phase, after_post_as}
 use Rattle.qc_mailbox.specs.Vocabulary.{after_rising_as, after_take, empty_inboxes, with_control_gone}
@@ -99,7 +100,8 @@ module _ (fits : ℕ → List Record → Type 0) (decl : Declaration) (script : 
 
   up_shown : (h : List Entry) (kept : Inboxes) → IsKept script h kept → (a : ℕ) (t : Bool)
       → is_up (inbox script 0 h).up a ≡ t → is_up kept.up a ≡ t
-  up_shown h kept is a t up = subst (λ (ups : List Bool). is_up ups a ≡ t) (up_kept script h kept 0 is (omega arith)) up
+  up_shown h kept is a t up =
+      subst (λ (ups : List Bool). is_up ups a ≡ t) (trays_know_who_is_up script h kept 0 is (omega arith)) up
 
   module _ (h : List Entry) (inputs : List Bool) (run : IsRun h inputs) (fit : AllRiseFit decl h)
       (old : AreShown h) where
@@ -112,7 +114,7 @@ module _ (fits : ℕ → List Record → Type 0) (decl : Declaration) (script : 
           after_post_as turn.append old.0 a turn,
           posts_keep_trays script h old.0 a turn old.1 within
               (post_receivers turn.append turn short.receivers failed.receivers)
-              (may_post (IsLawfulWithFalls decl) fits decl script h inputs old.0 few
+              (lawful_posts_are_of_who_is_up (IsLawfulWithFalls decl) fits decl script h inputs old.0 few
               (who_is_down_only_tells decl) run old.1 a turn within law),
         )
 

@@ -34,7 +34,7 @@ pub fn journals_fit_their_actors<C: ConductWithFalls>()
 {}
 
 /// So the record of a lawful turn fits where it would be written.
-#[tactic(auto, using(crate::proofs::RecordsFit::turn_fits))]
+#[tactic(auto, using(crate::proofs::RecordsFit::records_of_lawful_turns_fit))]
 pub fn records_of_lawful_turns_fit<C: ConductWithFalls>()
     ensures { OfEachKeptRun C.fits (λ decl script h open_inputs. length h < most_steps → (a : ℕ) (turn : Turn)
         → IsLawfulWithFalls decl a (deeds a [] h) turn → AllFit decl a (length (journal_after (deeds a [] h)).records)
@@ -43,7 +43,7 @@ pub fn records_of_lawful_turns_fit<C: ConductWithFalls>()
 
 /// So each actor that rises does so with records that fit it, and its calls may
 /// be made.
-#[tactic(auto, using(crate::proofs::RecordsFit::kept_rises_fit))]
+#[tactic(auto, using(crate::proofs::RecordsFit::what_rises_fits_where_records_are_kept))]
 pub fn what_rises_fits_where_records_are_kept<C: ConductWithFalls>()
     ensures { OfEachKeptRun C.fits (λ decl script h open_inputs. length h < most_steps → AllRiseFit decl h) }
 {}

@@ -17,7 +17,7 @@ use Rattle.qc_decl.specs.Actors as numbers
 use Rattle.qc_decl.specs.declared.declaration.Declaration.{Declaration}
 use Rattle.qc_epoch.specs.Vocabulary.{Admin}
 use Rattle.laws_turns.specs.Vocabulary.{AsksDeclared, IsAtReceiver, IsAwaited, IsQuiet, IsTaken, LivesIn, calls_of}
-use Rattle.laws_turns.proofs.Lived.{run_lives}
+use Rattle.laws_turns.proofs.Lived.{actors_live_in_runs_with_falls}
 use Rattle.laws_turns.proofs.SoundClients.{front_part}
 use Rattle.qc_link.specs.Vocabulary.{most_actors}
 use Rattle.qc_msg.specs.Vocabulary.{Deed, Entry, MayEnd, Rises, Takes, by, deeds, deeds_as, mail, posted_as}
@@ -44,7 +44,7 @@ use Rattle.laws_due.proofs.AdminRunning.{running_is}
 use Rattle.laws_due.proofs.AdminRest.{IsAtRest, Stands, account_is, actor_more}
 use Rattle.laws_due.proofs.Administrators.{run_admin_due, some_site}
 use Rattle.laws_due.proofs.AwaitedWithFalls.{his_requests_awaited}
-use Rattle.laws_due.proofs.Calling.{run_asked}
+use Rattle.laws_due.proofs.Calling.{calls_are_asked_with_falls}
 use Rattle.laws_due.proofs.EndsWithFalls.{RestsAtEnds, copies_none, free, idle_of, losts_none, no_members}
 use Rattle.laws_due.proofs.Ordered.{run_in_order}
 use Rattle.laws_due.proofs.Places.{apart, few_actors}
@@ -68,7 +68,8 @@ module _ (decl : Declaration) (script : Script) (accepted : IsAccepted decl) (as
   epochs_called h open_inputs run =
       front_part IsEpoch (calls_of (administrator decl) h) (inbox script (administrator decl) h).commands
       (subst (Every IsEpoch)
-      (sym (run_asked (IsLawfulWithFalls decl) fits decl script (administrator decl) h open_inputs run))
+      (sym (calls_are_asked_with_falls (IsLawfulWithFalls decl) fits decl script
+      (administrator decl) h open_inputs run))
       (asked_phases decl script.phases (phase_of h) epochs))
 
   -- nothing of his is open at the end
@@ -111,7 +112,7 @@ module _ (decl : Declaration) (script : Script) (accepted : IsAccepted decl) (as
       where
         lived : LivesIn decl (administrator decl) h false
         lived =
-            run_lives decl script fits few h open_inputs run (administrator decl) false
+            actors_live_in_runs_with_falls decl script fits few h open_inputs run (administrator decl) false
             (free decl script accepted asks fits h open_inputs run closed quiet done (administrator decl) (omega arith))
 
         rest : IsAtRest decl lived.above (deeds (administrator decl) [] h)
@@ -172,7 +173,7 @@ module _ (decl : Declaration) (script : Script) (accepted : IsAccepted decl) (as
       (sym (running_is decl (deeds (administrator decl) [] older))) (at turn.append law.may_end dues)
     where
       lived : LivesIn decl (administrator decl) older true
-      lived = run_lives decl script fits few older before run (administrator decl) true taken
+      lived = actors_live_in_runs_with_falls decl script fits few older before run (administrator decl) true taken
 
       faults : FaultsAlone turn.write turn.failed_told
       faults =

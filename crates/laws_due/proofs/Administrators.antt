@@ -7,7 +7,7 @@ use Rattle.qc_decl.specs.declared.declaration.Declaration.{Declaration}
 use Rattle.laws_turns.proofs.Places.{slice_get-within}
 use Rattle.qc_link.specs.Vocabulary.{most_actors}
 use Rattle.laws_turns.specs.Vocabulary.{LivesIn}
-use Rattle.laws_turns.proofs.Lived.{run_lives, run_long}
+use Rattle.laws_turns.proofs.Lived.{actors_live_in_runs_with_falls, run_long}
 use Rattle.qc_msg.specs.declared.record.Record.{Record}
 use Rattle.qc_msg.specs.Vocabulary.{Deed, Entry, deeds}
 use Rattle.qc_promise.specs.Vocabulary.{IsAdminDue}
@@ -42,5 +42,5 @@ run_admin_due decl script fits some few h open_inputs run =
         → IsAdminDue decl (deeds (administrator decl) [] h)
     on place =
         let lived : LivesIn decl (administrator decl) h place.0 =
-        run_lives decl script fits few h open_inputs run (administrator decl) place.0 place.1 in
+        actors_live_in_runs_with_falls decl script fits few h open_inputs run (administrator decl) place.0 place.1 in
         lives_of_the_administrator_are_due decl some (deeds (administrator decl) [] h) place.0 lived.above lived.lives

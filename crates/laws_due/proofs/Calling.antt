@@ -158,28 +158,29 @@ module _ (lawful : ℕ → List Deed → Turn → Type 0) (fits : ℕ → List R
         ∙ ap (λ (v : List Command). v ++ asked_in a (slice_get script.phases ((phase_of h + 1) - 1))) asked
         ∙ asked_next a script (phase_of h) ∙ ap (asked_until a script) (sym (phase_then h e))
 
-    pub run_asked : (h : List Entry) (open_inputs : List Bool) → RunsWithFalls lawful fits decl script h open_inputs
+    pub calls_are_asked_with_falls : (h : List Entry) (open_inputs : List Bool)
+        → RunsWithFalls lawful fits decl script h open_inputs
         → Asked script a h
-    run_asked h open_inputs begins = refl
-    run_asked h open_inputs (takes b g before older run free rdy) =
-        taken_asked older b g rdy (run_asked older before run)
-    run_asked h open_inputs (posts b turn before older run taken law) =
+    calls_are_asked_with_falls h open_inputs begins = refl
+    calls_are_asked_with_falls h open_inputs (takes b g before older run free rdy) =
+        taken_asked older b g rdy (calls_are_asked_with_falls older before run)
+    calls_are_asked_with_falls h open_inputs (posts b turn before older run taken law) =
         plain_asked older (by b (posted_as turn.append (length (mail older)) turn))
-        (post_plain b (length (mail older)) turn.append turn) (run_asked older before run)
-    run_asked h open_inputs (phase before older run none done quiet more) =
-        phase_asked older (run_asked older before run)
-    run_asked h open_inputs (control line lines step before older run left is) =
+        (post_plain b (length (mail older)) turn.append turn) (calls_are_asked_with_falls older before run)
+    calls_are_asked_with_falls h open_inputs (phase before older run none done quiet more) =
+        phase_asked older (calls_are_asked_with_falls older before run)
+    calls_are_asked_with_falls h open_inputs (control line lines step before older run left is) =
         plain_asked older (marked (controller decl) step ∷ []) (line_plain line step is, tt)
-        (run_asked older before run)
-    run_asked h open_inputs (falls b lines before older run left) =
-        plain_asked older _ (tt, tt) (run_asked older before run)
-    run_asked h open_inputs (rises b records turn lines before older run left fit has law) =
+        (calls_are_asked_with_falls older before run)
+    calls_are_asked_with_falls h open_inputs (falls b lines before older run left) =
+        plain_asked older _ (tt, tt) (calls_are_asked_with_falls older before run)
+    calls_are_asked_with_falls h open_inputs (rises b records turn lines before older run left fit has law) =
         plain_asked older (by b (steps.Rose records ∷ posted_as turn.append (length (mail older)) turn))
-        (tt, post_plain b (length (mail older)) turn.append turn) (run_asked older before run)
-    run_asked h open_inputs (damaged b offset lines before older run left) =
-        plain_asked older _ (tt, tt) (run_asked older before run)
-    run_asked h open_inputs (unopened b cause lines before older run left disk) =
-        plain_asked older _ (tt, tt) (run_asked older before run)
+        (tt, post_plain b (length (mail older)) turn.append turn) (calls_are_asked_with_falls older before run)
+    calls_are_asked_with_falls h open_inputs (damaged b offset lines before older run left) =
+        plain_asked older _ (tt, tt) (calls_are_asked_with_falls older before run)
+    calls_are_asked_with_falls h open_inputs (unopened b cause lines before older run left disk) =
+        plain_asked older _ (tt, tt) (calls_are_asked_with_falls older before run)
 
   -- the phases
 
@@ -187,30 +188,31 @@ module _ (lawful : ℕ → List Deed → Turn → Type 0) (fits : ℕ → List R
       → phase_of (h ++ k) ≤ length script.phases
   plain_phases h k plain most = let same : phase_of (h ++ k) ≡ phase_of h = entries_phase h k plain in omega arith
 
-  pub run_phases : (h : List Entry) (open_inputs : List Bool) → RunsWithFalls lawful fits decl script h open_inputs
+  pub phases_are_the_scripts_with_falls : (h : List Entry) (open_inputs : List Bool)
+      → RunsWithFalls lawful fits decl script h open_inputs
       → phase_of h ≤ length script.phases
-  run_phases h open_inputs begins = omega arith
-  run_phases h open_inputs (takes b g before older run free rdy) =
-      let most : phase_of older ≤ length script.phases = run_phases older before run in
+  phases_are_the_scripts_with_falls h open_inputs begins = omega arith
+  phases_are_the_scripts_with_falls h open_inputs (takes b g before older run free rdy) =
+      let most : phase_of older ≤ length script.phases = phases_are_the_scripts_with_falls older before run in
       let same : phase_of (older ++ marked b (step_of g) ∷ []) ≡ phase_of older = phase_taken older b g in
       omega arith
-  run_phases h open_inputs (posts b turn before older run taken law) =
+  phases_are_the_scripts_with_falls h open_inputs (posts b turn before older run taken law) =
       plain_phases older (by b (posted_as turn.append (length (mail older)) turn))
-      (post_plain b (length (mail older)) turn.append turn) (run_phases older before run)
-  run_phases h open_inputs (phase before older run none done quiet more) =
+      (post_plain b (length (mail older)) turn.append turn) (phases_are_the_scripts_with_falls older before run)
+  phases_are_the_scripts_with_falls h open_inputs (phase before older run none done quiet more) =
       let next : phase_of older < length script.phases = more in
       let is : phase_of (older ++ marked (controller decl) (steps.Phase (phase_of older + 1)) ∷ [])
       ≡ phase_of older + 1 = phase_then older (marked (controller decl) (steps.Phase (phase_of older + 1))) in
       omega arith
-  run_phases h open_inputs (control line lines step before older run left is) =
+  phases_are_the_scripts_with_falls h open_inputs (control line lines step before older run left is) =
       plain_phases older (marked (controller decl) step ∷ []) (line_plain line step is, tt)
-      (run_phases older before run)
-  run_phases h open_inputs (falls b lines before older run left) =
-      plain_phases older _ (tt, tt) (run_phases older before run)
-  run_phases h open_inputs (rises b records turn lines before older run left fit has law) =
+      (phases_are_the_scripts_with_falls older before run)
+  phases_are_the_scripts_with_falls h open_inputs (falls b lines before older run left) =
+      plain_phases older _ (tt, tt) (phases_are_the_scripts_with_falls older before run)
+  phases_are_the_scripts_with_falls h open_inputs (rises b records turn lines before older run left fit has law) =
       plain_phases older (by b (steps.Rose records ∷ posted_as turn.append (length (mail older)) turn))
-      (tt, post_plain b (length (mail older)) turn.append turn) (run_phases older before run)
-  run_phases h open_inputs (damaged b offset lines before older run left) =
-      plain_phases older _ (tt, tt) (run_phases older before run)
-  run_phases h open_inputs (unopened b cause lines before older run left disk) =
-      plain_phases older _ (tt, tt) (run_phases older before run)
+      (tt, post_plain b (length (mail older)) turn.append turn) (phases_are_the_scripts_with_falls older before run)
+  phases_are_the_scripts_with_falls h open_inputs (damaged b offset lines before older run left) =
+      plain_phases older _ (tt, tt) (phases_are_the_scripts_with_falls older before run)
+  phases_are_the_scripts_with_falls h open_inputs (unopened b cause lines before older run left disk) =
+      plain_phases older _ (tt, tt) (phases_are_the_scripts_with_falls older before run)

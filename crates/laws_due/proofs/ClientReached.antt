@@ -91,10 +91,10 @@ module _ (decl : Declaration) (script : Script) (accepted : IsAccepted decl) (as
         (rise_sends decl accepted a client script asks fits older before run b kept turn law is);
   }
 
-  pub unanswered_at_site : (h : List Entry) (open_inputs : List Bool)
+  pub unanswered_requests_are_at_their_sites_with_falls : (h : List Entry) (open_inputs : List Bool)
       → RunsWithFalls (IsLawfulWithFalls decl) fits decl script h open_inputs → (n : ℕ)
       → In n (request_numbers (inbox script a h).unanswered) → IsAtReceiver script h open_inputs a n
-  unanswered_at_site h open_inputs run n member =
+  unanswered_requests_are_at_their_sites_with_falls h open_inputs run n member =
       unanswered_at_receiver decl script fits few a a_low client_replied h open_inputs run n member
 
   pub receiver_is_site : (h : List Entry) (open_inputs : List Bool)

@@ -7,7 +7,7 @@ use Rattle.qc_decl.specs.declared.declaration.Declaration.{Declaration}
 use Rattle.laws_turns.proofs.Places.{slice_get-within}
 use Rattle.qc_link.specs.Vocabulary.{most_actors}
 use Rattle.laws_turns.specs.Vocabulary.{LivesIn}
-use Rattle.laws_turns.proofs.Lived.{run_lives, run_long}
+use Rattle.laws_turns.proofs.Lived.{actors_live_in_runs_with_falls, run_long}
 use Rattle.qc_msg.specs.declared.record.Record.{Record}
 use Rattle.qc_msg.specs.Vocabulary.{Entry, deeds}
 use Rattle.qc_promise.specs.Vocabulary.{AreRepliesDue}
@@ -19,9 +19,11 @@ use Rattle.laws_due.proofs.Lifelong.{lives_of_clients_are_due}
 module _ (decl : Declaration) (script : Script) (fits : ℕ → List Record → Type 0) (few : actors decl ≤ most_actors)
     (h : List Entry) (open_inputs : List Bool)
     (run : RunsWithFalls (IsLawfulWithFalls decl) fits decl script h open_inputs) where
-  pub clients_due : (client : ℕ) → client < decl.clients → Declares decl (deeds (client_actor decl client) [] h)
+  pub clients_of_runs_with_falls_are_due : (client : ℕ) → client < decl.clients
+      → Declares decl (deeds (client_actor decl client) [] h)
       → AreRepliesDue decl client (deeds (client_actor decl client) [] h)
-  clients_due client within are = on (slice_get-within open_inputs (client_actor decl client) placed)
+  clients_of_runs_with_falls_are_due client within are =
+      on (slice_get-within open_inputs (client_actor decl client) placed)
     where
       low : client_actor decl client < actors decl
       low = omega arith
@@ -41,7 +43,8 @@ module _ (decl : Declaration) (script : Script) (fits : ℕ → List Record → 
           → AreRepliesDue decl client (deeds (client_actor decl client) [] h)
       on place =
           let lived : LivesIn decl (client_actor decl client) h place.0 =
-          run_lives decl script fits few h open_inputs run (client_actor decl client) place.0 place.1 in
+          actors_live_in_runs_with_falls decl script fits few h open_inputs run (client_actor decl client) place.0
+          place.1 in
           subst (λ (k : ℕ). AreRepliesDue decl k (deeds (client_actor decl client) [] h)) number
           (lives_of_clients_are_due decl (client_actor decl client) is
           (deeds (client_actor decl client) [] h) place.0 lived.above lived.lives are)

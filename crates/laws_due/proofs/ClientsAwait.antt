@@ -20,8 +20,8 @@ use Rattle.qc_decl.specs.Vocabulary.{controller, is_client}
 use Rattle.qc_recover.specs.Vocabulary.{client_rises, rising}
 use Rattle.qc_client.specs.declared.client.Client.{Client}
 use Rattle.qc_client.specs.Vocabulary.{new_client}
-use Rattle.qc_mailbox.proofs.FallLaws.{up_by_deeds}
-use Rattle.qc_mailbox.proofs.FallMail.{ready_sent}
+use Rattle.qc_mailbox.proofs.FallLaws.{inboxes_know_who_is_up}
+use Rattle.qc_mailbox.proofs.FallMail.{ready_messages_were_sent_through_falls}
 use Rattle.laws_turns.specs.Vocabulary.{IsAwaited, open_calls}
 use Rattle.laws_turns.proofs.Acted.{deeds-silent}
 use Rattle.qc_link.specs.Vocabulary.{most_actors}
@@ -109,7 +109,8 @@ module _ (decl : Declaration) (script : Script) (a : ℕ) where
     up_by_inbox : (h : List Entry) (open_inputs : List Bool) → IsRun h open_inputs
         → ((actor_after decl a (deeds a [] h)).actor ≡ actors.Down → ⊥) → is_up (inbox script a h).up a ≡ true
     up_by_inbox h open_inputs run living =
-        up_by_deeds (IsLawfulWithFalls decl) fits decl script h open_inputs few (who_is_down_only_tells decl) run a a
+        inboxes_know_who_is_up (IsLawfulWithFalls decl) fits decl script h open_inputs few (who_is_down_only_tells decl)
+        run a a
         low low
         ∙ sym (up_is (deeds a [] h)) ∙ by (lives.is_up (deeds a [] h)) refl
       where
@@ -197,7 +198,8 @@ module _ (decl : Declaration) (script : Script) (a : ℕ) where
             let is : b ≡ a = eqb-true b a same in
             let sent : deeds b [] (older ++ marked b (step_of g) ∷ []) ≡ deeds b [] older ++ Takes g ∷ [] =
             deeds-taken b older g
-            (ready_sent (IsLawfulWithFalls decl) fits decl script older before run b g rdy) in
+            (ready_messages_were_sent_through_falls (IsLawfulWithFalls decl) fits decl script older before run b g rdy)
+            in
             subst (λ (k : ℕ). AwaitsIn (older ++ marked k (step_of g) ∷ [])) (sym is)
             (goes_on older (marked a (step_of g) ∷ []) (Takes g ∷ [])
             (subst (λ (k : ℕ). deeds k [] (older ++ marked k (step_of g) ∷ []) ≡ deeds k [] older ++ Takes g ∷ [])
@@ -281,11 +283,11 @@ module _ (decl : Declaration) (script : Script) (a : ℕ) where
         sym (ap (λ (m : ActorMove). m.actor) (client_risen decl a client kept)) ∙ down in
         let never : ⊥ = cc in never
 
-    pub open_requests_awaited : (h : List Entry) (open_inputs : List Bool)
+    pub open_requests_are_awaited_with_falls : (h : List Entry) (open_inputs : List Bool)
         → RunsWithFalls (IsLawfulWithFalls decl) fits decl script h open_inputs → (c : Client)
         → (actor_after decl a (deeds a [] h)).actor ≡ actors.Client c
         → (q : Call) → In q (open_calls c) → IsAwaited q.number (inbox script a h)
-    open_requests_awaited h open_inputs run c is =
+    open_requests_are_awaited_with_falls h open_inputs run c is =
         (subst (λ (v : Actor). Awaits a v (inbox script a h)) is
         (run_awaits fits few (client_within decl a client) first_client
         (λ kept. ap (λ (m : ActorMove). m.turn) (client_risen decl a client kept)) client_alive risen_client h

@@ -13,7 +13,7 @@ use Rattle.qc_script.specs.declared.script.Script.{Script}
 use Rattle.laws_due.specs.Vocabulary.{AllRisePlanned, Declares}
 use Rattle.laws_due.proofs.Declaring.{all_declared, first_planned}
 use Rattle.laws_due.proofs.PlannedMail.{deeds_planned}
-use Rattle.laws_due.proofs.Clients.{clients_due}
+use Rattle.laws_due.proofs.Clients.{clients_of_runs_with_falls_are_due}
 use Rattle.laws_due.proofs.Commanded.{run_askable}
 use Rattle.laws_due.proofs.MailPlanned.{run_planned}
 
@@ -29,7 +29,8 @@ module _ (decl : Declaration) (script : Script) (fits : ℕ → List Record → 
         (first_planned decl accepted) script fits asks h open_inputs run all));
   }
 
-  pub replies_due : actors decl ≤ most_actors → (client : ℕ) → client < decl.clients
+  pub replies_are_due_with_falls : actors decl ≤ most_actors → (client : ℕ) → client < decl.clients
       → AreRepliesDue decl client (deeds (client_actor decl client) [] h)
-  replies_due few client within = clients_due decl script fits few h open_inputs run client within
+  replies_are_due_with_falls few client within =
+      clients_of_runs_with_falls_are_due decl script fits few h open_inputs run client within
       (run_declares (client_actor decl client))

@@ -10,7 +10,7 @@ use Rattle.qc_core.specs.Vocabulary.{IsLawfulWithFalls, actor_after, is_running}
 use Rattle.qc_decl.specs.Vocabulary.{IsAccepted, controller, is_client}
 use Rattle.qc_decl.specs.Actors as numbers
 use Rattle.qc_decl.specs.declared.declaration.Declaration.{Declaration}
-use Rattle.qc_mailbox.proofs.FallLaws.{lines_close}
+use Rattle.qc_mailbox.proofs.FallLaws.{no_input_is_open_while_a_line_is_left}
 use Rattle.laws_turns.specs.Vocabulary.{AsksDeclared, IsAtReceiver, IsAwaited, IsQuiet, IsTaken, open_calls}
 use Rattle.laws_turns.proofs.Acted.{deeds-silent}
 use Rattle.laws_turns.proofs.Numbered.{phase_silent}
@@ -31,11 +31,11 @@ use Rattle.qc_script.specs.Vocabulary.{control, controls_left, copy_taken, damag
 use Rattle.qc_script.specs.Vocabulary.{inbox, inbox_at, loss_taken, phase, phase_of, posts, ready, rises, takes}
 use Rattle.qc_script.specs.Vocabulary.{unopened}
 use Rattle.qc_script.specs.declared.script.Script.{Script}
-use Rattle.laws_due.proofs.ClientsAwait.{open_requests_awaited}
+use Rattle.laws_due.proofs.ClientsAwait.{open_requests_are_awaited_with_falls}
 use Rattle.laws_due.proofs.Places.{client_within, few_actors}
 use Rattle.laws_due.proofs.PlainSteps.{ArePlain, inbox_then, line_plain, post_plain}
 use Rattle.laws_due.proofs.Plain.{entries_idle, entries_left}
-use Rattle.laws_due.proofs.ClientReached.{receiver_is_site, unanswered_at_site}
+use Rattle.laws_due.proofs.ClientReached.{receiver_is_site, unanswered_requests_are_at_their_sites_with_falls}
 use Rattle.laws_due.proofs.LifelongWithFalls.{none_runs_down}
 use Rattle.laws_due.proofs.Tied.{IsAtRest, Stands}
 use Rattle.laws_due.proofs.Resting.{free_rests, run_waits, tied_rests}
@@ -118,12 +118,14 @@ module _ (decl : Declaration) (script : Script) (accepted : IsAccepted decl) (as
       not_awaited : (n : ℕ) → IsAwaited n (inbox script a h) → ⊥
       not_awaited n (inl lost) = subst (In n) (losts_none a (client_within decl a client)) lost
       not_awaited n (inr (inl open_still)) = nowhere n
-          (unanswered_at_site decl script accepted asks fits a client h open_inputs run n open_still)
+          (unanswered_requests_are_at_their_sites_with_falls decl script accepted asks fits a client h open_inputs run n
+          open_still)
       not_awaited n (inr (inr has)) = subst (In has.envelope) (copies_none a (client_within decl a client)) has.member
 
       pub none_open : (c : Client) → (actor_after decl a (deeds a [] h)).actor ≡ actors.Client c → open_calls c ≡ []
       none_open c is = no_members (open_calls c)
-          (λ q member. not_awaited q.number (open_requests_awaited decl script a fits few client h open_inputs run c is
+          (λ q member. not_awaited q.number (open_requests_are_awaited_with_falls decl script a fits few client h
+          open_inputs run c is
           q member))
 
       pub none_runs : is_running (deeds a [] h) ≡ false
@@ -181,7 +183,7 @@ module _ (decl : Declaration) (script : Script) (accepted : IsAccepted decl) (as
     where
       by : (lines : List Control) → controls_left script h ≡ lines → lines ≡ []
       by [] left = refl
-      by (line ∷ lines) left = absurd (lines_close
+      by (line ∷ lines) left = absurd (no_input_is_open_while_a_line_is_left
           (IsLawfulWithFalls decl) fits decl script h open_inputs few run line lines left b is)
 
   cannot : {A : Type 0} (lines : List Control) (line : Control) (more : List Control) → lines ≡ [] → lines ≡ line ∷ more
@@ -224,9 +226,9 @@ module _ (decl : Declaration) (script : Script) (accepted : IsAccepted decl) (as
   idle_of a rests h open_inputs (unopened b cause rest before older run at disk) line lines left =
       entries_idle a older _ (tt, tt) (idle_of a rests older before run _ rest at)
 
-  pub line_idle : (h : List Entry) (open_inputs : List Bool) → IsRun h open_inputs
+  pub no_command_runs_while_a_line_is_left : (h : List Entry) (open_inputs : List Bool) → IsRun h open_inputs
       → (line : Control) (lines : List Control) → controls_left script h ≡ line ∷ lines
       → (a : ℕ) → is_client decl a ≡ true → is_running (deeds a [] h) ≡ false
-  line_idle h open_inputs run line lines left a client =
+  no_command_runs_while_a_line_is_left h open_inputs run line lines left a client =
       idle_of a (λ k o r closed quiet done. none_runs k o r closed quiet done a client) h open_inputs run line lines
       left

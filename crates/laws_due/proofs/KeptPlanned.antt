@@ -12,7 +12,7 @@ use Rattle.qc_decl.specs.declared.declaration.Declaration.{Declaration}
 use Rattle.laws_turns.specs.Vocabulary.{AsksDeclared}
 use Rattle.laws_turns.proofs.Mailed.{both_all}
 use Rattle.qc_link.specs.Vocabulary.{most_actors}
-use Rattle.laws_turns.proofs.FallKept.{kept_rises}
+use Rattle.laws_turns.proofs.FallKept.{clients_rise_with_own_stamps_where_records_are_kept}
 use Rattle.qc_msg.specs.declared.record.Record.{Record}
 use Rattle.qc_msg.specs.declared.reply.Reply.{Reply}
 use Rattle.qc_msg.specs.declared.step.Control.{Control}
@@ -36,7 +36,7 @@ use Rattle.laws_due.specs.Vocabulary.{AllRisePlanned, IsRecordPlanned, RisesPlan
 use Rattle.laws_due.proofs.Declaring.{first_planned}
 use Rattle.laws_due.proofs.PlannedMail.{IsMailPlanned, deeds_planned}
 use Rattle.qc_mailbox.proofs.Keeping.{same_mail}
-use Rattle.laws_due.proofs.AllDue.{runs_due}
+use Rattle.laws_due.proofs.AllDue.{runs_with_falls_are_due}
 use Rattle.laws_due.proofs.ActorsPlanned.{lawful_writes}
 use Rattle.laws_due.proofs.MailPlanned.{deeds_risen, rise_askable, run_planned}
 use Rattle.laws_turns.proofs.StepCases.{controller_cases, deed_cases}
@@ -220,8 +220,10 @@ module _ (decl : Declaration) (script : Script) (fits : ℕ → List Record → 
   run_puts h open_inputs (unopened a cause lines before older run left disk) kept =
       more older _ (run_puts older before run (part_kept older _ kept)) (tt, tt)
 
-  pub kept_planned : (h : List Entry) (open_inputs : List Bool) → IsRun h open_inputs → Kept h → AllRisePlanned decl h
-  kept_planned h open_inputs run kept = all_rise decl h (run_puts h open_inputs run kept)
+  pub what_rises_is_planned_where_records_are_kept : (h : List Entry) (open_inputs : List Bool) → IsRun h open_inputs
+      → Kept h → AllRisePlanned decl h
+  what_rises_is_planned_where_records_are_kept h open_inputs run kept =
+      all_rise decl h (run_puts h open_inputs run kept)
 
   -- each record in a journal names epochs with plans
   pub journals_planned : (h : List Entry) (open_inputs : List Bool) → IsRun h open_inputs → Kept h → (a : ℕ)
@@ -229,8 +231,10 @@ module _ (decl : Declaration) (script : Script) (fits : ℕ → List Record → 
   journals_planned h open_inputs run kept a =
       given_planned decl a h (journal_of (own a h)).records (run_puts h open_inputs run kept) (inl refl)
 
-  pub kept_due : actors decl ≤ most_actors → (h : List Entry) (open_inputs : List Bool) → IsRun h open_inputs → Kept h
+  pub runs_with_falls_are_due_where_records_are_kept : actors decl ≤ most_actors
+      → (h : List Entry) (open_inputs : List Bool) → IsRun h open_inputs → Kept h
       → Due decl h
-  kept_due few h open_inputs run kept =
-      runs_due decl script fits accepted asks few h open_inputs run (kept_planned h open_inputs run kept)
-      (kept_rises decl script fits few h open_inputs run kept)
+  runs_with_falls_are_due_where_records_are_kept few h open_inputs run kept =
+      runs_with_falls_are_due decl script fits accepted asks few h open_inputs run
+      (what_rises_is_planned_where_records_are_kept h open_inputs run kept)
+      (clients_rise_with_own_stamps_where_records_are_kept decl script fits few h open_inputs run kept)

@@ -20,7 +20,7 @@ use Rattle.laws_turns.proofs.Mailed.{both_all}
 use Rattle.laws_turns.proofs.Places.{slice_get-within}
 use Rattle.qc_link.specs.Vocabulary.{most_actors}
 use Rattle.laws_turns.proofs.ByMailWithFalls.{run_delivered}
-use Rattle.laws_turns.proofs.Lived.{run_lives, run_long}
+use Rattle.laws_turns.proofs.Lived.{actors_live_in_runs_with_falls, run_long}
 use Rattle.qc_msg.specs.declared.record.Record.{Record}
 use Rattle.qc_msg.specs.declared.reply.Reply.{Reply}
 use Rattle.qc_msg.specs.declared.step.Fall.TheVariants as causes
@@ -189,11 +189,12 @@ module _ (decl : Declaration) (script : Script) (accepted : IsAccepted decl) (as
 
       at : (t : Bool) × (slice_get open_inputs a ≡ Some t) → AreInOrder false (deeds a [] h)
       at place =
-          let lived : LivesIn decl a h place.0 = run_lives decl script fits few h open_inputs run a place.0 place.1 in
+          let lived : LivesIn decl a h place.0 =
+          actors_live_in_runs_with_falls decl script fits few h open_inputs run a place.0 place.1 in
           mute_ordered (deeds a [] h) (site_mute decl a site (deeds a [] h) place.0 lived.above lived.lives calls) calls
 
-  pub actor_ordered : AreInOrder false (deeds a [] h)
-  actor_ordered = by (is_site decl a) refl
+  pub replies_answer_commands_with_falls : AreInOrder false (deeds a [] h)
+  replies_answer_commands_with_falls = by (is_site decl a) refl
     where
       by : (t : Bool) → is_site decl a ≡ t → AreInOrder false (deeds a [] h)
       by true site = site_ordered site
@@ -202,5 +203,6 @@ module _ (decl : Declaration) (script : Script) (accepted : IsAccepted decl) (as
           run_ordered decl script accepted asks fits a
           (λ i. le-leb decl.sites a past i && lt-ltb a (administrator decl) within i) h open_inputs run
 
-  pub actor_replied : length (calls_of a h) ≡ length (replies_of a h) + open_commands (is_running (deeds a [] h))
-  actor_replied = all_counted (deeds a [] h) actor_ordered
+  pub calls_are_replied_with_falls : length (calls_of a h)
+      ≡ length (replies_of a h) + open_commands (is_running (deeds a [] h))
+  calls_are_replied_with_falls = all_counted (deeds a [] h) replies_answer_commands_with_falls

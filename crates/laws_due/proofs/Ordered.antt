@@ -10,12 +10,12 @@ use Rattle.qc_core.specs.Vocabulary.{IsLawfulWithFalls, MayTake, is_running, run
 use Rattle.laws_due.proofs.Fallings.{as_record}
 use Rattle.qc_decl.specs.Vocabulary.{IsAccepted, controller, is_client}
 use Rattle.qc_decl.specs.declared.declaration.Declaration.{Declaration}
-use Rattle.qc_mailbox.proofs.FallMail.{ready_sent}
+use Rattle.qc_mailbox.proofs.FallMail.{ready_messages_were_sent_through_falls}
 use Rattle.laws_turns.specs.Vocabulary.{AsksDeclared, LivesIn, call_in, reply_in}
 use Rattle.laws_turns.proofs.Acted.{deeds-silent}
 use Rattle.laws_turns.proofs.Commands.{may_take}
 use Rattle.laws_turns.proofs.LivedMoves.{deeds-fall, deeds-rise}
-use Rattle.laws_turns.proofs.Lived.{run_lives}
+use Rattle.laws_turns.proofs.Lived.{actors_live_in_runs_with_falls}
 use Rattle.qc_msg.specs.declared.record.Record.{Record}
 use Rattle.qc_msg.specs.declared.reply.Reply.{Reply}
 use Rattle.qc_msg.specs.declared.step.Control.{Control}
@@ -39,7 +39,7 @@ use Rattle.qc_script.specs.Vocabulary.{RunsWithFalls, begins, control, controls_
 use Rattle.qc_script.specs.Vocabulary.{posts, ready, rises, takes, unopened}
 use Rattle.qc_script.specs.declared.script.Script.{Script}
 use Rattle.laws_due.specs.Vocabulary.{AreInOrder, MayBeGiven}
-use Rattle.laws_due.proofs.EndsWithFalls.{line_idle}
+use Rattle.laws_due.proofs.EndsWithFalls.{no_command_runs_while_a_line_is_left}
 use Rattle.laws_due.proofs.Places.{apart_from_controller, few_actors, rose_split}
 use Rattle.laws_due.proofs.Telling.{Replies}
 use Rattle.laws_due.proofs.LifelongWithFalls.{client_lives, rising_turn, turn_replies}
@@ -182,7 +182,8 @@ module _ (decl : Declaration) (script : Script) (fits : ℕ → List Record → 
       either b older (step_of g ∷ []) (run_in_order older before run)
       (λ is. grown older (older ++ marked a (step_of g) ∷ []) (Takes g ∷ [])
       (subst (λ (k : ℕ). deeds k [] (older ++ marked k (step_of g) ∷ []) ≡ deeds k [] older ++ Takes g ∷ []) is
-      (deeds-taken b older g (ready_sent (IsLawfulWithFalls decl) fits decl script older before run b g rdy)))
+      (deeds-taken b older g
+      (ready_messages_were_sent_through_falls (IsLawfulWithFalls decl) fits decl script older before run b g rdy)))
       (run_in_order older before run) (
         may_be_given (deeds a [] older) g
             (may_take decl script a older g (subst (λ (k : ℕ). ready decl script k older ≡ Some g) is rdy)),
@@ -229,7 +230,7 @@ module _ (decl : Declaration) (script : Script) (accepted : IsAccepted decl) (as
       → IsLawfulWithFalls decl a (deeds a [] older) turn
       → AreInOrder (is_running (deeds a [] older)) (deeds_as turn.append (length (mail older)) turn)
   client_ordered older before turn run taken law =
-      let lived : LivesIn decl a older true = run_lives decl script fits
+      let lived : LivesIn decl a older true = actors_live_in_runs_with_falls decl script fits
       (few_actors decl accepted) older before run a true taken in
       let at : IsAtInput decl a client (deeds a [] older) =
       client_lives decl a client (deeds a [] older) true lived.above lived.lives in
@@ -244,7 +245,9 @@ module _ (decl : Declaration) (script : Script) (accepted : IsAccepted decl) (as
   run_ordered h open_inputs run =
       run_in_order decl script fits a (record {
         other = apart_from_controller decl a client;
-        idle = λ older before r line lines left. line_idle decl script accepted asks fits older before r line lines left
+        idle =
+            λ older before r line lines left. no_command_runs_while_a_line_is_left decl script accepted asks fits older
+            before r line lines left
             a client;
         ordered = λ older before after turn r taken law whole. client_ordered older before turn r taken law;
         rising_is = λ ds kept turn law. rising_turn decl a client ds kept turn law;

@@ -10,12 +10,12 @@ use Rattle.qc_core.specs.Lives as lives
 use Rattle.qc_core.proofs.PostsByTurns.{after_takes, called_turn}
 use Rattle.qc_decl.specs.Vocabulary.{actors, controller}
 use Rattle.qc_decl.specs.declared.declaration.Declaration.{Declaration}
-use Rattle.qc_mailbox.proofs.FallLaws.{lines_close}
-use Rattle.qc_mailbox.proofs.FallMail.{ready_sent}
+use Rattle.qc_mailbox.proofs.FallLaws.{no_input_is_open_while_a_line_is_left}
+use Rattle.qc_mailbox.proofs.FallMail.{ready_messages_were_sent_through_falls}
 use Rattle.laws_turns.specs.Vocabulary.{IsAtReceiver, IsTaken, LivesIn}
 use Rattle.laws_turns.proofs.Places.{slice_get-set_other}
 use Rattle.qc_link.specs.Vocabulary.{most_actors}
-use Rattle.laws_turns.proofs.Lived.{run_lives}
+use Rattle.laws_turns.proofs.Lived.{actors_live_in_runs_with_falls}
 use Rattle.qc_msg.specs.declared.message.Envelope.{Envelope}
 use Rattle.qc_msg.specs.declared.message.Answer.{Answer}
 use Rattle.qc_msg.specs.declared.message.Message.TheVariants as messages
@@ -64,7 +64,7 @@ module _ (decl : Declaration) (script : Script) (fits : ℕ → List Record → 
       not_a = subst (λ (k : ℕ). (k == a) ≡ false) to d.other.1
 
       lived : LivesIn decl b older true
-      lived = run_lives decl script fits few older before run b true open_b
+      lived = actors_live_in_runs_with_falls decl script fits few older before run b true open_b
 
       up : lives.is_up first ≡ true
       up = took_up decl b (deeds b [] older) lived.above lived.lives first e last
@@ -160,7 +160,8 @@ module _ (decl : Declaration) (script : Script) (fits : ℕ → List Record → 
       → controls_left script older ≡ line ∷ lines → MayAllFollow a k → IsKept older before → IsKept (older ++ k) before
   line_kept older k before run line lines left may are =
       closed_kept older k before
-      (lines_close (IsLawfulWithFalls decl) fits decl script older before few run line lines left) may are
+      (no_input_is_open_while_a_line_is_left (IsLawfulWithFalls decl) fits decl script older before few run line lines
+      left) may are
 
   control_follows : (c : ℕ) (line : Control) (step : Step) → controller_step line ≡ Some step → MayFollow a c step
   control_follows c line step is =
@@ -170,7 +171,8 @@ module _ (decl : Declaration) (script : Script) (fits : ℕ → List Record → 
   run_kept h open_inputs begins = λ r member. absurd member
   run_kept h open_inputs (takes b g before older run free rdy) =
       take_kept decl script fits few a a_low are_replied b g before older free rdy
-      (deeds-taken b older g (ready_sent (IsLawfulWithFalls decl) fits decl script older before run b g rdy))
+      (deeds-taken b older g
+      (ready_messages_were_sent_through_falls (IsLawfulWithFalls decl) fits decl script older before run b g rdy))
       (run_kept older before run)
   run_kept h open_inputs (posts b turn before older run open_b law) =
       post_kept b turn before older run open_b law (posts b turn before older run open_b law)

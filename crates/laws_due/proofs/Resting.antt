@@ -16,7 +16,7 @@ use Rattle.qc_decl.specs.declared.declaration.Declaration.{Declaration}
 use Rattle.laws_due.proofs.Commanded.{run_askable}
 use Rattle.laws_turns.specs.Vocabulary.{AsksDeclared, LivesIn, calls_by, is_waiting, open_calls, waits}
 use Rattle.qc_link.specs.Vocabulary.{most_actors}
-use Rattle.laws_turns.proofs.Lived.{run_lives}
+use Rattle.laws_turns.proofs.Lived.{actors_live_in_runs_with_falls}
 use Rattle.qc_msg.specs.declared.message.Answer.{Answer}
 use Rattle.qc_msg.specs.declared.record.Record.{Record}
 use Rattle.qc_msg.specs.Vocabulary.{Entry, deeds}
@@ -76,7 +76,8 @@ module _ (decl : Declaration) (script : Script) (fits : ℕ → List Record → 
       → (a : ℕ) (client : is_client decl a ≡ true) → slice_get open_inputs a ≡ Some false
       → IsAtRest decl a client (deeds a [] h)
   free_rests h open_inputs run a client free =
-      let lived : LivesIn decl a h false = run_lives decl script fits few h open_inputs run a false free in
+      let lived : LivesIn decl a h false =
+      actors_live_in_runs_with_falls decl script fits few h open_inputs run a false free in
       client_lives decl a client (deeds a [] h) false lived.above lived.lives
 
   -- it waits while a command of it runs

@@ -10,7 +10,7 @@ use Rattle.qc_decl.specs.Vocabulary.{actors, is_client}
 use Rattle.qc_decl.specs.declared.declaration.Declaration.{Declaration}
 use Rattle.qc_link.specs.Vocabulary.{most_actors}
 use Rattle.laws_turns.specs.Vocabulary.{LivesIn}
-use Rattle.laws_turns.proofs.Lived.{run_lives}
+use Rattle.laws_turns.proofs.Lived.{actors_live_in_runs_with_falls}
 use Rattle.qc_msg.specs.declared.record.Record.{Record}
 use Rattle.qc_msg.specs.declared.step.Input.TheVariants as inputs
 use Rattle.qc_msg.specs.Vocabulary.{Entry, deeds}
@@ -25,7 +25,7 @@ module _ (decl : Declaration) (script : Script) (fits : ℕ → List Record → 
     (run : RunsWithFalls (IsLawfulWithFalls decl) fits decl script h open_inputs) (a : ℕ)
     (client : is_client decl a ≡ true) (free : slice_get open_inputs a ≡ Some false) where
   lived : LivesIn decl a h false
-  lived = run_lives decl script fits few h open_inputs run a false free
+  lived = actors_live_in_runs_with_falls decl script fits few h open_inputs run a false free
 
   rest : IsAtRest decl a client (deeds a [] h)
   rest = client_lives decl a client (deeds a [] h) false lived.above lived.lives

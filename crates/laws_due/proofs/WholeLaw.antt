@@ -25,7 +25,7 @@ use Rattle.qc_script.specs.declared.script.Script.{Script}
 use Rattle.laws_due.specs.Vocabulary.{AreInOrder, AsksEpochs, AsksKnown, IsClosedWithFalls, IsWholeWithFalls}
 use Rattle.laws_due.proofs.AdminEnds.{his_none_runs, his_order}
 use Rattle.laws_due.proofs.Busy.{busy_runs}
-use Rattle.laws_due.proofs.Calling.{run_asked, run_phases}
+use Rattle.laws_due.proofs.Calling.{calls_are_asked_with_falls, phases_are_the_scripts_with_falls}
 use Rattle.laws_due.proofs.EndsWithFalls.{copies_none, losts_none, none_open, none_runs, nothing_ready}
 use Rattle.laws_due.proofs.Ordered.{all_counted, open_commands, run_ordered}
 use Rattle.laws_due.proofs.Places.{client_within}
@@ -67,22 +67,23 @@ module _ (decl : Declaration) (script : Script) (accepted : IsAccepted decl) (as
 
   module _ (closed : IsClosedWithFalls fits decl script h) (quiet : IsQuiet decl script h)
       (done : controls_left script h ≡ []) where
-    pub no_request_open : (a : ℕ) → is_client decl a ≡ true → (c : Client)
+    pub no_request_is_open_at_the_end_with_falls : (a : ℕ) → is_client decl a ≡ true → (c : Client)
         → (actor_after decl a (deeds a [] h)).actor ≡ actor.Client c → open_calls c ≡ []
-    no_request_open a client = none_open decl script accepted asks fits h
+    no_request_is_open_at_the_end_with_falls a client = none_open decl script accepted asks fits h
         (replicate (actors decl) false) closed none_open_now quiet done a client
 
-    pub none_runs_now : (a : ℕ) → is_client decl a ≡ true → is_running (deeds a [] h) ≡ false
-    none_runs_now a client = none_runs decl script accepted asks fits h
+    pub commands_end_with_falls : (a : ℕ) → is_client decl a ≡ true → is_running (deeds a [] h) ≡ false
+    commands_end_with_falls a client = none_runs decl script accepted asks fits h
         (replicate (actors decl) false) closed none_open_now quiet done a client
 
     ordered : (a : ℕ) → is_client decl a ≡ true → AreInOrder false (deeds a [] h)
     ordered a client = run_ordered decl script accepted asks fits a client h (replicate (actors decl) false) closed
 
-    pub all_replied : (a : ℕ) → is_client decl a ≡ true → length (calls_of a h) ≡ length (replies_of a h)
-    all_replied a client =
+    pub each_call_has_its_reply_with_falls : (a : ℕ) → is_client decl a ≡ true
+        → length (calls_of a h) ≡ length (replies_of a h)
+    each_call_has_its_reply_with_falls a client =
         let count : length (calls_of a h) ≡ length (replies_of a h) + 0 = all_counted (deeds a [] h) (ordered a client)
-        ∙ ap (λ (t : Bool). length (replies_of a h) + open_commands t) (none_runs_now a client) in
+        ∙ ap (λ (t : Bool). length (replies_of a h) + open_commands t) (commands_end_with_falls a client) in
         omega arith
 
     -- of whoever takes commands, where it has them in order and runs none
@@ -108,7 +109,8 @@ module _ (decl : Declaration) (script : Script) (accepted : IsAccepted decl) (as
       calls_whole : length script.phases ≤ phase_of h → calls_of a h ≡ asked_by a script
       calls_whole all =
           sym (append-nil (calls_of a h)) ∙ ap (λ (v : List Command). calls_of a h ++ v) (sym none_left)
-          ∙ run_asked (IsLawfulWithFalls decl) fits decl script a h (replicate (actors decl) false) closed
+          ∙ calls_are_asked_with_falls (IsLawfulWithFalls decl) fits decl script a h (replicate (actors decl) false)
+          closed
           ∙ ap (λ (v : List PhaseLines). asked_in_all a v) (take_all (phase_of h) script.phases all)
 
       answered : length script.phases ≤ phase_of h → AreAnswered (asked_by a script) (exchanges (deeds a [] h))
@@ -120,11 +122,12 @@ module _ (decl : Declaration) (script : Script) (accepted : IsAccepted decl) (as
     clients_answered : length script.phases ≤ phase_of h → (a : ℕ) → is_client decl a ≡ true
         → AreAnswered (asked_by a script) (exchanges (deeds a [] h))
     clients_answered all a client = answered a (client_within decl a client)
-        (ap (λ (t : Bool). t || (a == administrator decl)) client) (ordered a client) (none_runs_now a client) all
+        (ap (λ (t : Bool). t || (a == administrator decl)) client) (ordered a client) (commands_end_with_falls a client)
+        all
 
     module _ (known : AsksKnown fits decl script) (epochs : AsksEpochs decl script) where
-      pub none_of_his_runs : is_running (deeds (administrator decl) [] h) ≡ false
-      none_of_his_runs = his_none_runs decl script accepted asks fits known epochs h
+      pub commands_of_the_administrator_end : is_running (deeds (administrator decl) [] h) ≡ false
+      commands_of_the_administrator_end = his_none_runs decl script accepted asks fits known epochs h
           (replicate (actors decl) false) closed none_open_now quiet done
 
       his_answered : length script.phases ≤ phase_of h
@@ -132,7 +135,7 @@ module _ (decl : Declaration) (script : Script) (accepted : IsAccepted decl) (as
       his_answered all =
           answered (administrator decl) (omega arith) (takes_his (is_client decl (administrator decl)))
           (his_order decl script accepted asks fits known epochs h (replicate (actors decl) false) closed)
-          none_of_his_runs all
+          commands_of_the_administrator_end all
         where
           takes_his : (t : Bool) → (t || (administrator decl == administrator decl)) ≡ true
           takes_his true = refl
@@ -149,11 +152,12 @@ module _ (decl : Declaration) (script : Script) (accepted : IsAccepted decl) (as
               (sym (eqb-true a (administrator decl) is)) (his_answered all)
           by false other false is some = absurd (let never : ⊥ = cc in never)
 
-      pub is_whole : length script.phases ≤ phase_of h → IsWholeWithFalls fits decl script h
-      is_whole all = record {
+      pub runs_with_falls_are_whole : length script.phases ≤ phase_of h → IsWholeWithFalls fits decl script h
+      runs_with_falls_are_whole all = record {
         closed = closed;
         phases = (let most : phase_of h ≤ length script.phases =
-            run_phases (IsLawfulWithFalls decl) fits decl script h (replicate (actors decl) false) closed in
+            phases_are_the_scripts_with_falls (IsLawfulWithFalls decl) fits decl script h
+            (replicate (actors decl) false) closed in
             omega arith);
         controls = done;
         replies = all_answered all;

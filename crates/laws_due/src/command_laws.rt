@@ -31,7 +31,7 @@ use qc_script::ConductWithFalls;
 /// The commands that an actor called, and then those that are left to it, are
 /// those that the phases so far ask it, in their order: a fall takes none away,
 /// and an actor that is down is called too. So it is by any conduct.
-#[tactic(auto, using(crate::proofs::Calling::run_asked))]
+#[tactic(auto, using(crate::proofs::Calling::calls_are_asked_with_falls))]
 pub fn calls_are_asked_with_falls<C: ConductWithFalls>()
     ensures { (decl : Declaration) (script : Script) (h : List Entry) (open_inputs : List Bool) (a : ℕ)
         → RunsWithFalls C.lawful C.fits decl script h open_inputs
@@ -39,7 +39,7 @@ pub fn calls_are_asked_with_falls<C: ConductWithFalls>()
 {}
 
 /// No more phases begin than the script has, by any conduct.
-#[tactic(auto, using(crate::proofs::Calling::run_phases))]
+#[tactic(auto, using(crate::proofs::Calling::phases_are_the_scripts_with_falls))]
 pub fn phases_are_the_scripts_with_falls<C: ConductWithFalls>()
     ensures { (decl : Declaration) (script : Script) (h : List Entry) (open_inputs : List Bool)
         → RunsWithFalls C.lawful C.fits decl script h open_inputs → phase_of h ≤ length script.phases }
@@ -62,7 +62,7 @@ pub fn clients_wait_while_commands_run_with_falls<C: ConductWithFalls>()
 
 /// While a control line is left, no client runs a command: each has ended before
 /// the phase began. So no line makes a client fall that owes a reply.
-#[tactic(auto, using(crate::proofs::EndsWithFalls::line_idle))]
+#[tactic(auto, using(crate::proofs::EndsWithFalls::no_command_runs_while_a_line_is_left))]
 pub fn no_command_runs_while_a_line_is_left<C: ConductWithFalls>()
     ensures { (decl : Declaration) (script : Script) → IsAccepted decl → AsksDeclared decl script
         → (h : List Entry) (open_inputs : List Bool)
@@ -75,7 +75,7 @@ pub fn no_command_runs_while_a_line_is_left<C: ConductWithFalls>()
 /// answers a command that was called and not yet answered: also where it is down,
 /// and where its record isn't written. It falls and rises only where no command
 /// runs, so a fall leaves none without its reply.
-#[tactic(auto, using(crate::proofs::MuteWithFalls::actor_ordered))]
+#[tactic(auto, using(crate::proofs::MuteWithFalls::replies_answer_commands_with_falls))]
 pub fn replies_answer_commands_with_falls<C: ConductWithFalls>()
     ensures { (decl : Declaration) (script : Script) → IsAccepted decl → AsksDeclared decl script
         → (h : List Entry) (open_inputs : List Bool)
@@ -85,7 +85,7 @@ pub fn replies_answer_commands_with_falls<C: ConductWithFalls>()
 
 /// So it told one reply to each command that it called, but for the one
 /// that runs.
-#[tactic(auto, using(crate::proofs::MuteWithFalls::actor_replied))]
+#[tactic(auto, using(crate::proofs::MuteWithFalls::calls_are_replied_with_falls))]
 pub fn calls_are_replied_with_falls<C: ConductWithFalls>()
     ensures { (decl : Declaration) (script : Script) → IsAccepted decl → AsksDeclared decl script
         → (h : List Entry) (open_inputs : List Bool)

@@ -24,7 +24,7 @@ use qc_script::ConductWithFalls;
 /// In every run with falls each deed of a client is due, through its falls and
 /// rises and whatever the records that it rises with, where what comes to it is
 /// declared.
-#[tactic(auto, using(crate::proofs::Clients::clients_due))]
+#[tactic(auto, using(crate::proofs::Clients::clients_of_runs_with_falls_are_due))]
 pub fn clients_of_runs_with_falls_are_due<C: ConductWithFalls>()
     ensures { OfEachRun C.fits (λ decl script h open_inputs. (client : ℕ) → client < decl.clients
         → Declares decl (deeds (client_actor decl client) [] h)
@@ -33,7 +33,7 @@ pub fn clients_of_runs_with_falls_are_due<C: ConductWithFalls>()
 
 /// So it is, of a script that asks for what is declared, where each record that
 /// rises names epochs with plans: then nobody tells of another.
-#[tactic(auto, using(crate::proofs::Declared::replies_due))]
+#[tactic(auto, using(crate::proofs::Declared::replies_are_due_with_falls))]
 pub fn replies_are_due_with_falls<C: ConductWithFalls>()
     ensures { (decl : Declaration) (script : Script) → IsAccepted decl → AsksDeclared decl script
         → (h : List Entry) (open_inputs : List Bool)
@@ -47,7 +47,7 @@ pub fn replies_are_due_with_falls<C: ConductWithFalls>()
 /// receivers, and each deed of a client and of the administrator and each post of
 /// a site is due; where what rises names epochs with plans, and clients rise with commit records that
 /// name stamps of their transactions' own clients.
-#[tactic(auto, using(crate::proofs::AllDue::runs_due))]
+#[tactic(auto, using(crate::proofs::AllDue::runs_with_falls_are_due))]
 pub fn runs_with_falls_are_due<C: ConductWithFalls>()
     ensures { (decl : Declaration) (script : Script) → IsAccepted decl → AsksDeclared decl script
         → actors decl ≤ most_actors → (h : List Entry) (open_inputs : List Bool)
@@ -57,7 +57,7 @@ pub fn runs_with_falls_are_due<C: ConductWithFalls>()
 
 /// Where a script asks for what is declared and records are kept, what rises names
 /// epochs with plans: no actor writes a record of another.
-#[tactic(auto, using(crate::proofs::KeptPlanned::kept_planned))]
+#[tactic(auto, using(crate::proofs::KeptPlanned::what_rises_is_planned_where_records_are_kept))]
 pub fn what_rises_is_planned_where_records_are_kept<C: ConductWithFalls>()
     ensures { (decl : Declaration) (script : Script) → IsAccepted decl → AsksDeclared decl script
         → (h : List Entry) (open_inputs : List Bool)
@@ -66,7 +66,7 @@ pub fn what_rises_is_planned_where_records_are_kept<C: ConductWithFalls>()
 {}
 
 /// So all is due in every run with falls in which records are kept.
-#[tactic(auto, using(crate::proofs::KeptPlanned::kept_due))]
+#[tactic(auto, using(crate::proofs::KeptPlanned::runs_with_falls_are_due_where_records_are_kept))]
 pub fn runs_with_falls_are_due_where_records_are_kept<C: ConductWithFalls>()
     ensures { (decl : Declaration) (script : Script) → IsAccepted decl → AsksDeclared decl script
         → actors decl ≤ most_actors → (h : List Entry) (open_inputs : List Bool)

@@ -39,7 +39,7 @@ pub fn commands_of_runs_with_falls_wait<C: ConductWithFalls>()
 /// Every command ends: no client runs one where no input is open, nothing is
 /// ready for any actor, and each control line of the phases so far has acted,
 /// whoever is down then, and whatever records were lost.
-#[tactic(auto, using(crate::proofs::WholeLaw::none_runs_now))]
+#[tactic(auto, using(crate::proofs::WholeLaw::commands_end_with_falls))]
 pub fn commands_end_with_falls<C: ConductWithFalls>()
     ensures { (decl : Declaration) (script : Script) → IsAccepted decl → AsksDeclared decl script
         → (h : List Entry) → IsClosedWithFalls C.fits decl script h
@@ -48,7 +48,7 @@ pub fn commands_end_with_falls<C: ConductWithFalls>()
 {}
 
 /// So each command that a client called has its reply there.
-#[tactic(auto, using(crate::proofs::WholeLaw::all_replied))]
+#[tactic(auto, using(crate::proofs::WholeLaw::each_call_has_its_reply_with_falls))]
 pub fn each_call_has_its_reply_with_falls<C: ConductWithFalls>()
     ensures { (decl : Declaration) (script : Script) → IsAccepted decl → AsksDeclared decl script
         → (h : List Entry) → IsClosedWithFalls C.fits decl script h
@@ -58,7 +58,7 @@ pub fn each_call_has_its_reply_with_falls<C: ConductWithFalls>()
 
 /// So does every command of the administrator, where a script asks him for epochs
 /// alone, and each Ask of his is about a transaction of a declared client.
-#[tactic(auto, using(crate::proofs::WholeLaw::none_of_his_runs))]
+#[tactic(auto, using(crate::proofs::WholeLaw::commands_of_the_administrator_end))]
 pub fn commands_of_the_administrator_end<C: ConductWithFalls>()
     ensures { (decl : Declaration) (script : Script) → IsAccepted decl → AsksDeclared decl script
         → (h : List Entry) → IsClosedWithFalls C.fits decl script h
@@ -70,7 +70,7 @@ pub fn commands_of_the_administrator_end<C: ConductWithFalls>()
 /// And such a run of which no phase is left is whole: each client, and the
 /// administrator, called just the script's commands in their order, and told a reply
 /// to each before the next one and before any fall, and nothing beside.
-#[tactic(auto, using(crate::proofs::WholeLaw::is_whole))]
+#[tactic(auto, using(crate::proofs::WholeLaw::runs_with_falls_are_whole))]
 pub fn runs_with_falls_are_whole<C: ConductWithFalls>()
     ensures { (decl : Declaration) (script : Script) → IsAccepted decl → AsksDeclared decl script
         → (h : List Entry) → IsClosedWithFalls C.fits decl script h

@@ -30,7 +30,7 @@ use qc_script::ConductWithFalls;
 /// Each open request of a client that is up is awaited in its inbox: that it is
 /// lost isn't taken yet, also where the site that was asked fell since, or it is
 /// unanswered, or a copy of its answer is ready.
-#[tactic(auto, using(crate::proofs::ClientsAwait::open_requests_awaited))]
+#[tactic(auto, using(crate::proofs::ClientsAwait::open_requests_are_awaited_with_falls))]
 pub fn open_requests_are_awaited_with_falls<C: ConductWithFalls>()
     ensures { (decl : Declaration) (script : Script) → actors decl ≤ most_actors
         → (a : ℕ) → is_client decl a ≡ true → (h : List Entry) (open_inputs : List Bool)
@@ -43,7 +43,7 @@ pub fn open_requests_are_awaited_with_falls<C: ConductWithFalls>()
 /// unanswered request of a client is at the site that it was sent to: a copy of
 /// it is ready there, or it is the site's open input. A site that falls leaves no
 /// request to it unanswered.
-#[tactic(auto, using(crate::proofs::ClientReached::unanswered_at_site))]
+#[tactic(auto, using(crate::proofs::ClientReached::unanswered_requests_are_at_their_sites_with_falls))]
 pub fn unanswered_requests_are_at_their_sites_with_falls<C: ConductWithFalls>()
     ensures { (decl : Declaration) (script : Script) → IsAccepted decl → AsksDeclared decl script
         → (a : ℕ) → is_client decl a ≡ true
@@ -54,7 +54,7 @@ pub fn unanswered_requests_are_at_their_sites_with_falls<C: ConductWithFalls>()
 
 /// Then no client that is up waits for a request where no input is open, nothing
 /// is ready for any actor, and each control line of the phases so far has acted.
-#[tactic(auto, using(crate::proofs::WholeLaw::no_request_open))]
+#[tactic(auto, using(crate::proofs::WholeLaw::no_request_is_open_at_the_end_with_falls))]
 pub fn no_request_is_open_at_the_end_with_falls<C: ConductWithFalls>()
     ensures { (decl : Declaration) (script : Script) → IsAccepted decl → AsksDeclared decl script
         → (h : List Entry) → IsClosedWithFalls C.fits decl script h

@@ -49,7 +49,9 @@ use Rattle.laws_guarantees.proofs.MessageCases.{asking_cases}
 use Rattle.std.specs.Prelude.{MatchOption}
 
 module _ (decl : Declaration) (script : Script) (calm : IsUndisturbed script) where
-  module _ (older : List Entry) (before : List Bool) (run : Runs (IsLawful decl) decl script older before) (b : ℕ) (turn : Turn) (is_opened : slice_get before b ≡ Some true) (lawful : IsLawful decl b (deeds b [] older) turn) where
+  module _ (older : List Entry) (before : List Bool) (run : Runs (IsLawful decl) decl script older before) (b : ℕ)
+      (turn : Turn) (is_opened : slice_get before b ≡ Some true)
+      (lawful : IsLawful decl b (deeds b [] older) turn) where
     at : IsAtTake decl b (deeds b [] older)
     at = opened decl script older before run b is_opened
 

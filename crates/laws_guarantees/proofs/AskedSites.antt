@@ -1,4 +1,5 @@
--- A transaction knows each site that it asked to hold something, and its end is told to them all: of a front end's moves.
+-- A transaction knows each site that it asked to hold something, and its end is told to them all: of a front end's
+-- moves.
 use Rattle.std.proofs.Common.{[], ◌≡◌, ℕ, nat_le, Bool, true, false, cond, List, ◌∷◌, ◌++◌, length, Option, Some, None}
 use Rattle.std.proofs.Common.{option_map, refl, ap, ◌∙◌, subst}
 use Rattle.std.specs.Prelude.{slice_get, option_and_then}

@@ -120,9 +120,15 @@ module _ (decl : Declaration) (half : Want → Bool) where
       by None epoch is = old epoch is
       by (Some p) epoch is =
           let e : Account = record d { requests = taken_for n answer d.requests } in
-          let k : KeepsEpoch (record d { requests = taken_for n answer d.requests }) (told_by (record d { requests = taken_for n answer d.requests }) p answer) = told_epoch (record d { requests = taken_for n answer d.requests }) p answer in
-          let s : (sites_in half (taken_for n answer d.requests) ≡ sites_in half d.requests) × (count_in half (taken_for n answer d.requests) ≡ count_in half d.requests) = sites_taken half n answer d.requests in
-          let same : (told_by (record d { requests = taken_for n answer d.requests }) p answer).requests ≡ taken_for n answer d.requests = (told_requests (record d { requests = taken_for n answer d.requests }) p answer).0 in
+          let k : KeepsEpoch (record d { requests = taken_for n answer d.requests })
+          (told_by (record d { requests = taken_for n answer d.requests }) p answer) =
+          told_epoch (record d { requests = taken_for n answer d.requests }) p answer in
+          let s : (sites_in half (taken_for n answer d.requests) ≡ sites_in half d.requests)
+          × (count_in half (taken_for n answer d.requests) ≡ count_in half d.requests) =
+          sites_taken half n answer d.requests in
+          let same : (told_by (record d { requests = taken_for n answer d.requests }) p answer).requests
+          ≡ taken_for n answer d.requests =
+          (told_requests (record d { requests = taken_for n answer d.requests }) p answer).0 in
           ap (sites_in half) same ∙ s.0 ∙ old epoch (sym k.epoch ∙ is)
           ∙ (λ i. take (sym (ap (count_in half) same ∙ s.1) i) (order decl (sym k.client i) epoch))
 

@@ -24,7 +24,8 @@ use Rattle.theory_machine.proofs.Keeps.{laws}
 use Rattle.theory_machine.proofs.LogKeeps.{log_laws}
 use Rattle.theory_machine.proofs.Outcomes.{committed_record}
 use Rattle.laws_guarantees.proofs.Live.{Live, no_outcome, not_aborted}
-use Rattle.laws_guarantees.proofs.Machine.{IsPassed, IsSeen, ordered_now}
+use Rattle.laws_guarantees.proofs.Machine.{ordered_now}
+use Rattle.laws_guarantees.proofs.Paired.{IsPassed, IsSeen}
 use Rattle.laws_guarantees.proofs.Settled.{IsSafe}
 
 -- the operation at a place

@@ -101,7 +101,12 @@ module _ (decl : Declaration) (script : Script) (accepted : IsAccepted decl) (so
       later_remembers opened =
           subst (λ (ds : List Deed). IsRemembered ds t.tx)
           (same_deeds decl script accepted sound h open_inputs run a client q k opened q.site site)
-          (subst (IsRemembered (deeds q.site [] (later decl script accepted sound h open_inputs run a client q k opened))) name (closed_remembers (later decl script accepted sound h open_inputs run a client q k opened) (slice_set open_inputs a false) run_after (later_few decl script accepted sound h open_inputs run a client q k opened few) a q it.t client it.current vote free
+          (subst (IsRemembered
+          (deeds q.site [] (later decl script accepted sound h open_inputs run a client q k opened))) name
+          (closed_remembers (later decl script accepted sound h open_inputs run a client q k opened)
+          (slice_set open_inputs a false) run_after
+          (later_few decl script accepted sound h open_inputs run a client q k opened few) a q it.t client
+          it.current vote free
           (same_slot decl script accepted sound h open_inputs run a client q k opened q.site site ∙ at_rest)))
         where
           run_after : Runs (IsLawful decl) decl script
@@ -134,7 +139,9 @@ module _ (decl : Declaration) (script : Script) (accepted : IsAccepted decl) (so
               subst (λ (u : Current). WasSent (deeds a [] h) q u.tx) same s.2
 
           name : it.t.tx ≡ t.tx
-          name = (one_request decl script accepted sound (later decl script accepted sound h open_inputs run a client q k opened) (slice_set open_inputs a false) run_after q.number q.site q.site it.t.tx t.tx Prepare q.want
+          name = (one_request decl script accepted sound
+              (later decl script accepted sound h open_inputs run a client q k opened) (slice_set open_inputs a false)
+              run_after q.number q.site q.site it.t.tx t.tx Prepare q.want
               (asked decl script accepted sound (later decl script accepted sound h open_inputs run a client q k opened)
               (slice_set open_inputs a false) run_after a client free q vote)
               (request_sent decl script accepted sound
@@ -144,7 +151,9 @@ module _ (decl : Declaration) (script : Script) (accepted : IsAccepted decl) (so
               (λ (ds : List Deed). In (Sends q.number q.site (messages.Request t.tx sent.epoch q.life q.want)) ds)
               (sym (deeds-posted a (length (mail h)) h
               (turn decl script accepted sound h open_inputs run a client q k opened)))
-              (In-first (Sends q.number q.site (messages.Request t.tx sent.epoch q.life q.want)) (deeds a [] h) (turn_deeds (length (mail h)) (turn decl script accepted sound h open_inputs run a client q k opened)) sent.is)))).1
+              (In-first (Sends q.number q.site (messages.Request t.tx sent.epoch q.life q.want)) (deeds a [] h)
+              (turn_deeds (length (mail h)) (turn decl script accepted sound h open_inputs run a client q k opened))
+              sent.is)))).1
 
       by : (b : Bool) × (slice_get open_inputs a ≡ Some b) → IsRemembered (deeds q.site [] h) t.tx
       by (true, opened) = later_remembers opened

@@ -122,7 +122,8 @@ counted_grounds ds x d number answer takes k = by (find (is_open number) d.reque
             (subst (In q) (told_requests (record d { requests = taken_for number answer d.requests }) p answer).0
             among)) [
               | inl old ↦ taken_more ds x q.number a (k.taken q a old is)
-              | inr now ↦ (let e : Some answer ≡ Some (Some a) = sym (ap (λ (y : ClientRequest). y.taken) now.is) ∙ is in
+              | inr now ↦ (let e : Some answer ≡ Some (Some a) =
+                  sym (ap (λ (y : ClientRequest). y.taken) now.is) ∙ is in
                   let it : answer ≡ Some a = cc in
                   subst (λ (n : ℕ). WasTaken (ds ++ x ∷ []) n a)
                   (sym (ap (λ (y : ClientRequest). y.number) now.is ∙ open_number number now.old now.open_still))

@@ -136,7 +136,10 @@ module _ (decl : Declaration) where
       → (done_turn ds t v).write ≡ Some (records.Done tx clock) → IsBroughtBy tx clock (messages.Decision t v)
   outcome_brings ds t tx clock (outcomes.Committed stamp) is = by (is_promised ds t) is
     where
-      by : (b : Bool) → (cond b (record { write = Some (records.Done t stamp.clock); sends = []; failed_sends = [] }) quiet_turn).write ≡ Some (records.Done tx clock) → IsBroughtBy tx clock (messages.Decision t (outcomes.Committed stamp))
+      by : (b : Bool)
+          → (cond b (record { write = Some (records.Done t stamp.clock); sends = []; failed_sends = [] })
+          quiet_turn).write ≡ Some (records.Done tx clock)
+          → IsBroughtBy tx clock (messages.Decision t (outcomes.Committed stamp))
       by true same =
           let name : tx ≡ t = cc in
           let time : clock ≡ stamp.clock = cc in

@@ -27,7 +27,7 @@ use Rattle.laws_due.proofs.Courses.{turns_tell_their_rows}
 use Rattle.laws_guarantees.specs.Vocabulary.{DoOf, DoSucceeds, DosSucceed, EachReply, IsDone, IsOpenElsewhere, IsStill}
 use Rattle.laws_guarantees.specs.Vocabulary.{IsUndisturbed, OfRunning, begun_by, name_of}
 use Rattle.laws_guarantees.proofs.Asking.{IsBusy, is_busy}
-use Rattle.laws_guarantees.proofs.Clear.{IsElsewhere}
+use Rattle.laws_guarantees.proofs.OpenElsewhere.{IsElsewhere}
 use Rattle.laws_guarantees.proofs.Each.{run_each, untold}
 use Rattle.laws_guarantees.proofs.Names.{Stays, untold_stays}
 use Rattle.laws_guarantees.proofs.OwnWords.{client_is}

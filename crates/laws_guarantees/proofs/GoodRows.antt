@@ -32,7 +32,7 @@ use Rattle.qc_promise.specs.Vocabulary.{asked_by, do_row, is_append, is_read, re
 use Rattle.qc_promise.specs.Vocabulary.{standing_of, weights_of}
 use Rattle.laws_due.proofs.Courses.{deeds_of_clients_are_by_rows}
 use Rattle.laws_guarantees.specs.Vocabulary.{IsUndisturbed}
-use Rattle.laws_guarantees.proofs.Clear.{IsElsewhere}
+use Rattle.laws_guarantees.proofs.OpenElsewhere.{IsElsewhere}
 use Rattle.laws_guarantees.proofs.UndisturbedCounted.{GoodHold, GoodTaken, taken_good}
 use Rattle.laws_guarantees.proofs.Verdicts.{AreGood, GoodStanding, GoodVerdict, append_light, good_verdict}
 use Rattle.laws_guarantees.proofs.Verdicts.{granted_sites, order_heavy, read_light}

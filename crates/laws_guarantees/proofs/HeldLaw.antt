@@ -59,11 +59,14 @@ module _ (decl : Declaration) (script : Script) (accepted : IsAccepted decl) (so
       let here : In e (stood decl script accepted sound h open_inputs run).net.mail =
       subst (λ (ms : List Envelope). In e ms) (sym (stood decl script accepted sound h open_inputs run).mail_is)
       sent in
-      let b : Backed decl (state (mirror decl script accepted sound h open_inputs run).acts) (stood decl script accepted sound h open_inputs run).net.mail e.from e.to (messages.Request tx epoch life (Append object view own)) =
+      let b : Backed decl (state (mirror decl script accepted sound h open_inputs run).acts)
+      (stood decl script accepted sound h open_inputs run).net.mail e.from e.to
+      (messages.Request tx epoch life (Append object view own)) =
       subst (λ (m : Message). Backed decl (state (mirror decl script accepted sound h open_inputs run).acts)
       (stood decl script accepted sound h open_inputs run).net.mail e.from e.to m) is
       ((mirror decl script accepted sound h open_inputs run).agrees.mail e here) in
-      let c : IsOwnClosedAt decl (state (mirror decl script accepted sound h open_inputs run).acts).executed (state (mirror decl script accepted sound h open_inputs run).acts).chosen tx view (own_items own) o =
+      let c : IsOwnClosedAt decl (state (mirror decl script accepted sound h open_inputs run).acts).executed
+      (state (mirror decl script accepted sound h open_inputs run).acts).chosen tx view (own_items own) o =
       (laws_now.appends (record { tx = tx; items = own_items own; view = view }) b.3.0).own_closed o
       (in_map own_item o own among) in
       (c.operation, c.known, c.is)
@@ -81,13 +84,21 @@ module _ (decl : Declaration) (script : Script) (accepted : IsAccepted decl) (so
       past : (c d : Executed) → In c ((state (mirror decl script accepted sound h open_inputs run).acts).executed tx)
           → d.number ≡ suc (length ((state (mirror decl script accepted sound h open_inputs run).acts).executed tx))
           → c.number ≡ d.number → ⊥
-      past c d x n same = let low : c.number ≤ 0 + length ((state (mirror decl script accepted sound h open_inputs run).acts).executed tx) = numbered_within ((state (mirror decl script accepted sound h open_inputs run).acts).executed tx) [] c (laws_now.order tx) x in omega arith
+      past c d x n same =
+          let low : c.number
+          ≤ 0 + length ((state (mirror decl script accepted sound h open_inputs run).acts).executed tx) =
+          numbered_within ((state (mirror decl script accepted sound h open_inputs run).acts).executed tx) [] c
+          (laws_now.order tx) x in omega arith
   one_operation tx c d (inr x) (inl y) same = absurd (past c d y (laws_now.next tx c x).0.numbered same)
     where
       past : (c d : Executed) → In d ((state (mirror decl script accepted sound h open_inputs run).acts).executed tx)
           → c.number ≡ suc (length ((state (mirror decl script accepted sound h open_inputs run).acts).executed tx))
           → c.number ≡ d.number → ⊥
-      past c d y n same = let low : d.number ≤ 0 + length ((state (mirror decl script accepted sound h open_inputs run).acts).executed tx) = numbered_within ((state (mirror decl script accepted sound h open_inputs run).acts).executed tx) [] d (laws_now.order tx) y in omega arith
+      past c d y n same =
+          let low : d.number
+          ≤ 0 + length ((state (mirror decl script accepted sound h open_inputs run).acts).executed tx) =
+          numbered_within ((state (mirror decl script accepted sound h open_inputs run).acts).executed tx) [] d
+          (laws_now.order tx) y in omega arith
   one_operation tx c d (inr x) (inr y) same = let both_are : Some c ≡ Some d = sym x ∙ y in cc
 
   module _ (c : CommitRecord) (committed : In c (written h)) (site : ℕ) (want : Want)
@@ -107,7 +118,8 @@ module _ (decl : Declaration) (script : Script) (accepted : IsAccepted decl) (so
     never_ended e outcomes.Active taken is final = let never : ⊥ = cc in never
 
     it_stands : In asked (standing (deeds site [] h))
-    it_stands = subst (λ (ds : List Deed). In asked (standing ds)) (sym g.stands) (standing_more g.before (Takes (inputs.Got g.request) ∷ g.since) asked
+    it_stands = subst (λ (ds : List Deed). In asked (standing ds)) (sym g.stands)
+        (standing_more g.before (Takes (inputs.Got g.request) ∷ g.since) asked
         (In-first asked (standing_by g.since g.request) (standing g.since)
         (subst (λ (m : Message). In asked (option_map_or (standing_as g.request.number g.since) (request_in m) []))
         (sym g.content)

@@ -1,6 +1,7 @@
--- The ordering lemma of every run. If the writer's record was there at the moment, the reader was live in the machine of that moment
--- and the writer had committed: so the line was in the view. It wasn't written between the moment and the reader's record: both would
--- have been live. If it was written later, its client's clock had passed the reader's stamp.
+-- The ordering lemma of every run. If the writer's record was there at the moment, the reader was live in the machine
+-- of that moment and the writer had committed: so the line was in the view. It wasn't written between the moment and
+-- the reader's record: both would have been live. If it was written later, its client's clock had passed the reader's
+-- stamp.
 use Rattle.std.proofs.Common.{[], ◌≡◌, ◌≢◌, ◌≤◌, ◌+◌, ◌-◌, Bool, true, List, ◌∷◌, ◌++◌, inl, inr, Some, slice_get, refl}
 use Rattle.std.proofs.Common.{sym, ap, ◌∙◌, subst, arith, append_assoc}
 use Rattle.std.specs.Prelude.{fold}
@@ -94,8 +95,11 @@ module _ (decl : Declaration) (script : Script) (accepted : IsAccepted decl) (so
         due_back decl (deeds k.actor [] k.early) (deeds k.actor (mail k.early) k.middle)
         (new_account (k.actor - decl.sites))
         (subst (AreByRows decl (new_account (k.actor - decl.sites))) whole at.due) in
-        let rest : (account decl k.actor k.early).clock ≤ (fold (account_at decl) (account decl k.actor k.early) (deeds k.actor (mail k.early) k.middle)).clock = clock_rises decl (deeds k.actor (mail k.early) k.middle) (account decl k.actor k.early) due in
-        let same : (account decl k.actor before).clock ≡ (fold (account_at decl) (account decl k.actor k.early) (deeds k.actor (mail k.early) k.middle)).clock =
+        let rest : (account decl k.actor k.early).clock
+        ≤ (fold (account_at decl) (account decl k.actor k.early) (deeds k.actor (mail k.early) k.middle)).clock =
+        clock_rises decl (deeds k.actor (mail k.early) k.middle) (account decl k.actor k.early) due in
+        let same : (account decl k.actor before).clock
+        ≡ (fold (account_at decl) (account decl k.actor k.early) (deeds k.actor (mail k.early) k.middle)).clock =
         ap (λ (a : Account). a.clock)
         (ap (fold (account_at decl) (new_account (k.actor - decl.sites))) whole
         ∙ fold-append (account_at decl) (new_account (k.actor - decl.sites)) (deeds k.actor [] k.early)
@@ -141,7 +145,9 @@ module _ (decl : Declaration) (script : Script) (accepted : IsAccepted decl) (so
       still : (s : Current) × ((account decl k.actor between).current ≡ Some s) × (s.tx ≡ t.tx) × In op s.ops
       still =
           let whole = grows w.before (wrote w.actor d.logged.commit ∷ w.after) w.stands in
-          let p = persists decl (k.actor - decl.sites) (deeds k.actor [] k.early) (deeds k.actor (mail k.early) w.before) (deeds k.actor (mail k.early ++ mail w.before) (wrote w.actor d.logged.commit ∷ w.after)) t at.t op
+          let p = persists decl (k.actor - decl.sites) (deeds k.actor [] k.early)
+          (deeds k.actor (mail k.early) w.before)
+          (deeds k.actor (mail k.early ++ mail w.before) (wrote w.actor d.logged.commit ∷ w.after)) t at.t op
           (subst (AreByRows decl (new_account (k.actor - decl.sites))) whole at.due) k.begun k.told
           (subst (λ (ds : List Deed). (fold (account_at decl) (new_account (k.actor - decl.sites)) ds).current
           ≡ Some at.t) whole at.begun) (sym at.tx ∙ sym k.its) in (

@@ -64,6 +64,8 @@ pub mod Fitting
 pub mod AnswersLater
 pub mod AnswerRuns
 pub mod Asking
+pub mod OpenElsewhere
+pub mod ClearPosts
 pub mod Clear
 pub mod NoLosses
 pub mod UndisturbedCounted
@@ -77,6 +79,10 @@ pub mod Commits
 pub mod WrongOnes
 pub mod Calming
 pub mod Settled
+pub mod SharedSite
+pub mod Paired
+pub mod OneEpoch
+pub mod EpochsApart
 pub mod Machine
 pub mod FirstGrants
 pub mod Begun

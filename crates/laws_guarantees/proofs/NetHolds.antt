@@ -1,5 +1,5 @@
--- Of every net in which nobody falls: what a site granted it holds until a Decision ends its transaction, each lock was asked for, and all
--- that a site has is sorted.
+-- Of every net in which nobody falls: what a site granted it holds until a Decision ends its transaction, each lock was
+-- asked for, and all that a site has is sorted.
 use Rattle.std.proofs.Common.{◌≡◌, ◌⊎◌, ℕ, true, List, ◌++◌, inl, inr, length, refl, sym, ◌∙◌, subst}
 use Rattle.qc_stamp.specs.declared.stamp.TxId.{TxId}
 use Rattle.qc_list.specs.Vocabulary.{In}
@@ -52,7 +52,8 @@ module _ (decl : Declaration) (accepted : IsAccepted decl) where
               | inr ended ↦ inr
                   (ended_more before.mail (envelopes a (length before.mail) ps) tx ended)
             ]
-        | inr new ↦ (let p : Place a ps (before.mail ++ envelopes a (length before.mail) ps) k.answer = placed before.mail a (length before.mail) ps k.answer refl new in
+        | inr new ↦ (let p : Place a ps (before.mail ++ envelopes a (length before.mail) ps) k.answer =
+            placed before.mail a (length before.mail) ps k.answer refl new in
             absurd (both decl site is (subst (λ (n : ℕ). is_client decl n ≡ true) (sym (sym k.from ∙ p.from)) client)))
       ]
 
@@ -104,8 +105,11 @@ module _ (decl : Declaration) (accepted : IsAccepted decl) where
   locks_asked net (calm.serves a input before r served came same) site tx lock among =
       asked_more before.mail (envelopes a (length before.mail) (site_takes decl (before.sites a) input).turn.sends) tx
       lock
-      (by (put_one (λ (n : ℕ) (s : SiteState). In lock (held_of s.held tx).locks → In lock (held_of (before.sites n).held tx).locks ⊎ WasAsked before.mail tx lock) before.sites a (site_takes decl (before.sites a) input).site site
-      (asked_step before a (before.sites a) input tx lock came same) (λ other there. inl there) among) (locks_asked before r site tx lock))
+      (by (put_one (λ (n : ℕ) (s : SiteState). In lock (held_of s.held tx).locks
+      → In lock (held_of (before.sites n).held tx).locks ⊎ WasAsked before.mail tx lock) before.sites a
+      (site_takes decl (before.sites a) input).site site
+      (asked_step before a (before.sites a) input tx lock came same) (λ other there. inl there) among)
+      (locks_asked before r site tx lock))
     where
       by : In lock (held_of (before.sites site).held tx).locks ⊎ WasAsked before.mail tx lock
           → (In lock (held_of (before.sites site).held tx).locks → WasAsked before.mail tx lock)

@@ -129,8 +129,14 @@ module _ (decl : Declaration) (script : Script) (calm : IsLossless script) where
           → Every IsNoLoss (deeds a [] (older ++ marked b (step_of g) ∷ []))
       at true same old =
           subst (λ (k : ℕ). Every IsNoLoss (deeds k [] (older ++ marked b (step_of g) ∷ []))) (eqb-true b a same)
-          (subst (Every IsNoLoss) (sym (deeds-taken b older g (what_is_ready_was_sent (IsLawful decl) decl script older before run b g rdy)))
-          (every-append IsNoLoss (deeds b [] older) (Takes g ∷ []) (subst (λ (k : ℕ). Every IsNoLoss (deeds k [] older)) (sym (eqb-true b a same)) old) (given_it g refl, tt)))
+          (subst (Every IsNoLoss)
+          (sym (deeds-taken b older g
+          (what_is_ready_was_sent (IsLawful decl) decl script older before run b g rdy)))
+          (every-append IsNoLoss (deeds b [] older) (Takes g ∷ [])
+          (subst (λ (k : ℕ). Every IsNoLoss (deeds k [] older)) (sym (eqb-true b a same)) old) (
+            given_it g refl,
+            tt,
+          )))
       at false other old = subst (Every IsNoLoss) (sym (deeds-other b a [] older (step_of g ∷ []) other)) old
   run_no_loss h open_inputs (posts b turn before older run is_opened lawful) a =
       at (b == a) refl (run_no_loss older before run a)

@@ -239,7 +239,8 @@ module _ (decl : Declaration) (script : Script) (accepted : IsAccepted decl) (as
           subst (IsProperFrom decl e.from e.to) is proper in
           let named : is_client decl e.from ≡ true = sender_is e among p.0 in
           let its : tx ≡ x = tx_apart tx x same in
-          born_own e.from named x (request_born x Unborn (deeds e.from [] h) e.number e.to epoch life want (transactions_move_on decl script h open_inputs accepted run e.from named x)
+          born_own e.from named x (request_born x Unborn (deeds e.from [] h) e.number e.to epoch life want
+          (transactions_move_on decl script h open_inputs accepted run e.from named x)
           (subst (λ (t : TxId). In (Sends e.number e.to (messages.Request t epoch life want)) (deeds e.from [] h)) its
           (sent (messages.Request tx epoch life want) is)))
       by (messages.Answer to answer) is never = absurd never
@@ -247,7 +248,9 @@ module _ (decl : Declaration) (script : Script) (accepted : IsAccepted decl) (as
           let w : IsMail decl h e = every-In (IsMail decl h) e (mail h) good.mail_is among in
           let named : is_client decl e.from ≡ true = subst (IsFromClient decl e.from) is w.from in
           let its : tx ≡ x = tx_apart tx x same in
-          born_own e.from named x (ended_born x verdict (status (deeds e.from [] h) x) (verdict_came x Unborn (deeds e.from [] h) e.number e.to verdict (transactions_move_on decl script h open_inputs accepted run e.from named x)
+          born_own e.from named x (ended_born x verdict (status (deeds e.from [] h) x)
+          (verdict_came x Unborn (deeds e.from [] h) e.number e.to verdict
+          (transactions_move_on decl script h open_inputs accepted run e.from named x)
           (subst (λ (t : TxId). In (Sends e.number e.to (messages.Decision t verdict)) (deeds e.from [] h)) its
           (sent (messages.Decision tx verdict) is))))
       by (messages.Inquiry tx) is never = absurd never

@@ -64,7 +64,9 @@ module _ (decl : Declaration) (script : Script) (accepted : IsAccepted decl) (so
       → h ≡ before ++ wrote a c ∷ after
       → is_client decl a ≡ true → IsDueThere before a c
   due_there before a c after is client =
-      let due : AreByRows decl (new_account (a - decl.sites)) (deeds a [] before ++ Writes (records.Commit c) ∷ deeds a (mail before ++ option_to_list (envelope_of (wrote a c))) after) =
+      let due : AreByRows decl (new_account (a - decl.sites))
+      (deeds a [] before ++ Writes (records.Commit c)
+      ∷ deeds a (mail before ++ option_to_list (envelope_of (wrote a c))) after) =
       subst (AreByRows decl (new_account (a - decl.sites))) parts (deeds_due a client) in
       let it : IsByRow decl (account decl a before) (Writes (records.Commit c)) =
       due_at decl (deeds a [] before) (Writes (records.Commit c))

@@ -189,8 +189,13 @@ module _ (decl : Declaration) (script : Script) (accepted : IsAccepted decl) (so
               old a site
               (subst (λ (v : List Deed). In (Tells (replies.Aborted (causes.Forgot site))) v)
               (deeds-other b a [] older (step_of g ∷ []) other) among)
-          at true same = elim (In-more (Tells (replies.Aborted (causes.Forgot site))) (Takes g) (deeds a [] older) (subst (λ (v : List Deed). In (Tells (replies.Aborted (causes.Forgot site))) v)
-              (subst (λ (k : ℕ). deeds k [] (older ++ marked b (step_of g) ∷ []) ≡ deeds k [] older ++ Takes g ∷ []) (eqb-true b a same) (deeds-taken b older g (what_is_ready_was_sent (IsLawful decl) decl script older before run b g rdy))) among)) [
+          at true same =
+              elim (In-more (Tells (replies.Aborted (causes.Forgot site))) (Takes g) (deeds a [] older)
+              (subst (λ (v : List Deed). In (Tells (replies.Aborted (causes.Forgot site))) v)
+              (subst (λ (k : ℕ). deeds k [] (older ++ marked b (step_of g) ∷ []) ≡ deeds k [] older ++ Takes g ∷ [])
+              (eqb-true b a same)
+              (deeds-taken b older g (what_is_ready_was_sent (IsLawful decl) decl script older before run b g rdy)))
+              among)) [
                 | inl there ↦ old a site there
                 | inr never ↦ (let none : ⊥ = cc in none)
               ]
@@ -208,8 +213,14 @@ module _ (decl : Declaration) (script : Script) (accepted : IsAccepted decl) (so
               old a site
               (subst (λ (v : List Deed). In (Tells (replies.Aborted (causes.Forgot site))) v)
               (deeds-other b a [] older (posted (length (mail older)) turn) other) among)
-          at true same = elim (in_split (Tells (replies.Aborted (causes.Forgot site))) (deeds b [] older) (turn_deeds (length (mail older)) turn) (subst (λ (v : List Deed). In (Tells (replies.Aborted (causes.Forgot site))) v)
-              (deeds-posted b (length (mail older)) older turn) (subst (λ (k : ℕ). In (Tells (replies.Aborted (causes.Forgot site))) (deeds k [] (older ++ by_actor b (posted (length (mail older)) turn)))) (sym (eqb-true b a same)) among))) [
+          at true same =
+              elim (in_split (Tells (replies.Aborted (causes.Forgot site))) (deeds b [] older)
+              (turn_deeds (length (mail older)) turn)
+              (subst (λ (v : List Deed). In (Tells (replies.Aborted (causes.Forgot site))) v)
+              (deeds-posted b (length (mail older)) older turn)
+              (subst (λ (k : ℕ). In (Tells (replies.Aborted (causes.Forgot site)))
+              (deeds k [] (older ++ by_actor b (posted (length (mail older)) turn)))) (sym (eqb-true b a same))
+              among))) [
                 | inl there ↦ old b site there
                 | inr now ↦ posted_tells older before run less b turn taken law site now
               ]
@@ -217,7 +228,9 @@ module _ (decl : Declaration) (script : Script) (accepted : IsAccepted decl) (so
       λ a site among. never_told older before run
       (few_before decl script accepted sound older
       (marked (controller decl) (steps.Phase (phase_of older + 1)) ∷ []) few) a site
-      (subst (λ (v : List Deed). In (Tells (replies.Aborted (causes.Forgot site))) v) (deeds-silent a (controller decl) older (steps.Phase (phase_of older + 1)) (phase_silent (phase_of older + 1))) among)
+      (subst (λ (v : List Deed). In (Tells (replies.Aborted (causes.Forgot site))) v)
+      (deeds-silent a (controller decl) older (steps.Phase (phase_of older + 1))
+      (phase_silent (phase_of older + 1))) among)
   never_told h open_inputs (control line lines step before older run left is) few =
       λ a site among. never_told older before run
       (few_before decl script accepted sound older (marked (controller decl) step ∷ []) few) a site

@@ -171,7 +171,8 @@ module _ (decl : Declaration) where
   told_grounds ds d reply k = record {
     sent = λ q never. absurd never;
     taken = λ q answer never is. absurd never;
-    granted = λ t site is has. (let o : (old : Current) × (d.current ≡ Some old) × (t.tx ≡ old.tx) × (has_granted old.lives site ≡ true) = (told_kept d reply).lives t site is has in
+    granted = λ t site is has. (let o : (old : Current) × (d.current ≡ Some old) × (t.tx ≡ old.tx)
+        × (has_granted old.lives site ≡ true) = (told_kept d reply).lives t site is has in
         subst (λ (y : TxId). WasGranted (ds ++ Tells reply ∷ []) y site) (sym o.2)
         (granted_more ds (Tells reply) o.0.tx site (k.granted o.0 site o.1 o.3)));
     called = λ c is. absurd (let never : ⊥ = cc in never);

@@ -173,8 +173,15 @@ module _ (decl : Declaration) (script : Script) (h : List Entry) (open_inputs : 
   lines_passed accepted sound l among =
       let s : IsShown (deeds site [] h) (site_after decl site (deeds site [] h)).site =
       sites_are_what_their_steps_show decl script h open_inputs run site (ltb-true site decl.sites is) free in
-      let here : (stood decl script accepted sound h open_inputs run).net.sites site ≡ (site_after decl site (deeds site [] h)).site = ((stood decl script accepted sound h open_inputs run).sites_are site is).closed free in
-      let m : SiteMirrors decl ((stood decl script accepted sound h open_inputs run).net.sites site) ((state (mirror decl script accepted sound h open_inputs run).acts).deeds site) ((state (mirror decl script accepted sound h open_inputs run).acts).life site) = (mirror decl script accepted sound h open_inputs run).agrees.sites site is (all_up decl (stood decl script accepted sound h open_inputs run).net (stood decl script accepted sound h open_inputs run).calm site) in
+      let here : (stood decl script accepted sound h open_inputs run).net.sites site
+      ≡ (site_after decl site (deeds site [] h)).site =
+      ((stood decl script accepted sound h open_inputs run).sites_are site is).closed free in
+      let m : SiteMirrors decl ((stood decl script accepted sound h open_inputs run).net.sites site)
+      ((state (mirror decl script accepted sound h open_inputs run).acts).deeds site)
+      ((state (mirror decl script accepted sound h open_inputs run).acts).life site) =
+      (mirror decl script accepted sound h open_inputs run).agrees.sites site is
+      (all_up decl (stood decl script accepted sound h open_inputs run).net
+      (stood decl script accepted sound h open_inputs run).calm site) in
       let there : In l (known ((stood decl script accepted sound h open_inputs run).net.sites site)) =
       subst (λ (x : SiteState). In l (known x)) (sym here)
       (subst (λ (ls : List Line). In l ls)

@@ -178,7 +178,9 @@ module _ (decl : Declaration) (accepted : IsAccepted decl) where
         let p : Place a step.turn.sends (before.mail ++ posted) k.answer =
         placed before.mail a (length before.mail) step.turn.sends k.answer refl among in
         let here : site ≡ a = sym k.from ∙ p.from in
-        let now : is_held step.site.held tx ≡ true = granted_now before a g p.posting k.number k.life k.clock k.log tx k.want full (numbered_in before r) came p.among (sym p.message ∙ k.grants) posted
+        let now : is_held step.site.held tx ≡ true =
+        granted_now before a g p.posting k.number k.life k.clock k.log tx k.want full (numbered_in before r) came
+        p.among (sym p.message ∙ k.grants) posted
         (subst (λ (n : ℕ). IsRequest (before.mail ++ posted) k.number n tx k.want) here k.asked)
         (λ n e is. slice_get-append before.mail posted n e is) in
         inl (put_one (λ (n : ℕ) (s : SiteState). n ≡ a → is_held s.held tx ≡ true) before.sites a step.site site

@@ -82,7 +82,8 @@ pub locks_were_asked : (decl : Declaration) (s : SiteState) (from number : ℕ) 
 locks_were_asked decl s from number m tx x calm =
     state_cases (λ (y : SiteState). In x (held_of y.held tx).locks → In x (held_of s.held tx).locks ⊎ Asks m tx x) decl
     s from number m (λ h. inl h)
-    (λ t epoch life object inv same h. elim (given_back s.held t tx (record { object = object; inv = inv } ∷ []) [] x h) [
+    (λ t epoch life object inv same h. elim
+    (given_back s.held t tx (record { object = object; inv = inv } ∷ []) [] x h) [
       | inl old ↦ inl old
       | inr new ↦ inr (
         epoch,

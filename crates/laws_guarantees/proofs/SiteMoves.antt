@@ -183,7 +183,8 @@ is_not_behind s epoch life fault same =
         (λ none is. absurd (let never : ⊥ = cc in never))
         (λ some. choose (λ (o : Option Answer). o ≡ Some fault → Forgets fault → ⊥) (life == s.life) _ _
         (λ own is. absurd (let never : ⊥ = cc in never))
-        (λ other is forgets. subst Forgets (sym (let e : answers.Restarted s.life ≡ fault = cc in e)) forgets)) is forgets
+        (λ other is forgets. subst Forgets (sym (let e : answers.Restarted s.life ≡ fault = cc in e)) forgets)) is
+        forgets
 
 abbrev Remembers : Answer → Type 0
 Remembers x = Forgets x → ⊥

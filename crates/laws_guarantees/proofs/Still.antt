@@ -1,5 +1,5 @@
--- At most one client acts at a time: of two clients, one has called all that the phases so far ask it, runs nothing, and
--- has the transaction begun that it had before this phase.
+-- At most one client acts at a time: of two clients, one has called all that the phases so far ask it, runs nothing,
+-- and has the transaction begun that it had before this phase.
 use Rattle.std.proofs.Common.{[], ◌≡◌, ℕ, suc, ◌+◌, ◌-◌, ◌<◌, ◌==◌, ◌&&◌, ◌||◌, ◌⊎◌, inl, inr, not, Bool, true, false}
 use Rattle.std.proofs.Common.{List, ◌∷◌, ◌++◌, length, fold, Option, Some, None, slice_get, refl, sym, ap, ◌∙◌, subst}
 use Rattle.std.proofs.Common.{arith, eq-eqb, eqb-true}
@@ -138,7 +138,9 @@ module _ (decl : Declaration) (script : Script) (accepted : IsAccepted decl) (as
     all_called c named =
         let low : c < actors decl = client_within decl c named in
         let idle : command_in decl c (inbox script c h) ≡ None =
-        sym (ap (λ (es : List Envelope). first_copy es (first_lost (inbox script c h).lost (command_in decl c (inbox script c h)))) (copies_none decl script accepted asks h closed rests done c low)
+        sym (ap (λ (es : List Envelope). first_copy es
+        (first_lost (inbox script c h).lost (command_in decl c (inbox script c h))))
+        (copies_none decl script accepted asks h closed rests done c low)
         ∙ ap (λ (ns : List ℕ). first_lost ns (command_in decl c (inbox script c h)))
         (losts_none decl script accepted asks h closed rests done c low))
         ∙ nothing_ready decl script accepted asks h closed rests done c low in

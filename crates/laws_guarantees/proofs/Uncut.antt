@@ -190,14 +190,16 @@ module _ (decl : Declaration) (script : Script) (accepted : IsAccepted decl) (so
           let acts : ActsIn decl a h place.0 =
           actors_take_and_post_by_turns decl script h open_inputs run a place.0 place.1 in
           acts_uncut decl a site (deeds a [] h) place.0 acts.above acts.acts
-          (calm_deeds decl script accepted (scripts_ask_what_is_declared decl script accepted sound) h open_inputs run a)
+          (calm_deeds decl script accepted (scripts_ask_what_is_declared decl script accepted sound) h open_inputs run
+          a)
 
   client_uncut : (a : ℕ) → decl.sites ≤ a → a < administrator decl → AreNoCuts (deeds a [] h)
   client_uncut a high low =
       let place : client_actor decl (a - decl.sites) ≡ a = omega arith in
       let within : a - decl.sites < decl.clients = omega arith in
       let due : AreRepliesDue decl (a - decl.sites) (deeds (client_actor decl (a - decl.sites)) [] h) =
-      (runs_are_due decl script h open_inputs run accepted (scripts_ask_what_is_declared decl script accepted sound)).replies
+      (runs_are_due decl script h open_inputs run accepted
+      (scripts_ask_what_is_declared decl script accepted sound)).replies
       (a - decl.sites) within in
       due_uncut decl (new_account (a - decl.sites)) (deeds a [] h)
       (run_up (IsLawful decl) decl script h open_inputs run a)

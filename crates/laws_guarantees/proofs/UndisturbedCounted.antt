@@ -1,5 +1,5 @@
--- In each undisturbed run what counts for a request is an answer that fits it; and a Clash names a transaction that is open
--- elsewhere.
+-- In each undisturbed run what counts for a request is an answer that fits it; and a Clash names a transaction that is
+-- open elsewhere.
 use Rattle.std.proofs.Common.{[], ◌≡◌, ℕ, ◌+◌, ◌-◌, ◌≤◌, inl, inr, Bool, true, false, List, ◌∷◌, Option, Some, None}
 use Rattle.std.proofs.Common.{option_map, refl, sym, ap, ◌∙◌, subst, arith}
 use Rattle.qc_list.specs.Vocabulary.{In}
@@ -28,7 +28,8 @@ use Rattle.laws_guarantees.specs.Vocabulary.{begun_by, sent_before}
 use Rattle.laws_guarantees.proofs.Accounts.{HasGrounds, WasSent, WasTaken}
 use Rattle.laws_guarantees.proofs.AnswersLater.{number_from}
 use Rattle.laws_guarantees.proofs.AnswerRuns.{run_answered}
-use Rattle.laws_guarantees.proofs.Clear.{IsElsewhere, run_clear}
+use Rattle.laws_guarantees.proofs.Clear.{run_clear}
+use Rattle.laws_guarantees.proofs.OpenElsewhere.{IsElsewhere}
 use Rattle.laws_guarantees.proofs.RequestGrounds.{has_grounds}
 use Rattle.laws_guarantees.proofs.Mailed.{sent_as, sent_mail, taken_mail}
 use Rattle.laws_guarantees.proofs.NoLosses.{lost_from, run_no_loss}

@@ -129,7 +129,8 @@ module _ (decl : Declaration) (script : Script) (accepted : IsAccepted decl) (so
     old_or_posted n x k =
         elim (in_split k.envelope (mail h) more (subst (λ (ms : List Envelope). In k.envelope ms) mail_is k.sent)) [
           | inl old ↦ inl (record { envelope = k.envelope; sent = old; is = k.is })
-          | inr new ↦ (let p : Place b turn.sends (mail h ++ more) k.envelope = placed (mail h) b (length (mail h)) turn.sends k.envelope refl new in
+          | inr new ↦ (let p : Place b turn.sends (mail h ++ more) k.envelope =
+              placed (mail h) b (length (mail h)) turn.sends k.envelope refl new in
               inr (record { posting = p.posting; among = p.among; is = sym p.message ∙ k.is }))
         ]
 
@@ -148,7 +149,8 @@ module _ (decl : Declaration) (script : Script) (accepted : IsAccepted decl) (so
             (In-last (Takes (inputs.Got r.0)) before)) in
             let proper : IsProperFrom decl r.0.from r.0.to r.0.message =
             every-In (λ (y : Envelope). IsProperFrom decl y.from y.to y.message) r.0 (mail h)
-            (run_proper decl script accepted (scripts_ask_what_is_declared decl script accepted sound) h open_inputs run)
+            (run_proper decl script accepted (scripts_ask_what_is_declared decl script accepted sound) h open_inputs
+            run)
             (taken_mail b [] h r.0 takes_it) in
             subst (IsProperFrom decl r.0.from r.0.to) r.2.1 proper
 
@@ -172,7 +174,9 @@ module _ (decl : Declaration) (script : Script) (accepted : IsAccepted decl) (so
       where
         by : OpenSite decl ((stood decl script accepted sound h open_inputs run).net.sites b) b h → n < length (mail h)
         by o =
-            let r : IsAnswering o.given n = answers_inputs decl ((stood decl script accepted sound h open_inputs run).net.sites b) o.given k.posting n x
+            let r : IsAnswering o.given n =
+            answers_inputs decl ((stood decl script accepted sound h open_inputs run).net.sites b) o.given k.posting
+            n x
             (subst (λ (m : SiteMove). In k.posting m.turn.sends) o.is
             (subst (λ (t : Turn). In k.posting t.sends) (site_turn site) k.among)) k.is in
             let sent : (slice_get (mail h) r.envelope.number ≡ Some r.envelope) × (r.envelope.to ≡ b) =

@@ -99,7 +99,10 @@ module _ (decl : Declaration) where
 
       next : half want ≡ true → (t : Current) → d.current ≡ Some t → is_left_first decl d t half to ≡ true
       next its t current =
-          let now : option_map_or (λ (t : Current). is_of t to tx epoch life && command_asks decl d t to want d.command) (Some t) false ≡ true = ap (λ (o : Option Current). option_map_or (λ (t : Current). is_of t to tx epoch life && command_asks decl d t to want d.command) o false) (sym current) ∙ due in
+          let now : option_map_or (λ (t : Current). is_of t to tx epoch life && command_asks decl d t to want d.command)
+          (Some t) false ≡ true =
+          ap (λ (o : Option Current). option_map_or (λ (t : Current). is_of t to tx epoch life
+          && command_asks decl d t to want d.command) o false) (sym current) ∙ due in
           command_next half is_half d t to want d.command its
           (second_of_two (is_of t to tx epoch life) (command_asks decl d t to want d.command) now)
 
@@ -122,7 +125,9 @@ module _ (decl : Declaration) where
           (d.requests ++ record { number = n; site = to; life = life; want = want; taken = None } ∷ []))
           (order decl d.client e)
       by false other =
-          let same : filter (λ (q : ClientRequest). half q.want) (d.requests ++ record { number = n; site = to; life = life; want = want; taken = None } ∷ []) ≡ filter (λ (q : ClientRequest). half q.want) d.requests =
+          let same : filter (λ (q : ClientRequest). half q.want) (d.requests
+          ++ record { number = n; site = to; life = life; want = want; taken = None } ∷ [])
+          ≡ filter (λ (q : ClientRequest). half q.want) d.requests =
           split
           ∙ ap
           (λ (v : Bool). filter (λ (q : ClientRequest). half q.want) d.requests
@@ -131,14 +136,22 @@ module _ (decl : Declaration) where
           ap (map (λ (q : ClientRequest). q.site)) same ∙ old e is
           ∙ ap (λ (v : List ClientRequest). take (length v) (order decl d.client e)) (sym same)
       by true its =
-          let same : filter (λ (q : ClientRequest). half q.want) (d.requests ++ record { number = n; site = to; life = life; want = want; taken = None } ∷ []) ≡ filter (λ (q : ClientRequest). half q.want) d.requests ++ record { number = n; site = to; life = life; want = want; taken = None } ∷ [] =
+          let same : filter (λ (q : ClientRequest). half q.want) (d.requests
+          ++ record { number = n; site = to; life = life; want = want; taken = None } ∷ [])
+          ≡ filter (λ (q : ClientRequest). half q.want) d.requests
+          ++ record { number = n; site = to; life = life; want = want; taken = None } ∷ [] =
           split
           ∙ ap
           (λ (v : Bool). filter (λ (q : ClientRequest). half q.want) d.requests
           ++ cond v (record { number = n; site = to; life = life; want = want; taken = None } ∷ []) []) its in
-          let long : length (filter (λ (q : ClientRequest). half q.want) d.requests ++ record { number = n; site = to; life = life; want = want; taken = None } ∷ []) ≡ suc (count_in half d.requests) =
-          (let l : length (filter (λ (q : ClientRequest). half q.want) d.requests ++ record { number = n; site = to; life = life; want = want; taken = None } ∷ []) ≡ count_in half d.requests + 1 =
-          length-append (filter (λ (q : ClientRequest). half q.want) d.requests) (record { number = n; site = to; life = life; want = want; taken = None } ∷ []) in omega arith) in
+          let long : length (filter (λ (q : ClientRequest). half q.want) d.requests
+          ++ record { number = n; site = to; life = life; want = want; taken = None } ∷ [])
+          ≡ suc (count_in half d.requests) =
+          (let l : length (filter (λ (q : ClientRequest). half q.want) d.requests
+          ++ record { number = n; site = to; life = life; want = want; taken = None } ∷ [])
+          ≡ count_in half d.requests + 1 =
+          length-append (filter (λ (q : ClientRequest). half q.want) d.requests)
+          (record { number = n; site = to; life = life; want = want; taken = None } ∷ []) in omega arith) in
           ap (map (λ (q : ClientRequest). q.site)) same
           ∙ map-append (λ (q : ClientRequest). q.site) (filter (λ (q : ClientRequest). half q.want) d.requests)
           (record { number = n; site = to; life = life; want = want; taken = None } ∷ [])

@@ -43,7 +43,8 @@ pub fn granted_logs_are_closed()
     ensures { (decl : Declaration) (script : Script) (h : List Entry) (open_inputs : List Bool)
         (request answer : Envelope) (tx : TxId) (number epoch named object inv life clock : ℕ) (log : List Line)
         → IsAccepted decl → IsScriptFor decl script → Runs (IsLawful decl) decl script h open_inputs
-        → slice_get (mail h) number ≡ Some request → request.message ≡ Request tx epoch named (Read (read_of object inv))
+        → slice_get (mail h) number ≡ Some request
+        → request.message ≡ Request tx epoch named (Read (read_of object inv))
         → In answer (mail h) → answer.message ≡ Answer number (Granted (grant_with life clock log))
         → IsClosedLog decl (written h) log }
 {}

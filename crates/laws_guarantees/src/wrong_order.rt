@@ -6,7 +6,8 @@ ghost use Rattle.qc_decl.specs.One.{three};
 ghost use Rattle.qc_promise.specs.Account.{view_of};
 ghost use Rattle.qc_promise.specs.Accounting.{account};
 ghost use Rattle.laws_guarantees.specs.Ordered.{DependsOn, IsOrdered};
-ghost use Rattle.laws_guarantees.specs.WrongOrder.{early, informed, line, missed, read, reader, reads, stamp_at, write, writes};
+ghost use Rattle.laws_guarantees.specs.WrongOrder.{early, informed, line, missed, read, reader, reads, stamp_at};
+ghost use Rattle.laws_guarantees.specs.WrongOrder.{write, writes};
 
 /// A reader that was told its operation without the line of a writer with the
 /// smaller stamp is refused. One that had the line is taken, and one that has

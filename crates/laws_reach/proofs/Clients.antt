@@ -10,17 +10,18 @@ use Rattle.qc_decl.specs.Vocabulary.{IsAccepted, actors, administrator, client_a
 use Rattle.qc_decl.proofs.Clients.{client_below, client_past}
 use Rattle.qc_decl.specs.declared.declaration.Declaration.{Declaration}
 use Rattle.laws_due.proofs.Declared.{run_declares}
-use Rattle.laws_due.proofs.KeptPlanned.{kept_due, kept_planned}
+use Rattle.laws_due.proofs.KeptPlanned.{runs_with_falls_are_due_where_records_are_kept}
+use Rattle.laws_due.proofs.KeptPlanned.{what_rises_is_planned_where_records_are_kept}
 use Rattle.laws_turns.specs.Vocabulary.{AsksDeclared, LivesIn}
 use Rattle.laws_turns.proofs.Places.{slice_get-within}
 use Rattle.qc_link.specs.Vocabulary.{most_actors}
-use Rattle.laws_turns.proofs.Lived.{run_lives, run_long}
+use Rattle.laws_turns.proofs.Lived.{actors_live_in_runs_with_falls, run_long}
 use Rattle.qc_msg.specs.declared.record.Record.{Record}
 use Rattle.qc_msg.specs.Vocabulary.{Deed, Entry, deeds}
 use Rattle.qc_promise.specs.Vocabulary.{AreByTurns, AreRepliesDue, Due, Kept, no_journal}
 use Rattle.qc_script.specs.Vocabulary.{IsScriptFor, RunsWithFalls}
 use Rattle.qc_script.specs.declared.script.Script.{Script}
-use Rattle.qc_core.proofs.KeptBack.{kept_given_back}
+use Rattle.qc_core.proofs.KeptBack.{rises_give_back_journals_where_records_are_kept}
 use Rattle.laws_reach.proofs.Posts.{lives_told}
 
 -- the number of a client, and its actor
@@ -59,7 +60,7 @@ module _ (fits : ℕ → List Record → Type 0) (decl : Declaration) (script : 
   asks = scripts_ask_what_is_declared decl script accepted sound
 
   due : Due decl h
-  due = kept_due decl script fits accepted asks few h open_inputs run kept
+  due = runs_with_falls_are_due_where_records_are_kept decl script fits accepted asks few h open_inputs run kept
 
   module _ (n : ℕ) (low : n < decl.clients) where
     abbrev its : List Deed
@@ -74,12 +75,14 @@ module _ (fits : ℕ → List Record → Type 0) (decl : Declaration) (script : 
       where
         declared : Declares decl its
         declared = run_declares decl script fits accepted asks h open_inputs run
-            (kept_planned decl script fits accepted asks h open_inputs run kept) (client_actor decl n)
+            (what_rises_is_planned_where_records_are_kept decl script fits accepted asks h open_inputs run kept)
+            (client_actor decl n)
 
         on : (t : Bool) × (slice_get open_inputs (client_actor decl n) ≡ Some t) → AreCommitsTold its
         on place =
             let lived : LivesIn decl (client_actor decl n) h place.0 =
-            run_lives decl script fits few h open_inputs run (client_actor decl n) place.0 place.1 in
+            actors_live_in_runs_with_falls decl script fits few h open_inputs run (client_actor decl n) place.0 place.1
+            in
             lives_told decl (client_actor decl n) (client_is decl n low) declared.first its place.0 lived.above
             lived.lives declared.deeds
 
@@ -88,6 +91,6 @@ module _ (fits : ℕ → List Record → Type 0) (decl : Declaration) (script : 
       turns = subst (λ (b : Bool). AreByTurns b its) (no_site decl (client_actor decl n) (client_is decl n low))
           (due.turns (client_actor decl n) within);
       replies = due.replies n low;
-      back = kept_given_back h kept (client_actor decl n);
+      back = rises_give_back_journals_where_records_are_kept h kept (client_actor decl n);
       told = commits_told;
     }

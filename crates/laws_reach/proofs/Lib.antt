@@ -21,6 +21,7 @@ pub mod Posting
 pub mod AdminPosting
 pub mod Rising
 pub mod AdminRising
+pub mod StandsFallen
 pub mod RunsStand
 pub mod Reaching
 pub mod Written
@@ -61,6 +62,7 @@ pub mod Questions
 pub mod Sent
 pub mod VerdictPosts
 pub mod VerdictLaw
+pub mod RecordsRise
 pub mod Clocks
 pub mod RisingStamps
 pub mod StampsUp

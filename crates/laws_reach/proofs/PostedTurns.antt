@@ -82,7 +82,8 @@ module _ (decl : Declaration) (h : List Entry) (inputs later : List Bool) (old :
   pub turned : (next : Net) → Shows next → Stood decl k later
   turned next s =
       moves decl h k inputs later old a next (envelopes a (length (mail h)) (sends_as end turn)) s.reached
-      (s.sent ∙ ap (λ (ms : List Envelope). ms ++ envelopes a (length ms) (sends_as end turn)) old.mail_is ∙ sym mail_is) mail_is s.leaves others slots (λ is. here)
+      (s.sent ∙ ap (λ (ms : List Envelope). ms ++ envelopes a (length ms) (sends_as end turn)) old.mail_is
+      ∙ sym mail_is) mail_is s.leaves others slots (λ is. here)
     where
       here : Stands decl next a k (slice_get later a)
       here = record {

@@ -1,5 +1,5 @@
--- A site or a client posts its turn: the net takes and posts in one step, or falls in it. One that is down only who_is_down_only_tells a
--- reply, which is nothing to the net.
+-- A site or a client posts its turn: the net takes and posts in one step, or falls in it. One that is down only
+-- tells a reply, which is nothing to the net.
 use Rattle.std.proofs.Common.{[], ◌≡◌, ℕ, not, Bool, true, false, List, ◌++◌, length, Option, Some, None}
 use Rattle.std.proofs.Common.{option_to_list, slice_get, inl, inr, refl, sym, ap, ◌∙◌, subst}
 use Rattle.std.specs.Prelude.{slice_set}
@@ -114,7 +114,8 @@ module _ (decl : Declaration) (h : List Entry) (inputs : List Bool) (old : Stood
         fails_shows end r s wrote falls journal
         (nets.site_fails a x.given r (sends_as end turn) old.net old.reached site (s.up ∙ up) came
         (ap (λ (t : Turn). t.write) turn_is ∙ wrote)
-        (elim failed [ inl same ↦ inl (same ∙ ap (λ (t : Turn). t.failed_sends) (sym turn_is)) | inr none ↦ inr none ])) up
+        (elim failed [ inl same ↦ inl (same ∙ ap (λ (t : Turn). t.failed_sends) (sym turn_is)) | inr none ↦ inr none ]))
+        up
 
     pub site_posts : (end : Appended) → MayEnd turn.write end → Stood decl (after end) now
     site_posts Done may = to_net Done (after_site old.net a move) (record {
@@ -177,7 +178,10 @@ module _ (decl : Declaration) (h : List Entry) (inputs : List Bool) (old : Stood
         fails_shows end r s wrote falls journal
         (nets.client_fails a y.given r (sends_as end turn) old.net old.reached client (s.up ∙ up) comes (y.may client)
         (ap (λ (t : Turn). t.write) turn_was ∙ wrote)
-        (elim failed [ inl same ↦ inl (same ∙ ap (λ (t : Turn). t.failed_sends) (sym turn_was)) | inr none ↦ inr none ])) up
+        (elim failed [
+          | inl same ↦ inl (same ∙ ap (λ (t : Turn). t.failed_sends) (sym turn_was))
+          | inr none ↦ inr none
+        ])) up
 
     pub client_posts : (end : Appended) → MayEnd turn.write end → Stood decl (after end) now
     client_posts Done may = to_net Done (after_client old.net a step) (record {
@@ -238,7 +242,8 @@ module _ (decl : Declaration) (h : List Entry) (inputs : List Bool) (old : Stood
         s.records
         ∙ sym
         (ap (λ (o : Option Record). (journal_after ds).records ++ option_to_list o)
-        ((who_is_down_only_tells decl).writes_none a ds turn law (fallen down)) ∙ append-nil (journal_after ds).records);
+        ((who_is_down_only_tells decl).writes_none a ds turn law (fallen down))
+        ∙ append-nil (journal_after ds).records);
     pending = s.pending;
     clear = s.clear;
     state = λ is. absurd (never_up (is_up ds) down is);

@@ -1,83 +1,62 @@
 -- Each run with falls whose records are kept is one of the net.
-use Rattle.std.proofs.Common.{◌≡◌, ◌≢◌, ℕ, ◌+◌, ◌<◌, ◌≤◌, Bool, true, false, List, [], ◌∷◌, ◌++◌, length, Option, Some}
-use Rattle.std.proofs.Common.{None, slice_get, inl, inr, refl, sym, ap, ◌∙◌, subst, arith, append_assoc, eq-eqb}
-use Rattle.std.proofs.Common.{eqb-true}
+use Rattle.std.proofs.Common.{◌≡◌, ℕ, ◌+◌, Bool, true, false, List, [], ◌∷◌, ◌++◌, length, Some, slice_get, refl, sym}
+use Rattle.std.proofs.Common.{ap, ◌∙◌, subst, append_assoc}
 use Rattle.std.specs.Prelude.{replicate, slice_set}
-use Rattle.std.proofs.lemmas.Bool.{ltb-true}
 use Rattle.std.proofs.lemmas.List.{append-nil}
 use Rattle.std.proofs.lemmas.List.Sums.{fold-append}
-use Rattle.qc_decl.proofs.Clients.{client_within}
 use Rattle.qc_core.specs.declared.actor.Actor.{Actor}
 use Rattle.qc_core.specs.declared.actor.Actor.TheVariants as actor
 use Rattle.qc_core.specs.Vocabulary.{IsLawfulWithFalls, actor_after, actor_does, actor_takes, is_up, journal_after}
 use Rattle.qc_core.specs.Vocabulary.{journal_at, up_at}
-use Rattle.qc_decl.specs.Vocabulary.{IsAccepted, actors, administrator, controller, is_administrator, is_client}
-use Rattle.qc_decl.specs.Vocabulary.{is_site}
+use Rattle.qc_decl.specs.Vocabulary.{IsAccepted, actors, controller}
 use Rattle.qc_msg.specs.declared.step.Command.{Command}
 use Rattle.qc_decl.specs.declared.declaration.Declaration.{Declaration}
-use Rattle.qc_mailbox.proofs.FallLaws.{crashes_up, lines_close, restarts_down, up_by_deeds}
-use Rattle.qc_mailbox.proofs.FallMail.{ready_sent}
+use Rattle.qc_mailbox.proofs.FallLaws.{no_input_is_open_while_a_line_is_left, restarts_down}
+use Rattle.qc_mailbox.proofs.FallMail.{ready_messages_were_sent_through_falls}
 use Rattle.laws_turns.proofs.Acted.{deeds-silent}
 use Rattle.laws_turns.proofs.Numbered.{IsSilent, mail-silent, phase_silent}
 use Rattle.laws_turns.proofs.Places.{replicate_at}
-use Rattle.qc_link.specs.Vocabulary.{most_actors}
 use Rattle.laws_turns.specs.Vocabulary.{LivesIn}
 use Rattle.laws_turns.proofs.Commands.{may_take}
-use Rattle.laws_turns.proofs.Downs.{who_is_down_only_tells, up_is}
-use Rattle.laws_turns.proofs.LivedMoves.{deeds-fall, line_silent}
-use Rattle.laws_turns.proofs.Lived.{run_lives}
+use Rattle.laws_turns.proofs.LivedMoves.{line_silent}
+use Rattle.laws_turns.proofs.Lived.{actors_live_in_runs_with_falls}
 use Rattle.qc_msg.specs.declared.message.Envelope.{Envelope}
 use Rattle.qc_msg.specs.declared.record.Record.{Record}
 use Rattle.qc_msg.specs.declared.step.Control.{Control}
 use Rattle.qc_msg.specs.declared.step.Control.TheVariants as controls
-use Rattle.qc_msg.specs.declared.step.Fall.{Fall}
-use Rattle.qc_msg.specs.declared.step.Fall.TheVariants as causes
 use Rattle.qc_msg.specs.declared.step.Input.{Input}
 use Rattle.qc_msg.specs.declared.step.Input.TheVariants as given
 use Rattle.qc_msg.specs.declared.step.Step.{Step}
 use Rattle.qc_msg.specs.declared.step.Step.TheVariants as steps
 use Rattle.qc_msg.specs.declared.turn.Turn.{Turn}
-use Rattle.qc_msg.specs.Vocabulary.{Entry, Falls, Takes, WasSentTo, by, deeds, mail, marked, own, posted_as, step_of}
-use Rattle.qc_msg.proofs.GrownMail.{mail-append, mail-taken}
+use Rattle.qc_msg.specs.Vocabulary.{Entry, Takes, WasSentTo, by, deeds, mail, marked, own, posted_as, step_of}
+use Rattle.qc_msg.proofs.GrownMail.{mail-taken}
 use Rattle.qc_msg.proofs.DeedsGrow.{deeds-other}
 use Rattle.qc_msg.proofs.Growth.{deeds-taken}
-use Rattle.laws_refinement.specs.Vocabulary.{IsNamed, MayAdminister, MayCommand, Net, Reaches, after_fall, first_net}
+use Rattle.laws_refinement.specs.Vocabulary.{IsNamed, MayAdminister, MayCommand, first_net}
 use Rattle.laws_refinement.specs.Net as nets
 use Rattle.qc_promise.specs.Vocabulary.{IsGivenBack, Journal, Kept, journal_of, no_journal}
-use Rattle.theory_machine.proofs.Names.{put_here}
 use Rattle.qc_script.specs.Vocabulary.{IsScriptFor, RunsWithFalls, begins, control, controls_left, damaged, falls}
-use Rattle.qc_script.specs.Vocabulary.{inbox, phase, phase_of, posts, ready, rises, takes, unopened}
-use Rattle.qc_script.specs.Inbox as boxes
+use Rattle.qc_script.specs.Vocabulary.{phase, phase_of, posts, ready, rises, takes, unopened}
 use Rattle.qc_script.specs.declared.script.Script.{Script}
 use Rattle.laws_atomic.proofs.Names.{script_named}
 use Rattle.laws_atomic.proofs.Stood.{not_now, slot_other, true_false}
 use Rattle.laws_reach.specs.Vocabulary.{TakesInputs}
 use Rattle.laws_reach.proofs.Asked.{ready_named}
 use Rattle.laws_reach.proofs.Free.{client_free}
-use Rattle.laws_reach.proofs.PostedTurns.{fell_leaves, never_up}
 use Rattle.laws_reach.proofs.PostedTurns as post
 use Rattle.laws_reach.proofs.AdminPosting as posting
 use Rattle.laws_reach.proofs.AdminRising as rise
-use Rattle.laws_reach.proofs.Stood.{Leaves, Stands, Stood, in_client, itself, moves, stays}
+use Rattle.laws_reach.proofs.Stood.{Stands, Stood, in_client, itself, moves, stays}
+use Rattle.laws_reach.proofs.StandsFallen.{few, stands_fallen, stands_unopened, up_in}
 
 -- the records of a shorter history are kept too
 pub kept_of_first : (h k : List Entry) → Kept (h ++ k) → Kept h
 kept_of_first h k kept before later e is =
     kept before (later ++ k) e (sym (append_assoc before (e ∷ later) k) ∙ ap (λ (x : List Entry). x ++ k) is)
 
-mail_fall : (a : ℕ) (h : List Entry) (cause : Fall) → mail (h ++ marked a (steps.Fell cause None) ∷ []) ≡ mail h ++ []
-mail_fall a h cause = mail-append h (marked a (steps.Fell cause None) ∷ [])
-
-within : (decl : Declaration) (a : ℕ) → TakesInputs decl a → a < actors decl
-within decl a (inl site) = let low : a < decl.sites = ltb-true a decl.sites site in omega arith
-within decl a (inr (inl client)) = client_within decl a client
-within decl a (inr (inr at)) = omega arith
-
 module _ (decl : Declaration) (script : Script) (fits : ℕ → List Record → Type 0) (accepted : IsAccepted decl)
     (sound : IsScriptFor decl script) where
-  few : actors decl ≤ most_actors
-  few = let s = accepted.sites in let c = accepted.clients in omega arith
-
   abbrev IsRun : List Entry → List Bool → Type 0
   IsRun h inputs = RunsWithFalls (IsLawfulWithFalls decl) fits decl script h inputs
 
@@ -89,13 +68,15 @@ module _ (decl : Declaration) (script : Script) (fits : ℕ → List Record → 
       now_taken = h ++ marked a (step_of g) ∷ []
 
       sent : WasSentTo a (mail h) g
-      sent = ready_sent (IsLawfulWithFalls decl) fits decl script h inputs run a g rdy
+      sent = ready_messages_were_sent_through_falls (IsLawfulWithFalls decl) fits decl script h inputs run a g rdy
 
       grows : mail now_taken ≡ mail h ++ []
       grows = mail-taken h a g ∙ sym (append-nil (mail h))
 
       life : LivesIn decl a h false
-      life = run_lives decl script fits few h inputs run a false free
+      life =
+          actors_live_in_runs_with_falls decl script fits (few decl script fits accepted sound) h inputs run a false
+          free
 
       named : (command : Command) → g ≡ given.Called command → IsNamed decl command
       named command is =
@@ -107,7 +88,8 @@ module _ (decl : Declaration) (script : Script) (fits : ℕ → List Record → 
       may_admin (given.Got envelope) is = tt
       may_admin (given.Lost number) is = tt
 
-      may : (x : Input) → g ≡ x → (c : _) → (actor_after decl a (deeds a [] h)).actor ≡ actor.Client c → MayCommand decl c x
+      may : (x : Input) → g ≡ x → (c : _) → (actor_after decl a (deeds a [] h)).actor ≡ actor.Client c
+          → MayCommand decl c x
       may (given.Called command) is c state = (
         client_free decl a (deeds a [] h) life.above c life.lives
             (may_take decl script a h (given.Called command) (rdy ∙ ap (λ (x : Input). Some x) is)) state,
@@ -168,110 +150,25 @@ module _ (decl : Declaration) (script : Script) (fits : ℕ → List Record → 
           (mail-silent h b step silent ∙ sym (append-nil (mail h))) refl (old.actors a is);
     }
 
-    -- an actor falls
-
-    abbrev fallen : ℕ → Fall → List Entry
-    fallen a cause = h ++ marked a (steps.Fell cause None) ∷ []
-
-    up_in : (a : ℕ) → TakesInputs decl a → boxes.is_up (inbox script 0 h).up a ≡ is_up (deeds a [] h)
-    up_in a is =
-        let low : a < actors decl = within decl a is in
-        up_by_deeds (IsLawfulWithFalls decl) fits decl script h inputs few (who_is_down_only_tells decl) run a 0
-        (let f = few in omega arith) (omega arith) ∙ sym (up_is (deeds a [] h))
-
-    fell_up : (a : ℕ) (cause : Fall) → is_up (deeds a [] (fallen a cause)) ≡ false
-    fell_up a cause = ap is_up (deeds-fall a h cause) ∙ fold-append up_at true (deeds a [] h) (Falls cause None ∷ [])
-
-    fell_journal : (a : ℕ) (cause : Fall) → journal_after (deeds a [] (fallen a cause)) ≡ journal_after (deeds a [] h)
-    fell_journal a cause =
-        ap journal_after (deeds-fall a h cause)
-        ∙ fold-append journal_at no_journal (deeds a [] h) (Falls cause None ∷ [])
-
-    fell_stands : (a : ℕ) (cause : Fall) (next : Net) (slot : Option Bool) → next.up a ≡ false
-        → next.records a ≡ (journal_after (deeds a [] h)).records
-        → next.pending a ≡ (journal_after (deeds a [] h)).pending → Stands decl next a (fallen a cause) slot
-    fell_stands a cause next slot up records pending = record {
-      up = up ∙ sym (fell_up a cause);
-      records = records ∙ ap (λ (j : Journal). j.records) (sym (fell_journal a cause));
-      pending = pending ∙ ap (λ (j : Journal). j.pending) (sym (fell_journal a cause));
-      clear = λ is. absurd (never_up _ (fell_up a cause) is);
-      closed = λ is. absurd (never_up _ (fell_up a cause) is);
-      opened = λ is. absurd (never_up _ (fell_up a cause) is);
-    }
-
-    falls_to : (a : ℕ) (cause : Fall) (next : Net) → Reaches decl next → next.mail ≡ old.net.mail
-        → ((b : ℕ) → b ≢ a → Leaves decl old.net next b)
-        → (TakesInputs decl a → Stands decl next a (fallen a cause) (slice_get inputs a))
-        → Stood decl (fallen a cause) inputs
-    falls_to a cause next reached same leaves here =
-        moves decl h (fallen a cause) inputs inputs old a next [] reached
-        (same ∙ old.mail_is ∙ sym (append-nil (mail h)) ∙ sym (mail_fall a h cause)) (mail_fall a h cause) leaves
-        (λ b other. deeds-other a b [] h (steps.Fell cause None ∷ []) other) (λ b other. refl) here
-
-    pub stands_fallen : (a : ℕ) (lines : List Control) → controls_left script h ≡ controls.Crash a ∷ lines
-        → Stood decl (fallen a causes.Script) inputs
-    stands_fallen a lines left = by_kind (is_site decl a) (is_client decl a) (is_administrator decl a) refl refl refl
-      where
-        up : (is : TakesInputs decl a) → is_up (deeds a [] h) ≡ true
-        up is = sym (up_in a is) ∙ crashes_up (IsLawfulWithFalls decl) fits decl script h inputs few run a lines left
-
-        to_net : (is : TakesInputs decl a) → Reaches decl (after_fall old.net a None [])
-            → Stood decl (fallen a causes.Script) inputs
-        to_net is reached =
-            let s : Stands decl old.net a h (slice_get inputs a) = old.actors a is in
-            falls_to a causes.Script (after_fall old.net a None []) reached (append-nil old.net.mail)
-            (fell_leaves decl old.net a None [])
-            (λ it. fell_stands a causes.Script (after_fall old.net a None []) (slice_get inputs a)
-            (put_here old.net.up a false) s.records (put_here old.net.pending a None ∙ sym (s.clear (up is))))
-
-        reaches : (is : TakesInputs decl a) → Reaches decl (after_fall old.net a None [])
-        reaches (inl site) = nets.site_falls a old.net old.reached site ((old.actors a (inl site)).up ∙ up (inl site))
-        reaches (inr (inl client)) =
-            nets.client_falls a old.net old.reached client
-            ((old.actors a (inr (inl client))).up ∙ up (inr (inl client)))
-        reaches (inr (inr at)) =
-            subst (λ (b : ℕ). old.net.up b ≡ true → Reaches decl (after_fall old.net b None [])) (sym at)
-            (λ is_up. nets.admin_falls old.net old.reached is_up)
-            ((old.actors a (inr (inr at))).up ∙ up (inr (inr at)))
-
-        nobody : is_site decl a ≡ false → is_client decl a ≡ false → is_administrator decl a ≡ false → TakesInputs decl a → ⊥
-        nobody none no_client no_admin (inl site) = let no : ⊥ = cc in no
-        nobody none no_client no_admin (inr (inl client)) = let no : ⊥ = cc in no
-        nobody none no_client no_admin (inr (inr at)) =
-            let is : is_administrator decl a ≡ true = eq-eqb a (administrator decl) at in let no : ⊥ = cc in no
-
-        by_kind : (t c m : Bool) → is_site decl a ≡ t → is_client decl a ≡ c → is_administrator decl a ≡ m
-            → Stood decl (fallen a causes.Script) inputs
-        by_kind true c m site client admin = to_net (inl site) (reaches (inl site))
-        by_kind false true m none client admin = to_net (inr (inl client)) (reaches (inr (inl client)))
-        by_kind false false true none no_client admin =
-            let at : a ≡ administrator decl = eqb-true a (administrator decl) admin in
-            to_net (inr (inr at)) (reaches (inr (inr at)))
-        by_kind false false false none no_client no_admin =
-            falls_to a causes.Script old.net old.reached refl (λ b other. itself decl old.net b)
-            (λ is. absurd (nobody none no_client no_admin is))
-
-    -- its journal isn't opened: it stays down
-
-    pub stands_unopened : (a : ℕ) (cause : Fall) (lines : List Control)
-        → controls_left script h ≡ controls.Restart a ∷ lines → Stood decl (fallen a cause) inputs
-    stands_unopened a cause lines left = falls_to a cause old.net old.reached refl (λ b other. itself decl old.net b) here
-      where
-        here : TakesInputs decl a → Stands decl old.net a (fallen a cause) (slice_get inputs a)
-        here is =
-            let s : Stands decl old.net a h (slice_get inputs a) = old.actors a is in
-            let down : is_up (deeds a [] h) ≡ false = sym (up_in a is) ∙ restarts_down (IsLawfulWithFalls decl) fits decl script h inputs few run a lines left in
-            fell_stands a cause old.net (slice_get inputs a) (s.up ∙ down) s.records s.pending
-
     -- it rises
 
-    pub stands_risen : (a : ℕ) (records : List Record) (turn : Turn) (lines : List Control) → controls_left script h ≡ controls.Restart a ∷ lines → IsLawfulWithFalls decl a (deeds a [] (h ++ marked a (steps.Rose records) ∷ [])) turn
-        → IsGivenBack (journal_of (own a h)) records → Stood decl (h ++ by a (steps.Rose records ∷ posted_as turn.append (length (mail h)) turn)) inputs
+    pub stands_risen : (a : ℕ) (records : List Record) (turn : Turn) (lines : List Control)
+        → controls_left script h ≡ controls.Restart a ∷ lines
+        → IsLawfulWithFalls decl a (deeds a [] (h ++ marked a (steps.Rose records) ∷ [])) turn
+        → IsGivenBack (journal_of (own a h)) records
+        → Stood decl (h ++ by a (steps.Rose records ∷ posted_as turn.append (length (mail h)) turn)) inputs
     stands_risen a records turn lines left law back =
-        rise.rises decl h inputs old records turn a law back down (lines_close (IsLawfulWithFalls decl) fits decl script h inputs few run (controls.Restart a) lines left a)
+        rise.rises decl h inputs old records turn a law back down
+        (no_input_is_open_while_a_line_is_left (IsLawfulWithFalls decl) fits decl script h inputs
+        (few decl script fits accepted sound) run
+        (controls.Restart a) lines left a)
       where
         down : is_up (deeds a [] h) ≡ false
-        down = sym (up_in a (post.takes_inputs decl a (deeds a [] (h ++ marked a (steps.Rose records) ∷ [])) turn law)) ∙ restarts_down (IsLawfulWithFalls decl) fits decl script h inputs few run a lines left
+        down =
+            sym (up_in decl script fits accepted sound h inputs run old a
+            (post.takes_inputs decl a (deeds a [] (h ++ marked a (steps.Rose records) ∷ [])) turn law))
+            ∙ restarts_down (IsLawfulWithFalls decl) fits decl script h inputs (few decl script fits accepted sound) run
+            a lines left
 
   none_open : (a : ℕ) → slice_get (replicate (actors decl) false) a ≡ Some true → ⊥
   none_open a is = let no : true ≡ false = replicate_at (actors decl) a false true is in true_false no
@@ -281,20 +178,38 @@ module _ (decl : Declaration) (script : Script) (fits : ℕ → List Record → 
     net = first_net decl;
     reached = nets.begins;
     mail_is = refl;
-    actors = λ a is. record { up = refl; records = refl; pending = refl; clear = λ up. refl; closed = λ up slot. refl; opened = λ up slot. absurd (none_open a slot) };
+    actors =
+        λ a is. record {
+          up = refl;
+          records = refl;
+          pending = refl;
+          clear = λ up. refl;
+          closed = λ up slot. refl;
+          opened = λ up slot. absurd (none_open a slot);
+        };
   }
 
   -- each run is one of the net
   pub runs_stand : (h : List Entry) (inputs : List Bool) → IsRun h inputs → Kept h → Stood decl h inputs
   runs_stand h inputs begins kept = first_stood
-  runs_stand h inputs (takes a g before older run free rdy) kept = stands_taken older before run (runs_stand older before run (kept_of_first older _ kept)) a g free rdy
-  runs_stand h inputs (posts a turn before older run taken law) kept = posting.posts decl older before (runs_stand older before run (kept_of_first older _ kept)) turn a taken law
+  runs_stand h inputs (takes a g before older run free rdy) kept =
+      stands_taken older before run (runs_stand older before run (kept_of_first older _ kept)) a g free rdy
+  runs_stand h inputs (posts a turn before older run taken law) kept =
+      posting.posts decl older before (runs_stand older before run (kept_of_first older _ kept)) turn a taken law
   runs_stand h inputs (phase before older run idle done quiet more) kept =
-      stands_still older before run (runs_stand older before run (kept_of_first older _ kept)) (controller decl) (steps.Phase (phase_of older + 1)) (phase_silent (phase_of older + 1))
+      stands_still older before run (runs_stand older before run (kept_of_first older _ kept)) (controller decl)
+      (steps.Phase (phase_of older + 1)) (phase_silent (phase_of older + 1))
   runs_stand h inputs (control line lines acted before older run left is) kept =
-      stands_still older before run (runs_stand older before run (kept_of_first older _ kept)) (controller decl) acted (line_silent line acted is)
-  runs_stand h inputs (falls a lines before older run left) kept = stands_fallen older before run (runs_stand older before run (kept_of_first older _ kept)) a lines left
+      stands_still older before run (runs_stand older before run (kept_of_first older _ kept)) (controller decl) acted
+      (line_silent line acted is)
+  runs_stand h inputs (falls a lines before older run left) kept =
+      stands_fallen decl script fits accepted sound older before run
+      (runs_stand older before run (kept_of_first older _ kept)) a lines left
   runs_stand h inputs (rises a records turn lines before older run left fit has law) kept =
-      stands_risen older before run (runs_stand older before run (kept_of_first older _ kept)) a records turn lines left law (kept older _ (marked a (steps.Rose records)) refl)
-  runs_stand h inputs (damaged a offset lines before older run left) kept = absurd (kept older [] (marked a (steps.Damaged offset)) refl)
-  runs_stand h inputs (unopened a cause lines before older run left disk) kept = stands_unopened older before run (runs_stand older before run (kept_of_first older _ kept)) a cause lines left
+      stands_risen older before run (runs_stand older before run (kept_of_first older _ kept)) a records turn lines left
+      law (kept older _ (marked a (steps.Rose records)) refl)
+  runs_stand h inputs (damaged a offset lines before older run left) kept =
+      absurd (kept older [] (marked a (steps.Damaged offset)) refl)
+  runs_stand h inputs (unopened a cause lines before older run left disk) kept =
+      stands_unopened decl script fits accepted sound older before run
+      (runs_stand older before run (kept_of_first older _ kept)) a cause lines left

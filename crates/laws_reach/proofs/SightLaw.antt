@@ -14,7 +14,7 @@ use Rattle.qc_entry.specs.declared.record.Commit.{Commit}
 use Rattle.laws_turns.proofs.Places.{slice_get-within}
 use Rattle.qc_link.specs.Vocabulary.{most_actors}
 use Rattle.laws_turns.specs.Vocabulary.{LivesIn}
-use Rattle.laws_turns.proofs.Lived.{run_lives, run_long}
+use Rattle.laws_turns.proofs.Lived.{actors_live_in_runs_with_falls, run_long}
 use Rattle.qc_msg.specs.declared.message.Answer.TheVariants.{Granted}
 use Rattle.qc_msg.specs.declared.message.Envelope.{Envelope}
 use Rattle.qc_msg.specs.declared.message.Message.{Message}
@@ -36,7 +36,7 @@ use Rattle.qc_script.specs.declared.script.Script.{Script}
 use Rattle.laws_due.specs.Vocabulary.{Declares}
 use Rattle.laws_due.proofs.AccountDeclared.{scripts_ask_what_is_declared}
 use Rattle.laws_due.proofs.Declared.{run_declares}
-use Rattle.laws_due.proofs.KeptPlanned.{kept_planned}
+use Rattle.laws_due.proofs.KeptPlanned.{what_rises_is_planned_where_records_are_kept}
 use Rattle.laws_reach.specs.Vocabulary.{AreStanding, IsOfClient, IsReachedWithFalls, records_of}
 use Rattle.laws_reach.proofs.Committing.{committed_records_stand}
 use Rattle.laws_reach.proofs.Reaching.{runs_with_falls_reach_nets}
@@ -44,7 +44,7 @@ use Rattle.laws_reach.proofs.RunLaws as reached
 use Rattle.laws_atomic.proofs.Grants.{granted, lines_passed, no_promise}
 use Rattle.laws_atomic.proofs.Heard.{sent_mailed, took_sent}
 use Rattle.laws_atomic.proofs.Seeing.{IsUpTo}
-use Rattle.qc_core.proofs.KeptBack.{kept_given_back}
+use Rattle.qc_core.proofs.KeptBack.{rises_give_back_journals_where_records_are_kept}
 use Rattle.laws_reach.proofs.Founding.{IsFounded}
 use Rattle.laws_reach.proofs.Lifelong.{StandsNow, client_stands}
 use Rattle.laws_reach.proofs.Making.{made_at, wrote_stays}
@@ -136,18 +136,19 @@ module _ (fits : ℕ → List Record → Type 0) (decl : Declaration) (script : 
   founded a client = record {
     grants = record {
       wrote = λ c among. of_journal a client c
-          (wrote_stays c no_journal (deeds a [] h) (kept_given_back h kept a) among);
+          (wrote_stays c no_journal (deeds a [] h) (rises_give_back_journals_where_records_are_kept h kept a) among);
       lines = line_up a;
       asked = was_asked a;
     };
-    back = kept_given_back h kept a;
+    back = rises_give_back_journals_where_records_are_kept h kept a;
     kept = of_journal a client;
   }
 
   declares : (a : ℕ) → Declares decl (deeds a [] h)
   declares a =
       run_declares decl script fits accepted (scripts_ask_what_is_declared decl script accepted sound) h open_inputs run
-      (kept_planned decl script fits accepted (scripts_ask_what_is_declared decl script accepted sound) h open_inputs
+      (what_rises_is_planned_where_records_are_kept decl script fits accepted
+      (scripts_ask_what_is_declared decl script accepted sound) h open_inputs
       run kept) a
 
   stands : (a : ℕ) (client : is_client decl a ≡ true) (tx : TxId)
@@ -156,7 +157,8 @@ module _ (fits : ℕ → List Record → Type 0) (decl : Declaration) (script : 
       let low : a < actors decl = client_within decl a client in
       let long : length open_inputs ≡ actors decl = run_long decl script fits few h open_inputs run in
       let place : (t : Bool) × (slice_get open_inputs a ≡ Some t) = slice_get-within open_inputs a (omega arith) in
-      let lived : LivesIn decl a h place.0 = run_lives decl script fits few h open_inputs run a place.0 place.1 in
+      let lived : LivesIn decl a h place.0 =
+      actors_live_in_runs_with_falls decl script fits few h open_inputs run a place.0 place.1 in
       client_stands decl a client (declares a).first (committed decl h) tx
       (deeds a [] h) place.0 lived.above lived.lives (declares a).deeds (founded a client)
 

@@ -264,7 +264,10 @@ module _ (decl : Declaration) (a : ℕ) (client : is_client decl a ≡ true) whe
   lasting = record {
     new = λ back. new_timed;
     turn = λ ds r same t g end first ends rest back.
-        turn_timed ds (rest (back_first no_journal ds (Takes g ∷ []) (back_first no_journal (ds ++ Takes g ∷ []) (deeds_as end first (client_takes decl t.state g).turn) back))) r same t g end first ends;
+        turn_timed ds
+        (rest (back_first no_journal ds (Takes g ∷ [])
+        (back_first no_journal (ds ++ Takes g ∷ []) (deeds_as end first (client_takes decl t.state g).turn) back)))
+        r same t g end first ends;
     called = λ ds down command rest back.
         called_timed ds
         (rest (back_first no_journal ds (Takes (inputs.Called command) ∷ [])

@@ -31,8 +31,8 @@ module _ (fits : ℕ → List Record → Type 0) (decl : Declaration) (script : 
   done : (n : ℕ) → n < decl.clients → AreDone decl n (deeds (client_actor decl n) [] h)
   done n low = all_done fits decl script h open_inputs accepted sound run kept n low
 
-  pub told_in_posts : (n : ℕ) → n < decl.clients → AreCommitsTold (deeds (client_actor decl n) [] h)
-  told_in_posts n low = (done n low).told
+  pub commits_are_told_in_their_posts : (n : ℕ) → n < decl.clients → AreCommitsTold (deeds (client_actor decl n) [] h)
+  commits_are_told_in_their_posts n low = (done n low).told
 
   -- the committed records are just those in the clients' journals
 

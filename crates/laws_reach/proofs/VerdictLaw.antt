@@ -1,17 +1,14 @@
--- In every run with falls whose records are kept a client's deeds are right, and the stamps of its records rise.
+-- In every run with falls whose records are kept a client's deeds are right.
 use Rattle.std.proofs.Common.{◌≡◌, ◌↔◌, ◌-◌, ◌≢◌, ◌≤◌, ◌<◌, ℕ, ◌+◌, ◌==◌, Bool, true, false, List, [], ◌∷◌, ◌++◌}
-use Rattle.std.proofs.Common.{length, option_to_list, Some, None, slice_get, refl, sym, ap, ◌∙◌, subst, arith}
-use Rattle.std.proofs.Common.{append_assoc, eqb-true}
-use Rattle.std.specs.List.{AllPairs, filter_map}
+use Rattle.std.proofs.Common.{length, Some, None, slice_get, refl, sym, ap, ◌∙◌, subst, arith, append_assoc, eqb-true}
 use Rattle.std.proofs.lemmas.List.Sums.{fold-append}
 use Rattle.qc_decl.proofs.Clients.{client_past, client_within}
 use Rattle.qc_core.specs.Vocabulary.{IsLawfulWithFalls, journal_after}
-use Rattle.qc_entry.specs.declared.record.Commit.{Commit}
-use Rattle.qc_msg.specs.Vocabulary.{Deed, Entry, Falls, Rises, Sends, Takes, WasSentTo, by, commit_of, deeds, deeds_as}
-use Rattle.qc_msg.specs.Vocabulary.{mail, marked, posted_as, step_of}
+use Rattle.qc_msg.specs.Vocabulary.{Deed, Entry, Falls, Rises, Sends, Takes, WasSentTo, by, deeds, deeds_as, mail}
+use Rattle.qc_msg.specs.Vocabulary.{marked, posted_as, step_of}
 use Rattle.qc_decl.specs.Vocabulary.{IsAccepted, actors, client_actor, controller, is_client}
 use Rattle.qc_decl.specs.declared.declaration.Declaration.{Declaration}
-use Rattle.qc_mailbox.proofs.FallMail.{ready_sent}
+use Rattle.qc_mailbox.proofs.FallMail.{ready_messages_were_sent_through_falls}
 use Rattle.laws_turns.proofs.Acted.{deeds-silent}
 use Rattle.laws_turns.proofs.Numbered.{IsSilent, phase_silent}
 use Rattle.laws_turns.proofs.Places.{slice_get-within}
@@ -19,7 +16,7 @@ use Rattle.qc_list.specs.Vocabulary.{In}
 use Rattle.qc_list.proofs.Members.{every-at}
 use Rattle.laws_turns.specs.Vocabulary.{LivesIn}
 use Rattle.laws_turns.proofs.LivedMoves.{deeds-fall, deeds-rise, line_silent}
-use Rattle.laws_turns.proofs.Lived.{run_lives, run_long}
+use Rattle.laws_turns.proofs.Lived.{actors_live_in_runs_with_falls, run_long}
 use Rattle.qc_msg.specs.declared.message.Envelope.{Envelope}
 use Rattle.qc_msg.specs.declared.message.Message.{Message}
 use Rattle.qc_msg.specs.declared.message.Message.TheVariants as messages
@@ -34,8 +31,8 @@ use Rattle.qc_msg.proofs.DeedsGrow.{deeds-other}
 use Rattle.qc_msg.proofs.Growth.{deeds-posted_as, deeds-taken}
 use Rattle.laws_refinement.specs.Vocabulary.{Backed, Refines}
 use Rattle.laws_refinement.proofs.Refining.{nets_refine}
-use Rattle.qc_promise.specs.Vocabulary.{AreRight, Begun, Committed, Dead, HasEnded, Journal, Kept, Status, Unborn}
-use Rattle.qc_promise.specs.Vocabulary.{status, status_at}
+use Rattle.qc_promise.specs.Vocabulary.{AreRight, Begun, Committed, Dead, HasEnded, Kept, Status, Unborn, status}
+use Rattle.qc_promise.specs.Vocabulary.{status_at}
 use Rattle.theory_machine.specs.Vocabulary.{state}
 use Rattle.laws_turns.proofs.KnownDeeds.{IsKnown, IsKnownIn, KnownFrom, known-append, known-posts, known-second}
 use Rattle.laws_turns.proofs.Lasting.{HasEnd, ended_on, request_born}
@@ -50,18 +47,15 @@ use Rattle.qc_stamp.proofs.Orders.{same_tx_is, same_tx_itself}
 use Rattle.laws_due.specs.Vocabulary.{Declares}
 use Rattle.laws_due.proofs.AccountDeclared.{scripts_ask_what_is_declared}
 use Rattle.laws_due.proofs.Declared.{run_declares}
-use Rattle.laws_due.proofs.KeptPlanned.{kept_planned}
+use Rattle.laws_due.proofs.KeptPlanned.{what_rises_is_planned_where_records_are_kept}
 use Rattle.laws_reach.specs.Vocabulary.{IsReachedWithFalls, IsRecorded}
 use Rattle.laws_reach.proofs.Reaching.{runs_with_falls_reach_nets}
 use Rattle.laws_reach.proofs.Rightly.{Shows, course_shows}
-use Rattle.qc_core.proofs.KeptBack.{kept_given_back}
+use Rattle.qc_core.proofs.KeptBack.{rises_give_back_journals_where_records_are_kept}
 use Rattle.laws_reach.proofs.Putting.{part_kept}
 use Rattle.laws_reach.proofs.Questions.{Asked, IsRequested, run_asked}
-use Rattle.laws_reach.proofs.RisingStamps.{Rise, commits_more, commits_of, rise_first, rise_pairs}
 use Rattle.laws_reach.proofs.Sent.{mail_deed}
 use Rattle.laws_reach.proofs.SitesAsk.{asked_of}
-use Rattle.laws_reach.proofs.StampsUp.{WithPending}
-use Rattle.laws_reach.proofs.Stamped.{course_rises}
 use Rattle.laws_reach.proofs.VerdictPosts.{right_second, post_posts, few}
 
 module _ (decl : Declaration) (script : Script) (fits : ℕ → List Record → Type 0) (accepted : IsAccepted decl)
@@ -74,18 +68,20 @@ module _ (decl : Declaration) (script : Script) (fits : ℕ → List Record → 
   abbrev AreKnown : List Entry → Type 0
   AreKnown h = (a : ℕ) → is_client decl a ≡ true → (tx : TxId) → KnownFrom tx Unborn (deeds a [] h)
 
-  declares : (h : List Entry) (open_inputs : List Bool) → IsRun h open_inputs → Kept h → (a : ℕ)
+  pub declares : (h : List Entry) (open_inputs : List Bool) → IsRun h open_inputs → Kept h → (a : ℕ)
       → Declares decl (deeds a [] h)
   declares h open_inputs run kept a =
       run_declares decl script fits accepted (scripts_ask_what_is_declared decl script accepted sound) h open_inputs run
-      (kept_planned decl script fits accepted (scripts_ask_what_is_declared decl script accepted sound) h open_inputs
+      (what_rises_is_planned_where_records_are_kept decl script fits accepted
+      (scripts_ask_what_is_declared decl script accepted sound) h open_inputs
       run kept) a
 
-  record Lived (h : List Entry) (open_inputs : List Bool) (a : ℕ) : Type 0 where
-    is_open : Bool
-    in_run : LivesIn decl a h is_open
+  pub record Lived (h : List Entry) (open_inputs : List Bool) (a : ℕ) : Type 0 where
+    pub is_open : Bool
+    pub in_run : LivesIn decl a h is_open
 
-  lived : (h : List Entry) (open_inputs : List Bool) → IsRun h open_inputs → (a : ℕ) → is_client decl a ≡ true → Lived h open_inputs a
+  pub lived : (h : List Entry) (open_inputs : List Bool) → IsRun h open_inputs → (a : ℕ) → is_client decl a ≡ true
+      → Lived h open_inputs a
   lived h open_inputs run a client =
       let low : a < actors decl = client_within decl a client in
       let long : length open_inputs ≡ actors decl =
@@ -94,16 +90,18 @@ module _ (decl : Declaration) (script : Script) (fits : ℕ → List Record → 
       record {
         is_open = place.0;
         in_run =
-            run_lives decl script fits (few decl script fits accepted sound) h open_inputs run a place.0 place.1;
+            actors_live_in_runs_with_falls decl script fits (few decl script fits accepted sound) h open_inputs run a
+            place.0 place.1;
       }
 
-  module _ (h : List Entry) (open_inputs : List Bool) (run : IsRun h open_inputs) (kept : Kept h) (known : AreKnown h) where
+  module _ (h : List Entry) (open_inputs : List Bool) (run : IsRun h open_inputs) (kept : Kept h)
+      (known : AreKnown h) where
     shows : (a : ℕ) (client : is_client decl a ≡ true) (tx : TxId) → Shows decl a client tx (deeds a [] h)
     shows a client tx =
         let l : Lived h open_inputs a = lived h open_inputs run a client in
         let d : Declares decl (deeds a [] h) = declares h open_inputs run kept a in
         course_shows decl a client tx d.first (deeds a [] h) l.is_open l.in_run.above l.in_run.lives d.deeds
-        (kept_given_back h kept a) (known a client tx)
+        (rises_give_back_journals_where_records_are_kept h kept a) (known a client tx)
 
     -- one that was asked for was begun
     asked_born : (a : ℕ) → is_client decl a ≡ true → (tx : TxId) → a ≡ client_actor decl tx.client
@@ -112,7 +110,8 @@ module _ (decl : Declaration) (script : Script) (fits : ℕ → List Record → 
         let net : IsReachedWithFalls decl h open_inputs =
         runs_with_falls_reach_nets fits decl script h open_inputs accepted sound run kept in
         let m : Refines decl net.net = nets_refine decl accepted net.net net.reached in
-        let backed : Backed decl (state m.acts) net.net.mail r.request.from r.request.to (messages.Request tx r.epoch r.life r.want) =
+        let backed : Backed decl (state m.acts) net.net.mail r.request.from r.request.to
+        (messages.Request tx r.epoch r.life r.want) =
         subst (Backed decl (state m.acts) net.net.mail r.request.from r.request.to) r.is
         (m.agrees.mail r.request (subst (In r.request) (sym net.mail_is) r.sent)) in
         let from : r.request.from ≡ a = backed.0 ∙ sym its in
@@ -178,7 +177,7 @@ module _ (decl : Declaration) (script : Script) (fits : ℕ → List Record → 
   all_known h open_inputs (takes b g before older run free rdy) kept a client tx =
       let known : AreKnown older = all_known older before run (part_kept older _ kept) in
       let was : WasSentTo b (mail older) g =
-      ready_sent (IsLawfulWithFalls decl) fits decl script older before run b g rdy in
+      ready_messages_were_sent_through_falls (IsLawfulWithFalls decl) fits decl script older before run b g rdy in
       by_actor b a tx older (step_of g ∷ []) (Takes g ∷ []) (deeds-taken b older g was) (known a client tx)
       (λ same. (
         known_given older before run (part_kept older _ kept) known b (ap (is_client decl) same ∙ client) tx g
@@ -272,29 +271,3 @@ module _ (decl : Declaration) (script : Script) (fits : ℕ → List Record → 
       subst (KnownFrom tx Unborn) (sym is) (all_known h open_inputs run kept a client tx) in
       subst (IsKnownIn tx (status before tx)) asks
       (known-second tx Unborn before (Takes (inputs.Got e) ∷ later) known).0 (same_tx_itself tx)
-
-  -- and the stamps of its records rise
-
-  journal_rises : (h : List Entry) (open_inputs : List Bool) → IsRun h open_inputs → Kept h → (a : ℕ)
-      → is_client decl a ≡ true → WithPending (journal_after (deeds a [] h))
-  journal_rises h open_inputs run kept a client =
-      let l : Lived h open_inputs a = lived h open_inputs run a client in
-      let d : Declares decl (deeds a [] h) = declares h open_inputs run kept a in
-      course_rises decl a client d.first (deeds a [] h) l.is_open l.in_run.above l.in_run.lives d.deeds
-      (kept_given_back h kept a)
-
-  pub pending_rise : (h : List Entry) (open_inputs : List Bool) → IsRun h open_inputs → Kept h → (a : ℕ) → is_client decl a ≡ true
-      → AllPairs (λ (c d : Commit). c.stamp.clock < d.stamp.clock)
-      (filter_map commit_of
-      ((journal_after (deeds a [] h)).records ++ option_to_list (journal_after (deeds a [] h)).pending))
-  pending_rise h open_inputs run kept a client = rise_pairs _ (journal_rises h open_inputs run kept a client)
-
-  pub records_rise : (h : List Entry) (open_inputs : List Bool) → IsRun h open_inputs → Kept h → (a : ℕ) → is_client decl a ≡ true
-      → AllPairs (λ (c d : Commit). c.stamp.clock < d.stamp.clock)
-      (filter_map commit_of (journal_after (deeds a [] h)).records)
-  records_rise h open_inputs run kept a client =
-      let j : Journal = journal_after (deeds a [] h) in
-      rise_pairs (commits_of j.records)
-      (rise_first (commits_of j.records) (commits_of (option_to_list j.pending))
-      (subst Rise (commits_more j.records (option_to_list j.pending))
-      (journal_rises h open_inputs run kept a client)))

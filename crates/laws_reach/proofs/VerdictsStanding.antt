@@ -70,7 +70,9 @@ module _ (tx : TxId) where
       on true same =
           rest (keeps x (records.Commit one)) one (sym (same_tx_is c.tx one.tx same) ∙ its)
           (In-last one (filter (λ (d : Commit). not (same_tx d.tx one.tx)) x.commits))
-      on false other = rest (keeps x (records.Commit one)) c its (In-first c (filter (λ (d : Commit). not (same_tx d.tx one.tx)) x.commits) (one ∷ [])
+      on false other =
+          rest (keeps x (records.Commit one)) c its
+          (In-first c (filter (λ (d : Commit). not (same_tx d.tx one.tx)) x.commits) (one ∷ [])
           (In-filter (λ (d : Commit). not (same_tx d.tx one.tx)) c x.commits old (ap not other)))
     by (records.Decide start) rest = rest x c its old
 

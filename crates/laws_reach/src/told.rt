@@ -13,7 +13,7 @@ use qc_script::ConductWithFalls;
 
 /// In every such run a client tells of each commit record that it writes, in the
 /// very post that writes it.
-#[tactic(auto, using(crate::proofs::ToldRunLaws::told_in_posts))]
+#[tactic(auto, using(crate::proofs::ToldRunLaws::commits_are_told_in_their_posts))]
 pub fn commits_are_told_in_their_posts<C: ConductWithFalls>()
     ensures { OfEachKeptRun C.fits (λ decl script h open_inputs. (client : ℕ) → client < decl.clients
         → AreCommitsTold (deeds (client_actor decl client) [] h)) }

@@ -20,7 +20,8 @@ ghost use Rattle.laws_turns.specs.Wrong.{asks, begun, committed, first, says, se
 ghost use Rattle.qc_stamp.specs.declared.stamp.TxId.{TxId};
 ghost use Rattle.laws_reach.specs.Agreement.{AgreeOnVerdicts};
 ghost use Rattle.laws_reach.specs.Recorded.{IsRecorded};
-ghost use Rattle.laws_reach.specs.WrongVerdicts.{anew, begins_anew, crashes, falls_rising, falls_writing, is_asked, lives};
+ghost use Rattle.laws_reach.specs.WrongVerdicts.{anew, begins_anew, crashes, falls_rising, falls_writing, is_asked};
+ghost use Rattle.laws_reach.specs.WrongVerdicts.{lives};
 ghost use Rattle.laws_reach.specs.WrongVerdicts.{recorded, rises, told};
 
 /// A transaction that its client's fall ended doesn't begin again, asks nothing

@@ -3,7 +3,7 @@ use Rattle.std.proofs.Common.{◌≡◌, ℕ, ◌+◌, ◌<◌, Bool, true, List
 use Rattle.qc_core.specs.Vocabulary.{Acts, AreSteady, IsLawful}
 use Rattle.qc_core.specs.Acts as acts
 use Rattle.qc_core.proofs.Answers.{answers_taken}
-use Rattle.qc_core.proofs.ByTurns.{by_turns}
+use Rattle.qc_core.proofs.ByTurns.{who_lives_goes_by_turns}
 use Rattle.qc_core.proofs.LivesLaws.{act_lives, lawful_still, written}
 use Rattle.qc_core.proofs.Steady.{acts_steady}
 use Rattle.qc_decl.specs.declared.declaration.Declaration.{Declaration}
@@ -113,6 +113,6 @@ module _ (decl : Declaration) (script : Script) where
       has_entry (IsLawful decl) decl script h open_inputs run a within in
       let acted : ActsIn decl a h place.0 =
       actors_take_and_post_by_turns decl script h open_inputs run a place.0 place.1 in
-      by_turns decl a (deeds a [] h) place.0 acted.above
+      who_lives_goes_by_turns decl a (deeds a [] h) place.0 acted.above
       (act_lives decl a (deeds a [] h) place.0 acted.above acted.acts)
       (λ site. uncommanded decl a [] h site (run_delivered h open_inputs run).called)

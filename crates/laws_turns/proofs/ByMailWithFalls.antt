@@ -4,11 +4,11 @@ use Rattle.std.proofs.Common.{refl, subst, arith}
 use Rattle.qc_core.specs.Vocabulary.{IsLawfulWithFalls}
 use Rattle.qc_core.proofs.Answers.{answers_rising, answers_taken}
 use Rattle.qc_core.proofs.OpenedInputs.{Opened, opened}
-use Rattle.qc_core.proofs.ByTurns.{by_turns}
+use Rattle.qc_core.proofs.ByTurns.{who_lives_goes_by_turns}
 use Rattle.qc_decl.specs.declared.declaration.Declaration.{Declaration}
 use Rattle.qc_decl.specs.Vocabulary.{actors, controller, is_site}
 use Rattle.qc_mailbox.specs.Vocabulary.{AreNumbered}
-use Rattle.qc_mailbox.proofs.FallMail.{ready_sent, run_numbered}
+use Rattle.qc_mailbox.proofs.FallMail.{ready_messages_were_sent_through_falls, run_numbered}
 use Rattle.qc_mailbox.proofs.Keeping.{same_mail}
 use Rattle.laws_turns.proofs.ByMail.{ready_lost}
 use Rattle.laws_turns.proofs.Commanded.{ready_called, uncommanded}
@@ -29,7 +29,7 @@ use Rattle.qc_script.specs.Vocabulary.{posts, rises, takes, unopened}
 use Rattle.qc_script.specs.declared.script.Script.{Script}
 use Rattle.laws_turns.specs.Vocabulary.{LivesIn}
 use Rattle.laws_turns.proofs.LivedMoves.{deeds-rise}
-use Rattle.laws_turns.proofs.Lived.{run_lives, run_long}
+use Rattle.laws_turns.proofs.Lived.{actors_live_in_runs_with_falls, run_long}
 use Rattle.laws_turns.proofs.StepCases.{controller_cases}
 
 module _ (decl : Declaration) (script : Script) (fits : ℕ → List Record → Type 0)
@@ -61,10 +61,10 @@ module _ (decl : Declaration) (script : Script) (fits : ℕ → List Record → 
   run_delivered h open_inputs begins = record { mailed = tt; asked = tt; called = tt }
   run_delivered h open_inputs (takes a g before older run free rdy) =
       takes_delivered decl older a g (run_numbered (IsLawfulWithFalls decl) fits decl script older before run)
-      (ready_sent (IsLawfulWithFalls decl) fits decl script older before run a g rdy)
+      (ready_messages_were_sent_through_falls (IsLawfulWithFalls decl) fits decl script older before run a g rdy)
       (ready_lost decl script a older g rdy) (ready_called decl script a older g rdy) (run_delivered older before run)
   run_delivered h open_inputs (posts a turn before older run taken law) =
-      post_of_run older a turn (run_lives decl script fits few older before run a true taken) law
+      post_of_run older a turn (actors_live_in_runs_with_falls decl script fits few older before run a true taken) law
       (run_numbered (IsLawfulWithFalls decl) fits decl script older before run) (run_delivered older before run)
   run_delivered h open_inputs (phase before older run none done quiet more) =
       step_delivered decl older (controller decl) (steps.Phase (phase_of older + 1))
@@ -87,14 +87,17 @@ module _ (decl : Declaration) (script : Script) (fits : ℕ → List Record → 
       step_delivered decl older a (steps.Fell cause None)
       (same_mail older (marked a (steps.Fell cause None)) refl) tt tt (run_delivered older before run)
 
-  pub run_mailed : (h : List Entry) (open_inputs : List Bool) → IsRun h open_inputs → IsMailed [] h
-  run_mailed h open_inputs run = (run_delivered h open_inputs run).mailed
+  pub messages_reach_their_receivers_with_falls : (h : List Entry) (open_inputs : List Bool) → IsRun h open_inputs
+      → IsMailed [] h
+  messages_reach_their_receivers_with_falls h open_inputs run = (run_delivered h open_inputs run).mailed
 
-  pub run_by_turns : (h : List Entry) (open_inputs : List Bool) → IsRun h open_inputs → (a : ℕ) → a < actors decl
+  pub actors_go_by_turns_with_falls : (h : List Entry) (open_inputs : List Bool) → IsRun h open_inputs → (a : ℕ)
+      → a < actors decl
       → AreByTurns (is_site decl a) (deeds a [] h)
-  run_by_turns h open_inputs run a within =
+  actors_go_by_turns_with_falls h open_inputs run a within =
       let long : length open_inputs ≡ actors decl = run_long decl script fits few h open_inputs run in
       let place : (t : Bool) × (slice_get open_inputs a ≡ Some t) = slice_get-within open_inputs a (omega arith) in
-      let lived : LivesIn decl a h place.0 = run_lives decl script fits few h open_inputs run a place.0 place.1 in
-      by_turns decl a (deeds a [] h) place.0 lived.above lived.lives
+      let lived : LivesIn decl a h place.0 =
+      actors_live_in_runs_with_falls decl script fits few h open_inputs run a place.0 place.1 in
+      who_lives_goes_by_turns decl a (deeds a [] h) place.0 lived.above lived.lives
       (λ site. uncommanded decl a [] h site (run_delivered h open_inputs run).called)

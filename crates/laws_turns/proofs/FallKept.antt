@@ -7,7 +7,7 @@ use Rattle.std.proofs.lemmas.Bool.{ltb-true}
 use Rattle.qc_decl.proofs.Clients.{client_within}
 use Rattle.qc_list.proofs.Members.{every-append, every-weaker}
 use Rattle.qc_core.specs.Vocabulary.{AreGivenBack, IsLawfulWithFalls, Lives, journal_after, journal_at}
-use Rattle.qc_core.proofs.KeptBack.{back_first, back_second, kept_given_back}
+use Rattle.qc_core.proofs.KeptBack.{back_first, back_second, rises_give_back_journals_where_records_are_kept}
 use Rattle.qc_core.specs.Lives as lives
 use Rattle.qc_decl.specs.declared.declaration.Declaration.{Declaration}
 use Rattle.qc_decl.specs.Vocabulary.{actors}
@@ -29,7 +29,7 @@ use Rattle.laws_turns.proofs.StampsOwn.{IsOwnWrite}
 use Rattle.laws_turns.proofs.Places.{slice_get-within}
 use Rattle.laws_turns.specs.Vocabulary.{GivesOwn, IsOwnRecord, LivesIn, RiseWithOwn}
 use Rattle.laws_turns.proofs.FallStamps.{lawful_writes}
-use Rattle.laws_turns.proofs.Lived.{run_lives, run_long}
+use Rattle.laws_turns.proofs.Lived.{actors_live_in_runs_with_falls, run_long}
 
 -- deeds that put such records alone into a journal
 
@@ -159,12 +159,14 @@ both_true false y is = let never : ⊥ = cc in absurd never
 
 module _ (decl : Declaration) (script : Script) (fits : ℕ → List Record → Type 0)
     (few : actors decl ≤ most_actors) where
-  pub kept_rises : (h : List Entry) (open_inputs : List Bool)
+  pub clients_rise_with_own_stamps_where_records_are_kept : (h : List Entry) (open_inputs : List Bool)
       → RunsWithFalls (IsLawfulWithFalls decl) fits decl script h open_inputs → Kept h → RiseWithOwn decl h
-  kept_rises h open_inputs run kept a client =
+  clients_rise_with_own_stamps_where_records_are_kept h open_inputs run kept a client =
       let low : a < actors decl = client_within decl a client in
       let long : length open_inputs ≡ actors decl = run_long decl script fits few h open_inputs run in
       let place : (t : Bool) × (slice_get open_inputs a ≡ Some t) = slice_get-within open_inputs a (omega arith) in
-      let lived : LivesIn decl a h place.0 = run_lives decl script fits few h open_inputs run a place.0 place.1 in
+      let lived : LivesIn decl a h place.0 =
+      actors_live_in_runs_with_falls decl script fits few h open_inputs run a place.0 place.1 in
       every-weaker PutsOwn GivesOwn gives_own (deeds a [] h)
-      (life_puts decl a (deeds a [] h) place.0 lived.above lived.lives (kept_given_back h kept a))
+      (life_puts decl a (deeds a [] h) place.0 lived.above lived.lives
+      (rises_give_back_journals_where_records_are_kept h kept a))

@@ -9,8 +9,8 @@ use Rattle.qc_core.specs.Vocabulary.{AreUncommanded, IsInput, IsLawfulWithFalls,
 use Rattle.qc_core.specs.Vocabulary.{IsStamped, IsUncommanded, Lives, Serves, actor_after, is_up, with_record}
 use Rattle.qc_core.specs.Lives as lives
 use Rattle.qc_core.proofs.OpenedInputs.{Opened, opened}
-use Rattle.qc_core.proofs.SiteLaws.{are_due, shows}
-use Rattle.qc_core.proofs.SiteLives.{serves_as_lives}
+use Rattle.qc_core.proofs.SiteLaws.{answers_of_sites_are_due, sites_are_read_off_their_steps}
+use Rattle.qc_core.proofs.SiteLives.{sites_that_live_serve}
 use Rattle.qc_core.proofs.Written.{after_written}
 use Rattle.qc_decl.specs.declared.declaration.Declaration.{Declaration}
 use Rattle.qc_decl.specs.Vocabulary.{actors, controller, is_administrator, is_client, is_site}
@@ -45,7 +45,7 @@ use Rattle.laws_turns.specs.Vocabulary.{GivesOwn, LivesIn, RiseWithOwn}
 use Rattle.laws_turns.proofs.ByMailWithFalls.{run_delivered}
 use Rattle.laws_turns.proofs.FallStamps.{lawful_stamped}
 use Rattle.laws_turns.proofs.LivedMoves.{line_silent}
-use Rattle.laws_turns.proofs.Lived.{run_lives, run_long}
+use Rattle.laws_turns.proofs.Lived.{actors_live_in_runs_with_falls, run_long}
 
 -- of a longer history, and of a shorter one
 
@@ -138,7 +138,8 @@ module _ (decl : Declaration) (a : ℕ) (within : a < decl.sites) where
           ∙ ap (λ (end : _). Some (record (actor_after decl a ds).turn { append = end })) (after_written decl a ds)
 
   served_due : (ds : List Deed) (n : ℕ) → Lives decl a ds false n → Every IsSiteDeed ds → AreDue decl [] ds
-  served_due ds n life inputs = are_due decl a ds (is_up ds) within (serves_as_lives decl a ds n life inputs)
+  served_due ds n life inputs =
+      answers_of_sites_are_due decl a ds (is_up ds) within (sites_that_live_serve decl a ds n life inputs)
 
   lives_due : (ds : List Deed) (t : Bool) (n : ℕ) → Lives decl a ds t n → Every IsSiteDeed ds → AreDue decl [] ds
   lives_due ds false n life inputs = served_due ds n life inputs
@@ -167,68 +168,81 @@ module _ (decl : Declaration) (script : Script) (fits : ℕ → List Record → 
   abbrev IsRun : List Entry → List Bool → Type 0
   IsRun h open_inputs = RunsWithFalls (IsLawfulWithFalls decl) fits decl script h open_inputs
 
-  pub run_stamped : (h : List Entry) (open_inputs : List Bool) → IsRun h open_inputs → RiseWithOwn decl h
+  pub decisions_name_stamps_of_their_clients_with_falls : (h : List Entry) (open_inputs : List Bool)
+      → IsRun h open_inputs → RiseWithOwn decl h
       → IsMailStamped (mail h)
-  run_stamped h open_inputs begins given = tt
-  run_stamped h open_inputs (takes a g before older run free rdy) given =
+  decisions_name_stamps_of_their_clients_with_falls h open_inputs begins given = tt
+  decisions_name_stamps_of_their_clients_with_falls h open_inputs (takes a g before older run free rdy) given =
       subst IsMailStamped (sym (mail-taken older a g))
-      (run_stamped older before run (given_first decl older (marked a (step_of g) ∷ []) given))
-  run_stamped h open_inputs (posts a turn before older run taken law) given =
+      (decisions_name_stamps_of_their_clients_with_falls older before run
+      (given_first decl older (marked a (step_of g) ∷ []) given))
+  decisions_name_stamps_of_their_clients_with_falls h open_inputs (posts a turn before older run taken law) given =
       let past : RiseWithOwn decl older = given_first decl older
       (by a (posted_as turn.append (length (mail older)) turn)) given in
       post_stamped a older turn (lawful_stamped decl a (deeds a [] older) turn law (past a))
-      (run_stamped older before run past)
-  run_stamped h open_inputs (phase before older run none done quiet more) given =
+      (decisions_name_stamps_of_their_clients_with_falls older before run past)
+  decisions_name_stamps_of_their_clients_with_falls h open_inputs (phase before older run none done quiet more) given =
       subst IsMailStamped (sym (mail-silent older (controller decl) (steps.Phase (phase_of older + 1))
       (phase_silent (phase_of older + 1))))
-      (run_stamped older before run (given_first decl older
+      (decisions_name_stamps_of_their_clients_with_falls older before run (given_first decl older
       (marked (controller decl) (steps.Phase (phase_of older + 1)) ∷ []) given))
-  run_stamped h open_inputs (control line lines step before older run left is) given =
+  decisions_name_stamps_of_their_clients_with_falls h open_inputs (control line lines step before older run left is)
+      given =
       subst IsMailStamped (sym (mail-silent older (controller decl) step (line_silent line step is)))
-      (run_stamped older before run (given_first decl older (marked (controller decl) step ∷ []) given))
-  run_stamped h open_inputs (falls a lines before older run left) given =
+      (decisions_name_stamps_of_their_clients_with_falls older before run
+      (given_first decl older (marked (controller decl) step ∷ []) given))
+  decisions_name_stamps_of_their_clients_with_falls h open_inputs (falls a lines before older run left) given =
       subst IsMailStamped (sym (same_mail older (marked a (steps.Fell causes.Script None)) refl))
-      (run_stamped older before run (given_first decl older (marked a (steps.Fell causes.Script None) ∷ []) given))
-  run_stamped h open_inputs (rises a records turn lines before older run left fit has law) given =
+      (decisions_name_stamps_of_their_clients_with_falls older before run
+      (given_first decl older (marked a (steps.Fell causes.Script None) ∷ []) given))
+  decisions_name_stamps_of_their_clients_with_falls h open_inputs
+      (rises a records turn lines before older run left fit has law) given =
       rise_stamped a older records turn
       (lawful_stamped decl a (deeds a [] (older ++ marked a (steps.Rose records) ∷ [])) turn law
       (given_first decl (older ++ marked a (steps.Rose records) ∷ [])
       (by a (posted_as turn.append (length (mail older)) turn))
       (subst (RiseWithOwn decl) (sym (append_assoc older (marked a (steps.Rose records) ∷ [])
       (by a (posted_as turn.append (length (mail older)) turn)))) given) a))
-      (run_stamped older before run (given_first decl older
+      (decisions_name_stamps_of_their_clients_with_falls older before run (given_first decl older
       (by a (steps.Rose records ∷ posted_as turn.append (length (mail older)) turn)) given))
-  run_stamped h open_inputs (damaged a offset lines before older run left) given =
+  decisions_name_stamps_of_their_clients_with_falls h open_inputs (damaged a offset lines before older run left) given =
       subst IsMailStamped (sym (same_mail older (marked a (steps.Damaged offset)) refl))
-      (run_stamped older before run (given_first decl older (marked a (steps.Damaged offset) ∷ []) given))
-  run_stamped h open_inputs (unopened a cause lines before older run left disk) given =
+      (decisions_name_stamps_of_their_clients_with_falls older before run
+      (given_first decl older (marked a (steps.Damaged offset) ∷ []) given))
+  decisions_name_stamps_of_their_clients_with_falls h open_inputs (unopened a cause lines before older run left disk)
+      given =
       subst IsMailStamped (sym (same_mail older (marked a (steps.Fell cause None)) refl))
-      (run_stamped older before run (given_first decl older (marked a (steps.Fell cause None) ∷ []) given))
+      (decisions_name_stamps_of_their_clients_with_falls older before run
+      (given_first decl older (marked a (steps.Fell cause None) ∷ []) given))
 
   module _ (h : List Entry) (open_inputs : List Bool) (run : IsRun h open_inputs) (given : RiseWithOwn decl h)
       (site : ℕ) (within : site < decl.sites) where
-    pub run_site_deeds : Every IsSiteDeed (deeds site [] h)
-    run_site_deeds =
-        site_deeds (deeds site [] h) (deeds_inputs site [] h tt (run_stamped h open_inputs run given))
+    pub sites_take_site_inputs_with_falls : Every IsSiteDeed (deeds site [] h)
+    sites_take_site_inputs_with_falls =
+        site_deeds (deeds site [] h)
+        (deeds_inputs site [] h tt (decisions_name_stamps_of_their_clients_with_falls h open_inputs run given))
         (uncommanded decl site [] h (lt-ltb site decl.sites within)
         (run_delivered decl script fits few h open_inputs run).called)
 
-    pub run_serves : slice_get open_inputs site ≡ Some false
+    pub sites_serve_with_falls : slice_get open_inputs site ≡ Some false
         → Serves decl site (deeds site [] h) (is_up (deeds site [] h))
-    run_serves free =
-        let lived : LivesIn decl site h false = run_lives decl script fits few h open_inputs run site false free in
-        serves_as_lives decl site (deeds site [] h) lived.above lived.lives run_site_deeds
+    sites_serve_with_falls free =
+        let lived : LivesIn decl site h false =
+        actors_live_in_runs_with_falls decl script fits few h open_inputs run site false free in
+        sites_that_live_serve decl site (deeds site [] h) lived.above lived.lives sites_take_site_inputs_with_falls
 
-    pub run_shown : slice_get open_inputs site ≡ Some false → is_up (deeds site [] h) ≡ true
+    pub sites_are_what_their_steps_show_with_falls : slice_get open_inputs site ≡ Some false
+        → is_up (deeds site [] h) ≡ true
         → (s : _) × ((actor_after decl site (deeds site [] h)).actor ≡ Site s) × IsShown (deeds site [] h) s
-    run_shown free up = shows decl site (deeds site [] h) within
-        (subst (Serves decl site (deeds site [] h)) up (run_serves free))
+    sites_are_what_their_steps_show_with_falls free up =
+        sites_are_read_off_their_steps decl site (deeds site [] h) within
+        (subst (Serves decl site (deeds site [] h)) up (sites_serve_with_falls free))
 
-    pub run_due : AreDue decl [] (deeds site [] h)
-    run_due =
+    pub what_sites_post_is_due_with_falls : AreDue decl [] (deeds site [] h)
+    what_sites_post_is_due_with_falls =
         let long : length open_inputs ≡ actors decl = run_long decl script fits few h open_inputs run in
         let place : (t : Bool) × (slice_get open_inputs site ≡ Some t) =
         slice_get-within open_inputs site (omega arith) in
         let lived : LivesIn decl site h place.0 =
-        run_lives decl script fits few h open_inputs run site place.0 place.1 in
-        lives_due decl site within (deeds site [] h) place.0 lived.above lived.lives run_site_deeds
+        actors_live_in_runs_with_falls decl script fits few h open_inputs run site place.0 place.1 in
+        lives_due decl site within (deeds site [] h) place.0 lived.above lived.lives sites_take_site_inputs_with_falls

@@ -6,8 +6,9 @@ use Rattle.qc_core.specs.Lives as lives
 use Rattle.qc_decl.specs.declared.declaration.Declaration.{Declaration}
 use Rattle.qc_decl.specs.Vocabulary.{actors, controller}
 use Rattle.qc_mailbox.specs.Vocabulary.{IsCommand, is_down}
-use Rattle.qc_mailbox.proofs.FallLaws.{crashes_up, down_commanded, lines_close, restarts_down, up_by_deeds}
-use Rattle.qc_mailbox.proofs.FallMail.{ready_sent}
+use Rattle.qc_mailbox.proofs.FallLaws.{crashes_up, down_commanded, no_input_is_open_while_a_line_is_left, restarts_down}
+use Rattle.qc_mailbox.proofs.FallLaws.{inboxes_know_who_is_up}
+use Rattle.qc_mailbox.proofs.FallMail.{ready_messages_were_sent_through_falls}
 use Rattle.laws_turns.proofs.Acted.{deeds-silent, open_elsewhere, open_here}
 use Rattle.laws_turns.proofs.Numbered.{phase_silent}
 use Rattle.laws_turns.proofs.Places.{length-replicate, length-slice_set, replicate_at}
@@ -60,7 +61,8 @@ module _ (decl : Declaration) (script : Script) where
     up_in : (h : List Entry) (open_inputs : List Bool) → IsRun h open_inputs → (a : ℕ) → a < most_actors
         → boxes.is_up (inbox script 0 h).up a ≡ not (is_down (deeds a [] h))
     up_in h open_inputs run a within =
-        up_by_deeds (IsLawfulWithFalls decl) fits decl script h open_inputs few (who_is_down_only_tells decl) run a 0
+        inboxes_know_who_is_up (IsLawfulWithFalls decl) fits decl script h open_inputs few (who_is_down_only_tells decl)
+        run a 0
         within
         (omega arith)
 
@@ -91,7 +93,8 @@ module _ (decl : Declaration) (script : Script) where
         → controls_left script h ≡ line ∷ lines → (a : ℕ) (t : Bool) → slice_get open_inputs a ≡ Some t → t ≡ false
     closed h open_inputs run line lines left a false is = refl
     closed h open_inputs run line lines left a true is =
-        absurd (lines_close (IsLawfulWithFalls decl) fits decl script h open_inputs few run line lines left a is)
+        absurd (no_input_is_open_while_a_line_is_left (IsLawfulWithFalls decl) fits decl script h open_inputs few run
+        line lines left a is)
 
     abbrev Old : List Entry → List Bool → Type 0
     Old older before = (a : ℕ) (t : Bool) → slice_get before a ≡ Some t → LivesIn decl a older t
@@ -115,13 +118,14 @@ module _ (decl : Declaration) (script : Script) where
 
     -- each actor
 
-    pub run_lives : (h : List Entry) (open_inputs : List Bool) → IsRun h open_inputs → (a : ℕ) (t : Bool)
+    pub actors_live_in_runs_with_falls : (h : List Entry) (open_inputs : List Bool) → IsRun h open_inputs
+        → (a : ℕ) (t : Bool)
         → slice_get open_inputs a ≡ Some t → LivesIn decl a h t
-    run_lives h open_inputs begins a t is =
+    actors_live_in_runs_with_falls h open_inputs begins a t is =
         subst (λ (v : Bool). LivesIn decl a [] v) (sym (replicate_at (actors decl) a false t is))
         (record { above = 0; lives = lives.starts; within = zero-le })
-    run_lives h open_inputs (takes c given before older run free rdy) a t is =
-        at (c == a) refl (run_lives older before run)
+    actors_live_in_runs_with_falls h open_inputs (takes c given before older run free rdy) a t is =
+        at (c == a) refl (actors_live_in_runs_with_falls older before run)
       where
         at : (same : Bool) → (c == a) ≡ same → Old older before
             → LivesIn decl a (older ++ marked c (step_of given) ∷ []) t
@@ -130,15 +134,16 @@ module _ (decl : Declaration) (script : Script) where
             (open_here before a c true false t same free is)
             (subst (λ (k : ℕ). LivesIn decl k (older ++ marked c (step_of given) ∷ []) true) (eqb-true c a same)
             (lives_takes decl script c given older
-            (ready_sent (IsLawfulWithFalls decl) fits decl script older before run c given rdy) rdy
+            (ready_messages_were_sent_through_falls (IsLawfulWithFalls decl) fits decl script older before run c given
+            rdy) rdy
             (reaches older before run c (low older before run c false free) given rdy) (old c false free)))
         at false other old =
             lives_on decl script a t older (older ++ marked c (step_of given) ∷ [])
             (deeds-other c a [] older (step_of given ∷ []) other)
             (mail_grows decl script older (marked c (step_of given) ∷ []))
             (old a t (open_elsewhere before a c true t other is))
-    run_lives h open_inputs (posts c turn before older run taken law) a t is =
-        at (c == a) refl (run_lives older before run)
+    actors_live_in_runs_with_falls h open_inputs (posts c turn before older run taken law) a t is =
+        at (c == a) refl (actors_live_in_runs_with_falls older before run)
       where
         at : (same : Bool) → (c == a) ≡ same → Old older before
             → LivesIn decl a (older ++ by c (posted_as turn.append (length (mail older)) turn)) t
@@ -153,18 +158,20 @@ module _ (decl : Declaration) (script : Script) where
             (deeds-other c a [] older (posted_as turn.append (length (mail older)) turn) other)
             (mail_grows decl script older (by c (posted_as turn.append (length (mail older)) turn)))
             (old a t (open_elsewhere before a c false t other is))
-    run_lives h open_inputs (phase before older run none done quiet more) a t is =
+    actors_live_in_runs_with_falls h open_inputs (phase before older run none done quiet more) a t is =
         lives_on decl script a t older (older ++ marked (controller decl) (steps.Phase (phase_of older + 1)) ∷ [])
         (deeds-silent a (controller decl) older (steps.Phase (phase_of older + 1))
         (phase_silent (phase_of older + 1)))
         (mail_grows decl script older (marked (controller decl) (steps.Phase (phase_of older + 1)) ∷ []))
-        (run_lives older before run a t is)
-    run_lives h open_inputs (control line lines step before older run left is_step) a t is =
+        (actors_live_in_runs_with_falls older before run a t is)
+    actors_live_in_runs_with_falls h open_inputs (control line lines step before older run left is_step) a t is =
         lives_on decl script a t older (older ++ marked (controller decl) step ∷ [])
         (deeds-silent a (controller decl) older step (line_silent line step is_step))
-        (mail_grows decl script older (marked (controller decl) step ∷ [])) (run_lives older before run a t is)
-    run_lives h open_inputs (falls c lines before older run left) a t is =
-        by_line c a t older before (steps.Fell causes.Script None ∷ []) is (run_lives older before run) own
+        (mail_grows decl script older (marked (controller decl) step ∷ []))
+        (actors_live_in_runs_with_falls older before run a t is)
+    actors_live_in_runs_with_falls h open_inputs (falls c lines before older run left) a t is =
+        by_line c a t older before (steps.Fell causes.Script None ∷ []) is
+        (actors_live_in_runs_with_falls older before run) own
       where
         none : t ≡ false
         none = closed older before run (controls.Crash c) lines left a t is
@@ -179,9 +186,9 @@ module _ (decl : Declaration) (script : Script) where
             (sym (crashes_up (IsLawfulWithFalls decl) fits decl script older before few run c lines left)
             ∙ up_in older before run c (low older before run c t here))))
             (subst (LivesIn decl c older) none r))
-    run_lives h open_inputs (rises c records turn lines before older run left fit has law) a t is =
+    actors_live_in_runs_with_falls h open_inputs (rises c records turn lines before older run left fit has law) a t is =
         by_line c a t older before (steps.Rose records ∷ posted_as turn.append (length (mail older)) turn) is
-        (run_lives older before run) own
+        (actors_live_in_runs_with_falls older before run) own
       where
         none : t ≡ false
         none = closed older before run (controls.Restart c) lines left a t is
@@ -196,12 +203,13 @@ module _ (decl : Declaration) (script : Script) where
             (sym (restarts_down (IsLawfulWithFalls decl) fits decl script older before few run c lines left)
             ∙ up_in older before run c (low older before run c t here)))
             law (subst (LivesIn decl c older) none r))
-    run_lives h open_inputs (damaged c offset lines before older run left) a t is =
+    actors_live_in_runs_with_falls h open_inputs (damaged c offset lines before older run left) a t is =
         lives_on decl script a t older (older ++ marked c (steps.Damaged offset) ∷ [])
         (deeds-silent a c older (steps.Damaged offset) (damage_silent offset))
-        (mail_grows decl script older (marked c (steps.Damaged offset) ∷ [])) (run_lives older before run a t is)
-    run_lives h open_inputs (unopened c cause lines before older run left disk) a t is =
-        by_line c a t older before (steps.Fell cause None ∷ []) is (run_lives older before run) own
+        (mail_grows decl script older (marked c (steps.Damaged offset) ∷ []))
+        (actors_live_in_runs_with_falls older before run a t is)
+    actors_live_in_runs_with_falls h open_inputs (unopened c cause lines before older run left disk) a t is =
+        by_line c a t older before (steps.Fell cause None ∷ []) is (actors_live_in_runs_with_falls older before run) own
       where
         none : t ≡ false
         none = closed older before run (controls.Restart c) lines left a t is

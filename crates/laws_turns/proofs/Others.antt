@@ -104,30 +104,31 @@ module _ (decl : Declaration) (script : Script) (fits : ℕ → List Record → 
           absurd (turnless decl c (deeds c [] (h ++ marked c (steps.Rose records) ∷ [])) turn
           (subst (λ (k : ℕ). actors decl ≤ k) (sym (eqb-true c a same)) past) law)
 
-  pub others_fall : (h : List Entry) (open_inputs : List Bool) → IsRun h open_inputs → (a : ℕ) → actors decl ≤ a
+  pub others_do_nothing_with_falls : (h : List Entry) (open_inputs : List Bool) → IsRun h open_inputs → (a : ℕ)
+      → actors decl ≤ a
       → OnlyFalls a h
-  others_fall h open_inputs begins a past = tt
-  others_fall h open_inputs (takes c given before older run free rdy) a past =
+  others_do_nothing_with_falls h open_inputs begins a past = tt
+  others_do_nothing_with_falls h open_inputs (takes c given before older run free rdy) a past =
       elsewhere a c older (step_of given ∷ []) (apart older before run a c false past free)
-      (others_fall older before run a past)
-  others_fall h open_inputs (posts c turn before older run taken law) a past =
+      (others_do_nothing_with_falls older before run a past)
+  others_do_nothing_with_falls h open_inputs (posts c turn before older run taken law) a past =
       elsewhere a c older (posted_as turn.append (length (mail older)) turn)
       (apart older before run a c true past taken)
-      (others_fall older before run a past)
-  others_fall h open_inputs (phase before older run none done quiet more) a past =
+      (others_do_nothing_with_falls older before run a past)
+  others_do_nothing_with_falls h open_inputs (phase before older run none done quiet more) a past =
       subst (Every IsFall)
       (sym (deeds-silent a (controller decl) older (steps.Phase (phase_of older + 1))
       (phase_silent (phase_of older + 1))))
-      (others_fall older before run a past)
-  others_fall h open_inputs (control line lines step before older run left is_step) a past =
+      (others_do_nothing_with_falls older before run a past)
+  others_do_nothing_with_falls h open_inputs (control line lines step before older run left is_step) a past =
       subst (Every IsFall) (sym (deeds-silent a (controller decl) older step (line_silent line step is_step)))
-      (others_fall older before run a past)
-  others_fall h open_inputs (falls c lines before older run left) a past =
-      fallen a c older causes.Script (others_fall older before run a past)
-  others_fall h open_inputs (rises c records turn lines before older run left fit has law) a past =
-      risen a c older records turn past law (others_fall older before run a past)
-  others_fall h open_inputs (damaged c offset lines before older run left) a past =
+      (others_do_nothing_with_falls older before run a past)
+  others_do_nothing_with_falls h open_inputs (falls c lines before older run left) a past =
+      fallen a c older causes.Script (others_do_nothing_with_falls older before run a past)
+  others_do_nothing_with_falls h open_inputs (rises c records turn lines before older run left fit has law) a past =
+      risen a c older records turn past law (others_do_nothing_with_falls older before run a past)
+  others_do_nothing_with_falls h open_inputs (damaged c offset lines before older run left) a past =
       subst (Every IsFall) (sym (deeds-silent a c older (steps.Damaged offset) (damage_silent offset)))
-      (others_fall older before run a past)
-  others_fall h open_inputs (unopened c cause lines before older run left disk) a past =
-      fallen a c older cause (others_fall older before run a past)
+      (others_do_nothing_with_falls older before run a past)
+  others_do_nothing_with_falls h open_inputs (unopened c cause lines before older run left disk) a past =
+      fallen a c older cause (others_do_nothing_with_falls older before run a past)

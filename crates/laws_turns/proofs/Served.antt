@@ -3,7 +3,7 @@ use Rattle.std.proofs.Common.{◌≡◌, ℕ, ◌+◌, ◌-◌, ◌<◌, Bool, t
 use Rattle.std.proofs.Common.{slice_get, refl, sym, ap, ◌∙◌, subst, arith, append_assoc}
 use Rattle.std.specs.List.{AllByRecursion as Every}
 use Rattle.std.proofs.lemmas.Bool.{lt-ltb, ltb-true}
-use Rattle.qc_core.proofs.SiteLaws.{are_due, shows}
+use Rattle.qc_core.proofs.SiteLaws.{answers_of_sites_are_due, sites_are_read_off_their_steps}
 use Rattle.qc_core.specs.Vocabulary.{ActorMove, Acts, AreSteady, IsInput, IsLawful, IsLawfulWithFalls, IsShown, Serves}
 use Rattle.qc_core.specs.Vocabulary.{actor_after, posts, starts, stays_up, takes}
 use Rattle.qc_core.proofs.ActorLaws.{at_site}
@@ -125,12 +125,13 @@ module _ (decl : Declaration) where
         (due_cut [] s.before (turn_deeds 0 (site_after decl a ds).turn) s.taken
         (subst (AreDue decl []) (ap (λ (v : List Deed). v ++ turn_deeds 0 (site_after decl a ds).turn) s.is
         ∙ append_assoc s.before (Takes s.taken ∷ []) (turn_deeds 0 (site_after decl a ds).turn))
-        (are_due decl a (ds ++ turn_deeds 0 (site_after decl a ds).turn) true (ltb-true a decl.sites site)
+        (answers_of_sites_are_due decl a (ds ++ turn_deeds 0 (site_after decl a ds).turn) true
+        (ltb-true a decl.sites site)
         (post_serves ds (site_after decl a ds).turn 0 steady (its_turn site ds) s))))
 
     serves_due : is_site decl a ≡ true → (ds : List Deed) → AreSteady ds → (t : Bool) → ServesAt ds t
         → AreDue decl [] ds
-    serves_due site ds steady false served = are_due decl a ds true (ltb-true a decl.sites site) served
+    serves_due site ds steady false served = answers_of_sites_are_due decl a ds true (ltb-true a decl.sites site) served
     serves_due site ds steady true s = serving_due site ds steady s
 
 -- in each run
@@ -158,7 +159,8 @@ module _ (decl : Declaration) (script : Script) (h : List Entry) (open_inputs : 
       → IsShown (deeds site [] h) (site_after decl site (deeds site [] h)).site
   sites_are_what_their_steps_show free =
       let it : (s : SiteState) × ((actor_after decl site (deeds site [] h)).actor ≡ Site s)
-      × IsShown (deeds site [] h) s = shows decl site (deeds site [] h) within (sites_serve free) in
+      × IsShown (deeds site [] h) s =
+      sites_are_read_off_their_steps decl site (deeds site [] h) within (sites_serve free) in
       let at : Site (site_after decl site (deeds site [] h)).site ≡ Site it.0 =
       sym (ap (λ (m : ActorMove). m.actor) (at_site decl site (deeds site [] h) (steady false free) a_site))
       ∙ it.1 in

@@ -29,7 +29,7 @@ pub fn who_is_down_only_tells()
 /// In a run with falls each actor takes inputs and posts turns, falls and rises,
 /// by its deeds; it has an open input just where the run says so. With which
 /// records it rises isn't said here.
-#[tactic(auto, using(crate::proofs::Lived::run_lives))]
+#[tactic(auto, using(crate::proofs::Lived::actors_live_in_runs_with_falls))]
 pub fn actors_live_in_runs_with_falls<C: ConductWithFalls>()
     ensures { OfEachRun C.fits (λ decl script h open_inputs. (a : ℕ) (is_open : Bool)
         → slice_get open_inputs a ≡ Some is_open → LivesIn decl a h is_open) }
@@ -38,7 +38,7 @@ pub fn actors_live_in_runs_with_falls<C: ConductWithFalls>()
 /// In a run with falls each actor goes by turns: it posts for each input and as
 /// it rises, its record first, it falls within a post only with its record, and
 /// while it is down it only tells so.
-#[tactic(auto, using(crate::proofs::ByMailWithFalls::run_by_turns))]
+#[tactic(auto, using(crate::proofs::ByMailWithFalls::actors_go_by_turns_with_falls))]
 pub fn actors_go_by_turns_with_falls<C: ConductWithFalls>()
     ensures { OfEachRun C.fits (λ decl script h open_inputs. (a : ℕ) → a < actors decl
         → AreByTurns (is_site decl a) (deeds a [] h)) }
@@ -56,13 +56,13 @@ pub fn messages_are_numbered_in_order_with_falls<C: ConductWithFalls>()
 /// Who is neither a site nor a client, as the administrator and the controller, only
 /// falls in a run with falls, with nothing being written: it takes nothing, posts
 /// nothing and doesn't rise.
-#[tactic(auto, using(crate::proofs::Others::others_fall))]
+#[tactic(auto, using(crate::proofs::Others::others_do_nothing_with_falls))]
 pub fn others_do_nothing_with_falls<C: ConductWithFalls>()
     ensures { OfEachRun C.fits (λ decl script h open_inputs. (a : ℕ) → actors decl ≤ a → Every IsFall (deeds a [] h)) }
 {}
 
 /// In a run with falls messages reach those whom they were sent to.
-#[tactic(auto, using(crate::proofs::ByMailWithFalls::run_mailed))]
+#[tactic(auto, using(crate::proofs::ByMailWithFalls::messages_reach_their_receivers_with_falls))]
 pub fn messages_reach_their_receivers_with_falls<C: ConductWithFalls>()
     ensures { OfEachRun C.fits (λ decl script h open_inputs. IsMailed [] h) }
 {}

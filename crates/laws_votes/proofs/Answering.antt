@@ -5,8 +5,8 @@ use Rattle.std.proofs.Common.{◌≡◌, ◌≢◌, ◌⊎◌, ◌<◌, ◌≤�
 use Rattle.std.proofs.Common.{List, [], ◌∷◌, ◌++◌, inl, inr, Option, Some, None, slice_get, refl, sym, ap, ◌∙◌, subst}
 use Rattle.std.proofs.Common.{arith, ltb-true, eqb-true}
 use Rattle.std.specs.List.{AllByRecursion as Every}
-use Rattle.qc_core.proofs.SiteLaws.{shows}
-use Rattle.qc_core.proofs.SiteLives.{serves_as_lives}
+use Rattle.qc_core.proofs.SiteLaws.{sites_are_read_off_their_steps}
+use Rattle.qc_core.proofs.SiteLives.{sites_that_live_serve}
 use Rattle.qc_core.specs.Vocabulary.{ActorMove, IsLawfulWithFalls, IsShown, IsSiteDeed, Lives, Serves, actor_after}
 use Rattle.qc_core.specs.Vocabulary.{actor_takes, is_up, up_at}
 use Rattle.std.proofs.lemmas.Bool.{cases_eq, lt-ltb}
@@ -31,9 +31,9 @@ use Rattle.laws_votes.proofs.SiteClocks.{same_site}
 use Rattle.qc_link.specs.Vocabulary.{most_actors}
 use Rattle.qc_list.specs.Vocabulary.{In}
 use Rattle.laws_turns.proofs.Downs.{due}
-use Rattle.laws_turns.proofs.FallKept.{kept_rises}
-use Rattle.laws_turns.proofs.FallServed.{run_site_deeds}
-use Rattle.laws_turns.proofs.Lived.{run_lives}
+use Rattle.laws_turns.proofs.FallKept.{clients_rise_with_own_stamps_where_records_are_kept}
+use Rattle.laws_turns.proofs.FallServed.{sites_take_site_inputs_with_falls}
+use Rattle.laws_turns.proofs.Lived.{actors_live_in_runs_with_falls}
 use Rattle.laws_turns.specs.Vocabulary.{LivesIn}
 use Rattle.qc_lock.specs.Vocabulary.{held_of, is_held}
 use Rattle.qc_msg.specs.Vocabulary.{Deed, Entry, Takes, WasSentTo, deeds, has_granted, life_of, mail, prepare_length}
@@ -102,12 +102,13 @@ module _ (fits : ℕ → List Record → Type 0) (decl : Declaration) (script : 
   served = at b_slot
     where
       b_slot : LivesIn decl b h true
-      b_slot = run_lives decl script fits few h open_inputs run b true taken
+      b_slot = actors_live_in_runs_with_falls decl script fits few h open_inputs run b true taken
 
       inputs : Every IsSiteDeed before
       inputs = every_front IsSiteDeed before (Takes input ∷ [])
-          (subst (Every IsSiteDeed) deeds_are (run_site_deeds decl script fits few h open_inputs run
-          (kept_rises decl script fits few h open_inputs run kept) b (ltb-true b decl.sites site)))
+          (subst (Every IsSiteDeed) deeds_are (sites_take_site_inputs_with_falls decl script fits few h open_inputs run
+          (clients_rise_with_own_stamps_where_records_are_kept decl script fits few h open_inputs run kept) b
+          (ltb-true b decl.sites site)))
 
       up_before : is_up before ≡ true
       up_before = sym (fold-append up_at true before (Takes input ∷ [])) ∙ sym (ap is_up deeds_are) ∙ up
@@ -116,12 +117,12 @@ module _ (fits : ℕ → List Record → Type 0) (decl : Declaration) (script : 
       at l =
           let o = life_before decl b (deeds b [] h) true l.above l.lives refl in
           let same = snoc_same o.0 before (Takes o.1) (Takes input) (sym o.3.0 ∙ deeds_are) in
-          subst (Serves decl b before) up_before (serves_as_lives decl b before o.2
+          subst (Serves decl b before) up_before (sites_that_live_serve decl b before o.2
           (subst (λ (v : List Deed). Lives decl b v false o.2) same.0 o.3.1) inputs)
 
   sh : IsShown before s
   sh =
-      let v = shows decl b before (ltb-true b decl.sites site) served in
+      let v = sites_are_read_off_their_steps decl b before (ltb-true b decl.sites site) served in
       subst (IsShown before) (same_site v.0 s (sym v.1 ∙ was)) v.2
 
   mir : SiteMirrors decl s (machine.deeds b) (machine.life b)

@@ -126,7 +126,8 @@ module _ (decl : Declaration) where
                 placed (mail older) a (length (mail older)) ps e refl now in
                 elim (new e to vote now p) [
                   | inl there ↦ inl there
-                  | inr v ↦ inr (subst (λ (b : ℕ). IsCast (mail (older ++ xs)) to (life_at (older ++ xs) b)) (sym p.from)
+                  | inr v ↦ inr
+                      (subst (λ (b : ℕ). IsCast (mail (older ++ xs)) to (life_at (older ++ xs) b)) (sym p.from)
                       (subst (λ (ms : List Envelope). IsCast ms to (life_at (older ++ xs) a)) (sym grows) v))
                 ])
           ]

@@ -16,12 +16,12 @@ use Rattle.qc_core.specs.Vocabulary.{ActorMove, IsLawfulWithFalls, actor_after, 
 use Rattle.qc_decl.specs.Vocabulary.{IsAccepted, actors, administrator, client_actor, is_client}
 use Rattle.qc_decl.specs.declared.declaration.Declaration.{Declaration}
 use Rattle.laws_due.proofs.Declared.{run_declares}
-use Rattle.laws_due.proofs.KeptPlanned.{kept_planned}
+use Rattle.laws_due.proofs.KeptPlanned.{what_rises_is_planned_where_records_are_kept}
 use Rattle.qc_entry.specs.declared.record.Commit.{Commit as CommitRecord}
 use Rattle.laws_turns.proofs.Places.{slice_get-within}
 use Rattle.qc_link.specs.Vocabulary.{most_actors}
 use Rattle.laws_turns.specs.Vocabulary.{LivesIn}
-use Rattle.laws_turns.proofs.Lived.{run_lives, run_long}
+use Rattle.laws_turns.proofs.Lived.{actors_live_in_runs_with_falls, run_long}
 use Rattle.qc_msg.specs.Vocabulary.{Deed, Entry, Takes, deeds, sends_of, tells_of, writes_of}
 use Rattle.qc_msg.specs.declared.record.Record.{Record}
 use Rattle.qc_msg.specs.declared.record.Record.TheVariants.{Commit}
@@ -49,10 +49,11 @@ module _ (fits : ℕ → List Record → Type 0) (decl : Declaration) (script : 
   pub client_at : (a : ℕ) → is_client decl a ≡ true → (t : Bool) → slice_get open_inputs a ≡ Some t
       → IsAt decl a (deeds a [] h) t
   client_at a client t slot =
-      let lived : LivesIn decl a h t = run_lives decl script fits few h open_inputs run a t slot in
+      let lived : LivesIn decl a h t = actors_live_in_runs_with_falls decl script fits few h open_inputs run a t slot in
       let declared : Declares decl (deeds a [] h) =
       run_declares decl script fits accepted (scripts_ask_what_is_declared decl script accepted sound) h open_inputs run
-      (kept_planned decl script fits accepted (scripts_ask_what_is_declared decl script accepted sound) h open_inputs
+      (what_rises_is_planned_where_records_are_kept decl script fits accepted
+      (scripts_ask_what_is_declared decl script accepted sound) h open_inputs
       run kept) a
       in
       client_lives decl a client declared.first (deeds a [] h) t lived.above lived.lives declared.deeds

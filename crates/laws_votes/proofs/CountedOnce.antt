@@ -33,7 +33,7 @@ use Rattle.qc_script.specs.declared.script.Script.{Script}
 use Rattle.qc_stamp.proofs.Orders.{stamps_are_ordered}
 use Rattle.qc_stamp.specs.Vocabulary.{stamp_cmp}
 use Rattle.laws_reach.proofs.RisingStamps.{commits_of}
-use Rattle.laws_reach.proofs.VerdictLaw.{records_rise}
+use Rattle.laws_reach.proofs.RecordsRise.{records_rise}
 use Rattle.std.specs.List.{AllPairs}
 
 never_itself : (c : CommitRecord) → IsStampedBefore c c → ⊥

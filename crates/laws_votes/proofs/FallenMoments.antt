@@ -248,7 +248,8 @@ module _ (fits : ℕ → List Record → Type 0) (decl : Declaration) (script : 
   fallen_moment h inputs (phase slots older run idle done quiet more) kept before a cause c after is =
       elim (split older (marked _ (steps.Phase (phase_of older + 1)) ∷ []) before (falls_writing a cause c) after is) [
         | First m s ↦ fallen_moment older slots run (kept_of_first older _ kept) before a cause c m s
-        | Second m e s ↦ absurd (dry_none _ (dry_one (marked _ (steps.Phase (phase_of older + 1))) refl) m a cause c after
+        | Second m e s
+            ↦ absurd (dry_none _ (dry_one (marked _ (steps.Phase (phase_of older + 1))) refl) m a cause c after
             s)
       ]
   fallen_moment h inputs (control line lines acted slots older run left acts) kept before a cause c after is =

@@ -33,8 +33,8 @@ use Rattle.laws_votes.proofs.SiteClocks.{same_site}
 use Rattle.qc_link.specs.Vocabulary.{most_actors}
 use Rattle.qc_list.specs.Vocabulary.{In}
 use Rattle.qc_list.proofs.Members.{every-In}
-use Rattle.laws_turns.proofs.FallKept.{kept_rises}
-use Rattle.laws_turns.proofs.FallServed.{run_shown}
+use Rattle.laws_turns.proofs.FallKept.{clients_rise_with_own_stamps_where_records_are_kept}
+use Rattle.laws_turns.proofs.FallServed.{sites_are_what_their_steps_show_with_falls}
 use Rattle.qc_lock.proofs.Order.{sorted-find}
 use Rattle.qc_lock.specs.Vocabulary.{IsSound, held_of}
 use Rattle.qc_msg.specs.Vocabulary.{Deed, Entry, Takes, answered, deeds, prepare_length}
@@ -109,7 +109,8 @@ module _ (fits : ℕ → List Record → Type 0) (decl : Declaration) (script : 
         → slice_get inputs b ≡ Some false → is_up (deeds b [] older) ≡ true
         → (actor_after decl b (deeds b [] older)).actor ≡ actor.Site s → IsSeen (deeds b [] older)
     seen older inputs r k free was_up is =
-        let v = run_shown decl script fits few older inputs r (kept_rises decl script fits few older inputs r k) b
+        let v = sites_are_what_their_steps_show_with_falls decl script fits few older inputs r
+        (clients_rise_with_own_stamps_where_records_are_kept decl script fits few older inputs r k) b
         (ltb-true b decl.sites site) free was_up in
         let n : MoveNamed decl b (actor_after decl b (deeds b [] older)) =
         (run_named decl accepted script sound fits older inputs r k).actors_are b in

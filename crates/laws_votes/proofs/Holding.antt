@@ -13,14 +13,13 @@ use Rattle.qc_list.specs.Vocabulary.{In}
 use Rattle.qc_list.proofs.Members.{In-first, In-second}
 use Rattle.qc_lock.specs.Vocabulary.{entry_of, held_of, is_held}
 use Rattle.qc_lock.specs.declared.held.Held.{Held}
-use Rattle.qc_msg.specs.Vocabulary.{Entry, deeds, has_granted, life_of, mail}
+use Rattle.qc_msg.specs.Vocabulary.{Entry, deeds, has_granted, life_of, mail, grant_with}
 use Rattle.qc_msg.specs.declared.message.Answer.TheVariants as answers
 use Rattle.qc_msg.specs.declared.message.Envelope.{Envelope}
 use Rattle.qc_msg.specs.declared.message.Message.TheVariants as messages
 use Rattle.qc_msg.specs.declared.message.Want.{Want}
 use Rattle.qc_msg.specs.declared.message.Want.TheVariants.{Append, Prepare, Read}
 use Rattle.qc_msg.specs.declared.record.Record.{Record}
-use Rattle.qc_msg.specs.Vocabulary.{grant_with}
 use Rattle.laws_refinement.specs.Vocabulary.{IsGrantTo, IsGrantable, IsHeld, IsRequest, SiteMirrors, items_wanted}
 use Rattle.laws_guarantees.proofs.Live.{no_outcome}
 use Rattle.laws_votes.proofs.Live.{epoch_named, live}
@@ -28,74 +27,18 @@ use Rattle.qc_promise.specs.Vocabulary.{ClientRequest, Current, Kept, account, e
 use Rattle.theory_machine.proofs.Epochs.{epoch-append, rising-right, upward}
 use Rattle.theory_machine.proofs.Keeps.{laws}
 use Rattle.theory_machine.proofs.Grants.{between}
-use Rattle.theory_machine.proofs.SiteLists.{items_of-append, items_of-each_held, items_of-kept}
+use Rattle.theory_machine.proofs.SiteLists.{items_of-append, items_of-each_held}
 use Rattle.theory_machine.proofs.SiteOrder.{after_append}
-use Rattle.theory_machine.specs.Vocabulary.{Active, Closes, Deed, Granted, GrantedLaw, Grants, HasRisingEpochs}
-use Rattle.theory_machine.specs.Vocabulary.{HaveNoInstall, Installs, Item, KeepsLife, LearnsAbort, LearnsCommit, Lock}
-use Rattle.theory_machine.specs.Vocabulary.{Own, Prepares, Promise, Rises, Site, State, StateLaws, Voting, after_commit}
-use Rattle.theory_machine.specs.Vocabulary.{after_deed, after_prepare, each_held, empty_site, epoch_from, items_of}
-use Rattle.theory_machine.specs.Vocabulary.{promise_of, site_after, site_from}
+use Rattle.theory_machine.specs.Vocabulary.{Active, Deed, Granted, GrantedLaw, Grants, HasRisingEpochs, HaveNoInstall}
+use Rattle.theory_machine.specs.Vocabulary.{Item, LearnsAbort, LearnsCommit, Lock, Own, Site, State, StateLaws, Voting}
+use Rattle.theory_machine.specs.Vocabulary.{after_deed, each_held, empty_site, epoch_from, items_of, site_after}
 use Rattle.qc_script.specs.Vocabulary.{IsScriptFor, RunsWithFalls}
 use Rattle.qc_script.specs.declared.script.Script.{Script}
-use Rattle.qc_stamp.proofs.Orders.{same_tx_is}
-use Rattle.qc_stamp.specs.Vocabulary.{same_tx}
-use Rattle.qc_stamp.specs.declared.stamp.Stamp.{Stamp}
 use Rattle.qc_stamp.specs.declared.stamp.TxId.{TxId}
 use Rattle.laws_guarantees.specs.Vocabulary.{IsOpenVote}
 use Rattle.laws_votes.proofs.LifeGrounds.{has_life_grounds}
 use Rattle.laws_votes.proofs.LivesAdded.{HasParticipant, IsToldLife}
-
--- a machine's site holds an item on, as long as the transaction doesn't end, and the site neither rises nor closes nor
--- installs
-
--- no verdict on the transaction is learnt
-abbrev NeverEnds : TxId → List Deed → Type 0
-NeverEnds tx ds = ((stamp : Stamp) → In (LearnsCommit tx stamp) ds → ⊥) × (In (LearnsAbort tx) ds → ⊥)
-
-another : (tx u : TxId) → (u ≡ tx → ⊥) → same_tx tx u ≡ false
-another tx u apart = by (same_tx tx u) refl
-  where
-    by : (b : Bool) → same_tx tx u ≡ b → same_tx tx u ≡ false
-    by false is = is
-    by true is = absurd (apart (sym (same_tx_is tx u is)))
-
-prepared_holds : (tx u : TxId) (x : Item) (o : Option Promise) (s : Site) → In x (items_of tx s.held)
-    → In x (items_of tx (after_prepare u o s).held)
-prepared_holds tx u x (Some p) s held = held
-prepared_holds tx u x None s held = held
-
-committed_holds : (tx u : TxId) (stamp : Stamp) (x : Item) (o : Option Promise) (s : Site) → (u ≡ tx → ⊥)
-    → In x (items_of tx s.held) → In x (items_of tx (after_commit u stamp o s).held)
-committed_holds tx u stamp x (Some p) s apart held =
-    subst (In x) (sym (items_of-kept u tx s.held (another tx u apart))) held
-committed_holds tx u stamp x None s apart held =
-    subst (In x) (sym (items_of-kept u tx s.held (another tx u apart))) held
-
-holds_on : (ds : List Deed) (s : Site) (tx : TxId) (x : Item) → In x (items_of tx s.held) → KeepsLife ds
-    → HaveNoInstall ds → NeverEnds tx ds → In x (items_of tx (site_from s ds).held)
-holds_on [] s tx x held calm none never = held
-holds_on (Grants u items view ∷ ds) s tx x held calm none never =
-    holds_on ds (after_deed s (Grants u items view)) tx x
-    (subst (In x) (sym (items_of-append tx (each_held u items) s.held))
-    (In-second x (items_of tx (each_held u items)) (items_of tx s.held) held)) calm none
-    ((λ stamp among. never.0 stamp (inr among)), (λ among. never.1 (inr among)))
-holds_on (Prepares u ∷ ds) s tx x held calm none never =
-    holds_on ds (after_deed s (Prepares u)) tx x (prepared_holds tx u x (promise_of u s.prepared) s held) calm none
-    ((λ stamp among. never.0 stamp (inr among)), (λ among. never.1 (inr among)))
-holds_on (LearnsCommit u stamp ∷ ds) s tx x held calm none never =
-    holds_on ds (after_deed s (LearnsCommit u stamp)) tx x
-    (committed_holds tx u stamp x (promise_of u s.prepared) s
-    (λ same. never.0 stamp (inl (λ i. LearnsCommit (sym same i) stamp))) held) calm none
-    ((λ other among. never.0 other (inr among)), (λ among. never.1 (inr among)))
-holds_on (LearnsAbort u ∷ ds) s tx x held calm none never =
-    holds_on ds (after_deed s (LearnsAbort u)) tx x
-    (subst (In x)
-    (sym (items_of-kept u tx s.held (another tx u (λ same. never.1 (inl (λ i. LearnsAbort (sym same i))))))) held)
-    calm none
-    ((λ stamp among. never.0 stamp (inr among)), (λ among. never.1 (inr among)))
-holds_on (Closes ∷ ds) s tx x held calm none never = absurd calm
-holds_on (Installs k c log ∷ ds) s tx x held calm none never = absurd none
-holds_on (Rises ∷ ds) s tx x held calm none never = absurd calm
+use Rattle.laws_votes.proofs.HoldsOn.{NeverEnds, holds_on}
 
 -- what is wanted has an item
 record HasItem (want : Want) : Type 0 where
@@ -223,7 +166,8 @@ module _ (fits : ℕ → List Record → Type 0) (decl : Declaration) (script : 
         at : IsGrantTo decl then (net fits decl script h open_inputs accepted sound run kept).mail
             told.taken.envelope.from told.q.number (life_of t.lives site) told.clock told.log → IsGrantedIn
         at b =
-            let one = one_request fits decl script h open_inputs accepted sound run kept told.q.number told.taken.envelope.from told.q.site b.tx t.tx b.want told.q.want
+            let one = one_request fits decl script h open_inputs accepted sound run kept told.q.number
+            told.taken.envelope.from told.q.site b.tx t.tx b.want told.q.want
             (subst (λ (ms : List Envelope). IsRequest ms told.q.number told.taken.envelope.from b.tx b.want)
             (reached fits decl script h open_inputs accepted sound run kept).mail_is
             (record { epoch = b.epoch; life = b.named; is = b.request })) asked in
@@ -250,7 +194,9 @@ module _ (fits : ℕ → List Record → Type 0) (decl : Declaration) (script : 
         ∙ sym (epoch_named fits decl script h open_inputs accepted sound run kept a client t begun)
 
     -- the site is up in that life and that epoch, without an open input
-    module _ (free : slice_get open_inputs site ≡ Some false) (up : is_up (deeds site [] h) ≡ true) (life : life_of t.lives site ≡ life_shown (deeds site [] h)) (epoch : t.epoch ≡ epoch_shown (deeds site [] h)) where
+    module _ (free : slice_get open_inputs site ≡ Some false) (up : is_up (deeds site [] h) ≡ true)
+        (life : life_of t.lives site ≡ life_shown (deeds site [] h))
+        (epoch : t.epoch ≡ epoch_shown (deeds site [] h)) where
       sh : IsShown (deeds site [] h) ((net fits decl script h open_inputs accepted sound run kept).sites site)
       sh = shown fits decl script h open_inputs accepted sound run kept site granted.place free up
 

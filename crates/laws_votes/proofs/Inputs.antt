@@ -8,7 +8,7 @@ use Rattle.laws_bounds.proofs.ActorsWithin.{IsOfPost, deeds_post}
 use Rattle.qc_core.specs.Vocabulary.{IsLawfulWithFalls}
 use Rattle.qc_decl.specs.Vocabulary.{controller}
 use Rattle.qc_decl.specs.declared.declaration.Declaration.{Declaration}
-use Rattle.qc_mailbox.proofs.FallMail.{ready_sent}
+use Rattle.qc_mailbox.proofs.FallMail.{ready_messages_were_sent_through_falls}
 use Rattle.laws_turns.proofs.Acted.{deeds-silent}
 use Rattle.laws_turns.proofs.Numbered.{IsSilent, phase_silent}
 use Rattle.qc_list.specs.Vocabulary.{In}
@@ -118,7 +118,7 @@ module _ (decl : Declaration) (script : Script) (fits : ℕ → List Record → 
   module _ (older : List Entry) (inputs : List Bool) (run : IsRun older inputs) (c : ℕ) (g : Input)
       (free : slice_get inputs c ≡ Some false) (rdy : ready decl script c older ≡ Some g) where
     sent : WasSentTo c (mail older) g
-    sent = ready_sent (IsLawfulWithFalls decl) fits decl script older inputs run c g rdy
+    sent = ready_messages_were_sent_through_falls (IsLawfulWithFalls decl) fits decl script older inputs run c g rdy
 
     abbrev now : List Entry
     now = older ++ marked c (step_of g) ∷ []

@@ -44,6 +44,7 @@ pub mod LivesAdded
 pub mod LivesTold
 pub mod TakenGrounds
 pub mod LifeGrounds
+pub mod HoldsOn
 pub mod Holding
 pub mod RefusedRequests
 pub mod Answering

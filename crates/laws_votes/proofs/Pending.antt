@@ -3,7 +3,7 @@
 -- may be written.
 use Rattle.std.proofs.Common.{◌≡◌, ◌≢◌, ◌⊎◌, ◌≤◌, ◌+◌, ◌-◌, ℕ, Bool, true, false, IsTrue, List, [], ◌∷◌, inl, inr, Some}
 use Rattle.std.proofs.Common.{None, slice_get, refl, sym, ap, ◌∙◌, subst, arith}
-use Rattle.qc_core.proofs.LivesLaws.{clear, journal}
+use Rattle.qc_core.proofs.LivesLaws.{who_is_up_has_no_pending_record, journal}
 use Rattle.qc_core.specs.Vocabulary.{IsLawfulWithFalls, is_up, journal_after}
 use Rattle.qc_decl.specs.Vocabulary.{IsAccepted, actors, is_client}
 use Rattle.qc_decl.specs.declared.declaration.Declaration.{Declaration}
@@ -16,7 +16,7 @@ use Rattle.laws_votes.proofs.Recorded.{IsKnown}
 use Rattle.qc_link.specs.Vocabulary.{most_actors}
 use Rattle.qc_list.specs.Vocabulary.{In}
 use Rattle.laws_turns.specs.Vocabulary.{LivesIn}
-use Rattle.laws_turns.proofs.Lived.{run_lives}
+use Rattle.laws_turns.proofs.Lived.{actors_live_in_runs_with_falls}
 use Rattle.qc_msg.specs.Vocabulary.{Entry, deeds, own}
 use Rattle.qc_msg.specs.declared.record.Record.{Record}
 use Rattle.qc_msg.specs.declared.record.Record.TheVariants as records
@@ -76,13 +76,13 @@ module _ (fits : ℕ → List Record → Type 0) (decl : Declaration) (script : 
       slot = slot_of fits decl script h open_inputs accepted sound run kept w client
 
       lived : LivesIn decl w h slot.0
-      lived = run_lives decl script fits few h open_inputs run w slot.0 slot.1
+      lived = actors_live_in_runs_with_falls decl script fits few h open_inputs run w slot.0 slot.1
 
       by : (up : Bool) → is_up (deeds w [] h) ≡ up → is_up (deeds w [] h) ≡ false
       by false is = is
       by true is =
           absurd (let none : (journal_after (deeds w [] h)).pending ≡ None =
-          clear decl w (deeds w [] h) slot.0 lived.above lived.lives is in
+          who_is_up_has_no_pending_record decl w (deeds w [] h) slot.0 lived.above lived.lives is in
           let some : Some r ≡ None = sym pending ∙ ap (λ (j : Journal). j.pending) (sym (journal w h)) ∙ none in
           let never : ⊥ = cc in
           never)
@@ -128,7 +128,8 @@ module _ (fits : ℕ → List Record → Type 0) (decl : Declaration) (script : 
             actor = w;
             client = writer;
             listed = subst (In (records.Commit c)) (sym
-                ((reached fits decl script h open_inputs accepted sound run kept).records_are w (inr (inl writer)))) among;
+                ((reached fits decl script h open_inputs accepted sound run kept).records_are w (inr (inl writer))))
+                among;
           }));
     }
       where

@@ -17,7 +17,7 @@ use Rattle.qc_link.specs.Vocabulary.{most_actors}
 use Rattle.qc_list.specs.Vocabulary.{In}
 use Rattle.qc_list.proofs.Members.{every-In}
 use Rattle.laws_turns.proofs.LivedMoves.{deeds-rise}
-use Rattle.laws_turns.proofs.Lived.{run_lives}
+use Rattle.laws_turns.proofs.Lived.{actors_live_in_runs_with_falls}
 use Rattle.laws_turns.specs.Vocabulary.{LivesIn}
 use Rattle.qc_msg.proofs.GrownMail.{mail-append}
 use Rattle.qc_msg.specs.Vocabulary.{Answered, Deed, Entry, Takes, WasSentTo, answer_in, deeds, heard_in, mail, marked}
@@ -134,7 +134,7 @@ module _ (decl : Declaration) (script : Script) (fits : ℕ → List Record → 
       (subst (MayReach (is_up o.before)) k.1 o.reach) k.2
     where
       lived : LivesIn decl b h true
-      lived = run_lives decl script fits few h inputs run b true taken
+      lived = actors_live_in_runs_with_falls decl script fits few h inputs run b true taken
 
       o : Opened (deeds b [] h)
       o = opened decl b (deeds b [] h) true lived.above lived.lives refl

@@ -138,7 +138,8 @@ module _ (decl : Declaration) (site : ℕ) (is : is_site decl site ≡ true) whe
   posted ds move j n turn at journal law keeps = record {
     s = move.site;
     at = actor_posted decl site ds n turn ∙ ap (λ (m : ActorMove). all_sent m.actor n turn.sends) at;
-    keeps = subst (λ (rs : List Record). Keeps rs move.site) (sym (ap (λ (k : Journal). k.records) (journal_posted ds ends.Done n turn)
+    keeps = subst (λ (rs : List Record). Keeps rs move.site)
+        (sym (ap (λ (k : Journal). k.records) (journal_posted ds ends.Done n turn)
         ∙ (λ i. (journal i).records ++ option_to_list (sym write_is i)))) keeps;
   }
     where
@@ -170,7 +171,8 @@ module _ (decl : Declaration) (site : ℕ) (is : is_site decl site ≡ true) whe
       by ends.Done done = subst Stands (append_assoc before (Rises rs ∷ []) (turn_deeds n turn))
           (posted (before ++ Rises rs ∷ []) (site_rises decl site rs) (record { records = rs; pending = None }) n turn
           (actor_rising decl site before rs ∙ site_risen decl site is rs)
-          (fold-append journal_at no_journal before (Rises rs ∷ [])) lawful (risen_keeps site (rs ++ records.Life ∷ [])))
+          (fold-append journal_at no_journal before (Rises rs ∷ [])) lawful
+          (risen_keeps site (rs ++ records.Life ∷ [])))
       by ends.Failed done = absurd (let never : ⊥ = cc in never)
       by ends.Stopped done = absurd (let never : ⊥ = cc in never)
   stands ds up (unopened before cause served) on = absurd (let never : ⊥ = cc in never)

@@ -15,8 +15,8 @@ use Rattle.laws_votes.proofs.SiteClocks.{mirrors, same_site, shown}
 use Rattle.laws_votes.specs.Vocabulary.{HasPromisedItems, IsLastPromise, IsPromisedStill}
 use Rattle.qc_link.specs.Vocabulary.{most_actors}
 use Rattle.qc_list.specs.Vocabulary.{In}
-use Rattle.laws_turns.proofs.FallKept.{kept_rises}
-use Rattle.laws_turns.proofs.FallServed.{run_serves}
+use Rattle.laws_turns.proofs.FallKept.{clients_rise_with_own_stamps_where_records_are_kept}
+use Rattle.laws_turns.proofs.FallServed.{sites_serve_with_falls}
 use Rattle.qc_lock.specs.Vocabulary.{held_of}
 use Rattle.qc_lock.specs.declared.held.Held.{Held}
 use Rattle.qc_msg.specs.Vocabulary.{Deed, Entry, deeds, own}
@@ -56,7 +56,8 @@ module _ (fits : ℕ → List Record → Type 0) (decl : Declaration) (script : 
 
   its : Stands decl site is ds
   its = stands decl site is ds true (subst (Serves decl site ds) up
-      (run_serves decl script fits few h open_inputs run (kept_rises decl script fits few h open_inputs run kept) site
+      (sites_serve_with_falls decl script fits few h open_inputs run
+      (clients_rise_with_own_stamps_where_records_are_kept decl script fits few h open_inputs run kept) site
       (ltb-true site decl.sites is) free)) refl
 
   same : its.s ≡ s

@@ -1,5 +1,5 @@
--- Each commit record in a client's journal, or pending there, was written, or was being written, in a post of that client,
--- where it was due.
+-- Each commit record in a client's journal, or pending there, was written, or was being written, in a post of that
+-- client, where it was due.
 use Rattle.std.proofs.Common.{[], ◌≡◌, ◌⊎◌, ◌+◌, ◌==◌, ℕ, Bool, true, false, List, ◌∷◌, ◌++◌, inl, inr, length, Some}
 use Rattle.std.proofs.Common.{None, slice_get, refl, sym, ap, ◌∙◌, subst, append_assoc, eqb-true}
 use Rattle.laws_due.proofs.Standing.{actor_more, turn_is}
@@ -94,7 +94,9 @@ module _ (fits : ℕ → List Record → Type 0) (decl : Declaration) (script : 
         new : is_client decl b ≡ true → turn.write ≡ Some (Commit c)
             → Moment (h ++ by b (posted_as turn.append (length (mail h)) turn)) b c
         new mine writes =
-            let k : IsCommitting decl b (deeds b [] h) c = committing decl b mine (deeds b [] h) (client_at fits decl script h inputs accepted sound run kept b mine true taken) turn law c writes in
+            let k : IsCommitting decl b (deeds b [] h) c =
+            committing decl b mine (deeds b [] h)
+            (client_at fits decl script h inputs accepted sound run kept b mine true taken) turn law c writes in
             let same : (client_takes decl k.tied.state k.input).turn ≡ with_record turn = committing_turn k mine in
             elim k.turn [
               | inl none ↦
@@ -134,7 +136,8 @@ module _ (fits : ℕ → List Record → Type 0) (decl : Declaration) (script : 
             (sym (journal b (h ++ by b (posted_as turn.append (length (mail h)) turn)))
             ∙ ap journal_after (deeds-posted_as turn.append b (length (mail h)) h turn)
             ∙ journal_posted (deeds b [] h) turn.append (length (mail h)) turn)
-            (subst (λ (n : ℕ). IsKnown c (journal_of (own n (h ++ by b (posted_as turn.append (length (mail h)) turn))))) (sym same) known))) [
+            (subst (λ (n : ℕ). IsKnown c
+            (journal_of (own n (h ++ by b (posted_as turn.append (length (mail h)) turn))))) (sym same) known))) [
               | inl before ↦ inl (subst (IsKnown c) (journal b h) before)
               | inr now ↦ inr now
             ]

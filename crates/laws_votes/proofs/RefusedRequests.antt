@@ -3,8 +3,8 @@ use Rattle.std.proofs.Common.{◌≡◌, ◌≢◌, ◌⊎◌, ◌<◌, ◌≤�
 use Rattle.std.proofs.Common.{List, [], ◌∷◌, ◌++◌, inl, inr, Option, Some, None, slice_get, refl, sym, ap, ◌∙◌, subst}
 use Rattle.std.proofs.Common.{arith, ltb-true, eqb-true}
 use Rattle.std.specs.List.{AllByRecursion as Every}
-use Rattle.qc_core.proofs.SiteLaws.{shows}
-use Rattle.qc_core.proofs.SiteLives.{serves_as_lives}
+use Rattle.qc_core.proofs.SiteLaws.{sites_are_read_off_their_steps}
+use Rattle.qc_core.proofs.SiteLives.{sites_that_live_serve}
 use Rattle.qc_core.specs.Vocabulary.{ActorMove, IsLawfulWithFalls, IsShown, IsSiteDeed, Lives, Serves, actor_after}
 use Rattle.qc_core.specs.Vocabulary.{actor_takes, is_up, up_at}
 use Rattle.std.proofs.lemmas.Bool.{cases_eq, lt-ltb}
@@ -29,9 +29,9 @@ use Rattle.laws_votes.proofs.SiteClocks.{same_site}
 use Rattle.qc_link.specs.Vocabulary.{most_actors}
 use Rattle.qc_list.specs.Vocabulary.{In}
 use Rattle.laws_turns.proofs.Downs.{due}
-use Rattle.laws_turns.proofs.FallKept.{kept_rises}
-use Rattle.laws_turns.proofs.FallServed.{run_site_deeds}
-use Rattle.laws_turns.proofs.Lived.{run_lives}
+use Rattle.laws_turns.proofs.FallKept.{clients_rise_with_own_stamps_where_records_are_kept}
+use Rattle.laws_turns.proofs.FallServed.{sites_take_site_inputs_with_falls}
+use Rattle.laws_turns.proofs.Lived.{actors_live_in_runs_with_falls}
 use Rattle.laws_turns.specs.Vocabulary.{LivesIn}
 use Rattle.qc_lock.specs.Vocabulary.{held_of, is_held}
 use Rattle.qc_msg.specs.Vocabulary.{Deed, Entry, Takes, WasSentTo, deeds, has_granted, life_of, mail, prepare_length}

@@ -202,18 +202,22 @@ module _ (fits : ℕ → List Record → Type 0) (decl : Declaration) (script : 
       → h ≡ before ++ tells a reply ∷ after → Ends h a before reply
   replies_end_their_turns_through_falls h inputs begins kept before a reply after client is =
       absurd (silent_none [] (λ e never. absurd never) before a reply after is)
-  replies_end_their_turns_through_falls h inputs (takes b g slots older run free rdy) kept before a reply after client is = elim (split older (marked b (step_of g) ∷ []) before (tells a reply) after is) [
-    | First m s ↦
-        ends_more older _ a before reply
-        (replies_end_their_turns_through_falls older slots run (kept_of_first older _ kept) before a reply m client s)
-    | Second m e s ↦ absurd (silent_none _ (silent_one (marked b (step_of g)) (silent_taken g)) m a reply after s)
-  ]
-  replies_end_their_turns_through_falls h inputs (posts b turn slots older run taken law) kept before a reply after client is = elim (split older (by b (posted_as turn.append (length (mail older)) turn)) before (tells a reply) after is) [
-    | First m s ↦
-        ends_more older _ a before reply
-        (replies_end_their_turns_through_falls older slots run (kept_of_first older _ kept) before a reply m client s)
-    | Second m e s ↦ at m e s (actor_of (told_in turn.append b (length (mail older)) turn m a reply after s))
-  ]
+  replies_end_their_turns_through_falls h inputs (takes b g slots older run free rdy)
+      kept before a reply after client is =
+      elim (split older (marked b (step_of g) ∷ []) before (tells a reply) after is) [
+        | First m s ↦
+            ends_more older _ a before reply (replies_end_their_turns_through_falls older slots run
+            (kept_of_first older _ kept) before a reply m client s)
+        | Second m e s ↦ absurd (silent_none _ (silent_one (marked b (step_of g)) (silent_taken g)) m a reply after s)
+      ]
+  replies_end_their_turns_through_falls h inputs (posts b turn slots older run taken law)
+      kept before a reply after client is =
+      elim (split older (by b (posted_as turn.append (length (mail older)) turn)) before (tells a reply) after is) [
+        | First m s ↦
+            ends_more older _ a before reply (replies_end_their_turns_through_falls older slots run
+            (kept_of_first older _ kept) before a reply m client s)
+        | Second m e s ↦ at m e s (actor_of (told_in turn.append b (length (mail older)) turn m a reply after s))
+      ]
     where
       actor_of : {m after : List Entry} {end : Appended} → IsToldIn b (length (mail older)) turn a reply m after end
           → b ≡ a
@@ -232,33 +236,42 @@ module _ (fits : ℕ → List Record → Type 0) (decl : Declaration) (script : 
           (posted older slots run (kept_of_first older _ kept) b turn taken law m reply after
           (subst (λ (c : ℕ). is_client decl c ≡ true) (sym same) client)
           (s ∙ ap (λ (c : ℕ). m ++ tells c reply ∷ after) (sym same))))
-  replies_end_their_turns_through_falls h inputs (phase slots older run idle done quiet more) kept before a reply after client is = elim (split older (marked _ (steps.Phase (phase_of older + 1)) ∷ []) before (tells a reply) after is) [
-    | First m s ↦
-        ends_more older _ a before reply
-        (replies_end_their_turns_through_falls older slots run (kept_of_first older _ kept) before a reply m client s)
-    | Second m e s ↦
-        absurd (silent_none _ (silent_one (marked _ (steps.Phase (phase_of older + 1))) refl) m a reply after s)
-  ]
-  replies_end_their_turns_through_falls h inputs (control line lines acted slots older run left acts) kept before a reply after client is = elim (split older (marked _ acted ∷ []) before (tells a reply) after is) [
-    | First m s ↦
-        ends_more older _ a before reply
-        (replies_end_their_turns_through_falls older slots run (kept_of_first older _ kept) before a reply m client s)
-    | Second m e s ↦
-        absurd (silent_none _ (silent_one (marked _ acted) (silent_line line acted acts)) m a reply after s)
-  ]
-  replies_end_their_turns_through_falls h inputs (falls b lines slots older run left) kept before a reply after client is = elim (split older (marked b (steps.Fell causes.Script None) ∷ []) before (tells a reply) after is) [
-    | First m s ↦
-        ends_more older _ a before reply
-        (replies_end_their_turns_through_falls older slots run (kept_of_first older _ kept) before a reply m client s)
-    | Second m e s ↦
-        absurd (silent_none _ (silent_one (marked b (steps.Fell causes.Script None)) refl) m a reply after s)
-  ]
-  replies_end_their_turns_through_falls h inputs (rises b rs turn lines slots older run left fit has law) kept before a reply after client is = elim (split older (by b (steps.Rose rs ∷ posted_as turn.append (length (mail older)) turn)) before (tells a reply) after is) [
-    | First m s ↦
-        ends_more older _ a before reply
-        (replies_end_their_turns_through_falls older slots run (kept_of_first older _ kept) before a reply m client s)
-    | Second m e s ↦ absurd (never m s)
-  ]
+  replies_end_their_turns_through_falls h inputs (phase slots older run idle done quiet more)
+      kept before a reply after client is =
+      elim (split older (marked _ (steps.Phase (phase_of older + 1)) ∷ []) before (tells a reply) after is) [
+        | First m s ↦
+            ends_more older _ a before reply (replies_end_their_turns_through_falls older slots run
+            (kept_of_first older _ kept) before a reply m client s)
+        | Second m e s ↦
+            absurd (silent_none _ (silent_one (marked _ (steps.Phase (phase_of older + 1))) refl) m a reply after s)
+      ]
+  replies_end_their_turns_through_falls h inputs (control line lines acted slots older run left acts)
+      kept before a reply after client is =
+      elim (split older (marked _ acted ∷ []) before (tells a reply) after is) [
+        | First m s ↦
+            ends_more older _ a before reply (replies_end_their_turns_through_falls older slots run
+            (kept_of_first older _ kept) before a reply m client s)
+        | Second m e s ↦
+            absurd (silent_none _ (silent_one (marked _ acted) (silent_line line acted acts)) m a reply after s)
+      ]
+  replies_end_their_turns_through_falls h inputs (falls b lines slots older run left)
+      kept before a reply after client is =
+      elim (split older (marked b (steps.Fell causes.Script None) ∷ []) before (tells a reply) after is) [
+        | First m s ↦
+            ends_more older _ a before reply (replies_end_their_turns_through_falls older slots run
+            (kept_of_first older _ kept) before a reply m client s)
+        | Second m e s ↦
+            absurd (silent_none _ (silent_one (marked b (steps.Fell causes.Script None)) refl) m a reply after s)
+      ]
+  replies_end_their_turns_through_falls h inputs (rises b rs turn lines slots older run left fit has law)
+      kept before a reply after client is =
+      elim (split older (by b (steps.Rose rs ∷ posted_as turn.append (length (mail older)) turn)) before (tells a reply)
+      after is) [
+        | First m s ↦
+            ends_more older _ a before reply (replies_end_their_turns_through_falls older slots run
+            (kept_of_first older _ kept) before a reply m client s)
+        | Second m e s ↦ absurd (never m s)
+      ]
     where
       never : (m : List Entry)
           → by b (steps.Rose rs ∷ posted_as turn.append (length (mail older)) turn) ≡ m ++ tells a reply ∷ after → ⊥
@@ -269,10 +282,14 @@ module _ (fits : ℕ → List Record → Type 0) (decl : Declaration) (script : 
           let rest : by b (posted_as turn.append (length (mail older)) turn) ≡ m ++ tells a reply ∷ after = cc in
           let none = risen_silent older b rs turn law in
           never_told turn.append b (length (mail older)) turn none.0 none.1 m a reply after rest
-  replies_end_their_turns_through_falls h inputs (damaged b offset lines slots older run left) kept before a reply after client is = absurd (kept older [] (marked b (steps.Damaged offset)) refl)
-  replies_end_their_turns_through_falls h inputs (unopened b cause lines slots older run left disk) kept before a reply after client is = elim (split older (marked b (steps.Fell cause None) ∷ []) before (tells a reply) after is) [
-    | First m s ↦
-        ends_more older _ a before reply
-        (replies_end_their_turns_through_falls older slots run (kept_of_first older _ kept) before a reply m client s)
-    | Second m e s ↦ absurd (silent_none _ (silent_one (marked b (steps.Fell cause None)) refl) m a reply after s)
-  ]
+  replies_end_their_turns_through_falls h inputs (damaged b offset lines slots older run left)
+      kept before a reply after client is =
+      absurd (kept older [] (marked b (steps.Damaged offset)) refl)
+  replies_end_their_turns_through_falls h inputs (unopened b cause lines slots older run left disk)
+      kept before a reply after client is =
+      elim (split older (marked b (steps.Fell cause None) ∷ []) before (tells a reply) after is) [
+        | First m s ↦
+            ends_more older _ a before reply (replies_end_their_turns_through_falls older slots run
+            (kept_of_first older _ kept) before a reply m client s)
+        | Second m e s ↦ absurd (silent_none _ (silent_one (marked b (steps.Fell cause None)) refl) m a reply after s)
+      ]

@@ -18,7 +18,7 @@ use Rattle.qc_promise.specs.Vocabulary.{journal_of, new_account, no_journal}
 use Rattle.qc_script.specs.Vocabulary.{IsScriptFor, RunsWithFalls}
 use Rattle.qc_script.specs.declared.script.Script.{Script}
 use Rattle.qc_stamp.specs.declared.stamp.TxId.{TxId}
-use Rattle.qc_core.proofs.KeptBack.{kept_given_back}
+use Rattle.qc_core.proofs.KeptBack.{rises_give_back_journals_where_records_are_kept}
 
 module _ (fits : ℕ → List Record → Type 0) (decl : Declaration) (script : Script) (h : List Entry)
     (open_inputs : List Bool) (accepted : IsAccepted decl) (sound : IsScriptFor decl script)
@@ -66,5 +66,6 @@ module _ (fits : ℕ → List Record → Type 0) (decl : Declaration) (script : 
   pub stays_steady : AreSteady (deeds a (mail h) middle)
   stays_steady = steady_life decl since (account decl a h) j still_up
       (back_behind (deeds a [] h) since no_journal
-      (subst (AreGivenBack no_journal) whole (kept_given_back late late_kept a))) since_due
+      (subst (AreGivenBack no_journal) whole (rises_give_back_journals_where_records_are_kept late late_kept a)))
+      since_due
       (let same : life_of (fold journal_at j since).records ≡ life_of j.records = same_life in omega arith)

@@ -11,8 +11,8 @@ use Rattle.qc_entry.specs.declared.line.Line.{Line}
 use Rattle.laws_votes.proofs.Nets.{net, now, reached, refined}
 use Rattle.qc_link.specs.Vocabulary.{most_actors}
 use Rattle.qc_list.specs.Vocabulary.{In}
-use Rattle.laws_turns.proofs.FallKept.{kept_rises}
-use Rattle.laws_turns.proofs.FallServed.{run_shown}
+use Rattle.laws_turns.proofs.FallKept.{clients_rise_with_own_stamps_where_records_are_kept}
+use Rattle.laws_turns.proofs.FallServed.{sites_are_what_their_steps_show_with_falls}
 use Rattle.qc_msg.specs.Vocabulary.{Entry, deeds}
 use Rattle.qc_msg.specs.declared.record.Record.{Record}
 use Rattle.laws_refinement.specs.Vocabulary.{SiteMirrors}
@@ -36,8 +36,9 @@ module _ (fits : ℕ → List Record → Type 0) (decl : Declaration) (script : 
     -- the net's site is what its deeds show
     pub shown : IsShown (deeds site [] h) ((net fits decl script h open_inputs accepted sound run kept).sites site)
     shown =
-        let s = run_shown decl script fits few h open_inputs run
-        (kept_rises decl script fits few h open_inputs run kept) site (ltb-true site decl.sites is) free up in
+        let s = sites_are_what_their_steps_show_with_falls decl script fits few h open_inputs run
+        (clients_rise_with_own_stamps_where_records_are_kept decl script fits few h open_inputs run kept) site
+        (ltb-true site decl.sites is) free up in
         subst (IsShown (deeds site [] h)) (same_site s.0
         ((net fits decl script h open_inputs accepted sound run kept).sites site)
         (sym s.1 ∙ (reached fits decl script h open_inputs accepted sound run kept).actors_are site (inl is) up free

@@ -7,7 +7,7 @@ use Rattle.laws_due.proofs.AccountDeclared.{scripts_ask_what_is_declared}
 use Rattle.qc_core.specs.Vocabulary.{AreSteady, IsLawfulWithFalls}
 use Rattle.qc_decl.specs.Vocabulary.{IsAccepted, actors, is_client}
 use Rattle.qc_decl.specs.declared.declaration.Declaration.{Declaration}
-use Rattle.laws_due.proofs.KeptPlanned.{kept_due}
+use Rattle.laws_due.proofs.KeptPlanned.{runs_with_falls_are_due_where_records_are_kept}
 use Rattle.qc_entry.specs.declared.record.Commit.{Commit as CommitRecord}
 use Rattle.laws_guarantees.proofs.ClockLaw.{counted_passes, reply_clock, sent_clock, take_clock, written_clock}
 use Rattle.laws_guarantees.proofs.DueStamps.{do_stamp, none_some, stamp_of}
@@ -135,7 +135,8 @@ module _ (fits : ℕ → List Record → Type 0) (decl : Declaration) (script : 
 
   all_due : Due decl h
   all_due =
-      kept_due decl script fits accepted (scripts_ask_what_is_declared decl script accepted sound) few h open_inputs run
+      runs_with_falls_are_due_where_records_are_kept decl script fits accepted
+      (scripts_ask_what_is_declared decl script accepted sound) few h open_inputs run
       kept
 
   pub client_due : (a : ℕ) → is_client decl a ≡ true → AreRepliesDue decl (a - decl.sites) (deeds a [] h)

@@ -1,4 +1,5 @@
--- No client is told that its transaction aborted because a site has forgotten it, in a run with falls; and nobody else is.
+-- No client is told that its transaction aborted because a site has forgotten it, in a run with falls;
+-- and nobody else is.
 use Rattle.std.proofs.Common.{◌*◌, ◌≡◌, ◌≤◌, ◌<◌, ◌+◌, ◌-◌, ◌==◌, ℕ, Bool, true, false, if◌then◌else◌, List, [], ◌∷◌}
 use Rattle.std.proofs.Common.{◌++◌, inl, inr, Option, Some, None, is_some, length, refl, sym, ap, ◌∙◌, subst, arith}
 use Rattle.std.proofs.Common.{eqb-true, ltb-true}
@@ -16,13 +17,13 @@ use Rattle.qc_decl.specs.declared.declaration.Declaration.{Declaration}
 use Rattle.qc_entry.specs.declared.record.Commit.{Commit as CommitRecord}
 use Rattle.laws_guarantees.proofs.Against.{IsForgottenVote, due_why}
 use Rattle.laws_votes.proofs.Stamps.{client_due, due_behind}
-use Rattle.qc_mailbox.proofs.FallMail.{ready_sent}
+use Rattle.qc_mailbox.proofs.FallMail.{ready_messages_were_sent_through_falls}
 use Rattle.laws_turns.proofs.Acted.{deeds-silent}
 use Rattle.laws_turns.proofs.Downs.{due as lawful_due}
 use Rattle.laws_turns.proofs.Numbered.{IsSilent, phase_silent}
 use Rattle.qc_link.specs.Vocabulary.{most_actors}
 use Rattle.qc_list.specs.Vocabulary.{In}
-use Rattle.laws_turns.proofs.ByMailWithFalls.{run_by_turns}
+use Rattle.laws_turns.proofs.ByMailWithFalls.{actors_go_by_turns_with_falls}
 use Rattle.laws_turns.proofs.LivedMoves.{deeds-fall, line_silent}
 use Rattle.qc_msg.proofs.DeedsGrow.{deeds-other}
 use Rattle.qc_msg.proofs.Growth.{deeds-posted_as, deeds-taken}
@@ -216,7 +217,8 @@ module _ (decl : Declaration) (script : Script) (fits : ℕ → List Record → 
   others_mute h inputs begins = none_mute
   others_mute h inputs (takes c g slots older run free rdy) =
       event c older (step_of g ∷ []) (Takes g ∷ [])
-      (deeds-taken c older g (ready_sent (IsLawfulWithFalls decl) fits decl script older slots run c g rdy))
+      (deeds-taken c older g
+      (ready_messages_were_sent_through_falls (IsLawfulWithFalls decl) fits decl script older slots run c g rdy))
       (λ same. one_mute (Takes g) (λ why e. let never : ⊥ = cc in never)) (others_mute older slots run)
   others_mute h inputs (posts c turn slots older run taken law) =
       event c older (posted_as turn.append (length (mail older)) turn) (deeds_as turn.append (length (mail older)) turn)
@@ -261,7 +263,8 @@ module _ (fits : ℕ → List Record → Type 0) (decl : Declaration) (script : 
   client_told : is_client decl a ≡ true → ⊥
   client_told client =
       let p = in_place (Tells (replies.Aborted (causes.Forgot site))) (deeds a [] h) told in
-      let behind : AreDeedsDue decl (account_of decl (a - decl.sites) p.0) (Tells (replies.Aborted (causes.Forgot site)) ∷ p.1.0) =
+      let behind : AreDeedsDue decl (account_of decl (a - decl.sites) p.0)
+      (Tells (replies.Aborted (causes.Forgot site)) ∷ p.1.0) =
       due_behind decl p.0 (Tells (replies.Aborted (causes.Forgot site)) ∷ p.1.0) (new_account (a - decl.sites))
       (subst (AreRepliesDue decl (a - decl.sites)) p.1.1
       (client_due fits decl script h inputs accepted sound run kept a client)) in
@@ -278,7 +281,7 @@ module _ (fits : ℕ → List Record → Type 0) (decl : Declaration) (script : 
       let in_all : a < actors decl = omega arith in
       sites_tell (deeds a [] h) (replies.Aborted (causes.Forgot site))
       (subst (λ (t : Bool). AreByTurns t (deeds a [] h)) is
-      (run_by_turns decl script fits few h inputs run a in_all)) told
+      (actors_go_by_turns_with_falls decl script fits few h inputs run a in_all)) told
 
   pub never_told : ⊥
   never_told = by (is_site decl a) (is_client decl a) refl refl

@@ -22,7 +22,7 @@ use Rattle.laws_guarantees.proofs.Stale.{below_length}
 use Rattle.laws_guarantees.proofs.AccountsStay.{account_silent}
 use Rattle.laws_guarantees.specs.Vocabulary.{IsOpenVote}
 use Rattle.laws_votes.proofs.Nets.{at_number, net}
-use Rattle.qc_mailbox.proofs.FallMail.{ready_sent}
+use Rattle.qc_mailbox.proofs.FallMail.{ready_messages_were_sent_through_falls}
 use Rattle.laws_turns.proofs.Numbered.{IsSilent, mail-silent, phase_silent}
 use Rattle.qc_link.specs.Vocabulary.{most_actors}
 use Rattle.qc_list.specs.Vocabulary.{In}
@@ -190,7 +190,7 @@ module _ (fits : ℕ → List Record → Type 0) (decl : Declaration) (script : 
       { low = λ n x k forgets. absurd k.sent; votes = λ a q x client vote k forgets. k.sent }
   unforgotten h inputs (takes b g slots older run free rdy) kept all =
       grown decl older b (step_of g ∷ []) (take_event older b g
-      (ready_sent (IsLawfulWithFalls decl) fits decl script older slots run b g rdy))
+      (ready_messages_were_sent_through_falls (IsLawfulWithFalls decl) fits decl script older slots run b g rdy))
       (unforgotten older slots run (kept_of_first older _ kept)
       (λ c among. all c (records_more decl older (marked b (step_of g) ∷ []) c among)))
   unforgotten h inputs (posts b turn slots older run taken law) kept all =

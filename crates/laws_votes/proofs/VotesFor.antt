@@ -79,7 +79,8 @@ module _ (decl : Declaration) where
   voted : (d : Account) (t : Current) → d.command ≡ Some commands.Commit → d.current ≡ Some t
       → are_votes_in decl d t ≡ true → first_against (requests_for is_prepare d) ≡ None → IsVotedFor decl d t
   voted d t command current in_all none =
-      let both : ((length (participants decl d t) == length (requests_for is_prepare d)) ≡ true) × (list_all (λ (q : ClientRequest). is_some q.taken) (requests_for is_prepare d) ≡ true) =
+      let both : ((length (participants decl d t) == length (requests_for is_prepare d)) ≡ true)
+      × (list_all (λ (q : ClientRequest). is_some q.taken) (requests_for is_prepare d) ≡ true) =
       both_true (length (participants decl d t) == length (requests_for is_prepare d))
       (list_all (λ (q : ClientRequest). is_some q.taken) (requests_for is_prepare d)) in_all in
       record {

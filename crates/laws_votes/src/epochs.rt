@@ -74,6 +74,7 @@ pub fn decisions_fit_records_through_falls<C: ConductWithFalls>()
 /// answers that it is behind for want of room.
 pub fn installs_fit_records_through_falls<C: ConductWithFalls>()
     ensures { OfEachKeptRun C.fits (λ decl script h open_inputs. operations_of h ≤ 2 * most_committed_operations
-        → (e : Envelope) (epoch clock : ℕ) (log : List Line) → In e (mail h) → e.message ≡ Install (start_with epoch clock log)
+        → (e : Envelope) (epoch clock : ℕ) (log : List Line) → In e (mail h)
+        → e.message ≡ Install (start_with epoch clock log)
         → epoch_length log ≤ most_record_bytes) }
 {}

@@ -42,7 +42,8 @@ pub fn granted_logs_are_closed_through_falls<C: ConductWithFalls>()
     ensures { OfEachKeptRun C.fits (λ decl script h open_inputs. (request answer : Envelope) (tx : TxId) (number epoch
         named object inv life clock : ℕ) (log : List Line) → slice_get (mail h) number ≡ Some request
         → request.message ≡ Request tx epoch named (Read (read_of object inv)) → In answer (mail h)
-        → answer.message ≡ Answer number (Granted (grant_with life clock log)) → IsClosedLog decl (committed decl h) log) }
+        → answer.message ≡ Answer number (Granted
+        (grant_with life clock log)) → IsClosedLog decl (committed decl h) log) }
 {}
 
 /// What was promised is held: while a promise stands on a site's disk, the last of

@@ -135,9 +135,11 @@ draft_declared table d is =
     let g = came (no_others [] table keys) _ d f.rest in
     let t = types_from [] table c.value c.first in
     let o = objects_from [] table c.value e.value e.first in
-    let p : AreFrom (IsPlanFrom (record { sites = a.value; types = c.value; objects = e.value })) (array_at table (codes "epoch")) f.value =
+    let p : AreFrom (IsPlanFrom (record { sites = a.value; types = c.value; objects = e.value }))
+    (array_at table (codes "epoch")) f.value =
     plans_from [] table (record { sites = a.value; types = c.value; objects = e.value }) f.value f.first in
-    subst (λ (x : DraftOf). IsDeclared table x.decl) (same_ok (draft a.value b.value c.value e.value f.value) d g.rest) (record {
+    subst (λ (x : DraftOf). IsDeclared table x.decl)
+    (same_ok (draft a.value b.value c.value e.value f.value) d g.rest) (record {
       sites = number_told [] table (codes "sites") 1 most_sites a.value a.first;
       clients = number_told [] table (codes "clients") 1 most_clients b.value b.first;
       types = c.value;
@@ -168,7 +170,8 @@ draft_declared table d is =
           ap (λ (x : Option Data). option_and_then (λ item. text_at item (codes "type")) (option_and_then as_table x))
           i.at ∙ i.from;
       plan_at = λ place plan at.
-          let i : IsFrom (IsPlanFrom (record { sites = a.value; types = c.value; objects = e.value })) (array_at table (codes "epoch")) place plan = p.each_is place plan at in
+          let i : IsFrom (IsPlanFrom (record { sites = a.value; types = c.value; objects = e.value }))
+          (array_at table (codes "epoch")) place plan = p.each_is place plan at in
           record {
             item = i.from.item;
             at = ap (option_and_then as_table) i.at ∙ i.from.is;

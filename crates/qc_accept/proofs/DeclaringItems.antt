@@ -37,7 +37,8 @@ new_name : (known : List (List ℕ)) (d : Data) (next : List (List ℕ)) → wit
     → IsNewName known d next
 new_name known d next is =
     let f = found (as_str d) (with_text known) next is in
-    let t = cond_some (is_name f.value && not (list_any (bytes_eq f.value) known)) (known ++ f.value ∷ []) next f.rest in
+    let t = cond_some (is_name f.value && not (list_any (bytes_eq f.value) known)) (known ++ f.value ∷ []) next
+    f.rest in
     record { text = f.value; is_text = f.first; grown = t.1 }
 
 item_text_is : (key : List ℕ) (d name : Data) (item : Members) (text : List ℕ) → as_table d ≡ Some item

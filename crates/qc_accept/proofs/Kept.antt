@@ -31,7 +31,8 @@ pub name_more : (known : List (List ℕ)) (d : Data) (next : List (List ℕ)) �
     → length next ≡ suc (length known)
 name_more known d next is =
     let f : Found (as_str d) (with_text known) next = found (as_str d) (with_text known) next is in
-    let t = cond_some (is_name f.value && not (list_any (bytes_eq f.value) known)) (known ++ f.value ∷ []) next f.rest in
+    let t = cond_some (is_name f.value && not (list_any (bytes_eq f.value) known)) (known ++ f.value ∷ []) next
+    f.rest in
     let long : length (known ++ f.value ∷ []) ≡ length known + 1 = length-append known (f.value ∷ []) in
     ap length (sym t.1) ∙ (long ∙ omega arith)
 
@@ -43,7 +44,8 @@ named path table key most ns is =
     came (items path table key 1 most) (λ ds. told (path ++ key) (read_each with_name [] ds)) ns is in
     let many : (1 ≤ length c.value) × (length c.value ≤ most) = so_many path table key 1 most c.value c.first in
     let long : 0 + length c.value ≡ length ns =
-    sym (read_each_keeps (λ n (a : List (List ℕ)). length a ≡ n) with_name (λ n a b next holds more. name_more a b next more ∙ ap suc holds) 0 [] c.value ns refl
+    sym (read_each_keeps (λ n (a : List (List ℕ)). length a ≡ n) with_name
+    (λ n a b next holds more. name_more a b next more ∙ ap suc holds) 0 [] c.value ns refl
     (told_some (path ++ key) (read_each with_name [] c.value) ns c.rest)) in
     (omega arith, omega arith)
 
@@ -80,7 +82,8 @@ words_are path table w is =
     let start : c.value < length a.value =
     among_within a.value b.value c.value
     (told_some (path ++ codes "start") (name_among a.value b.value) c.value c.first) in
-    subst AreWords (same_ok (record { states = a.value; start = c.value; invs = d.value; resps = e.value }) w e.rest) (record {
+    subst AreWords
+    (same_ok (record { states = a.value; start = c.value; invs = d.value; resps = e.value }) w e.rest) (record {
       few = record { states = states.1; invs = invs.1; resps = resps.1 };
       some = record { states = states.0; invs = invs.0; resps = resps.0; start = start };
       states = names_are path table (codes "states") most_states a.value a.first;
@@ -253,7 +256,8 @@ type_more n types d next are is =
     let e = came (type_of path a.value (length types.names) (name_at c.value (length types.names))) _ next c.rest in
     let long : length (types.list ++ e.value ∷ []) ≡ length types.list + 1 = length-append types.list (e.value ∷ []) in
     let before : length types.list ≡ n = are.long in
-    subst (AreTypes (suc n)) (same_ok (record { names = c.value; list = types.list ++ e.value ∷ [] }) next e.rest) (record {
+    subst (AreTypes (suc n))
+    (same_ok (record { names = c.value; list = types.list ++ e.value ∷ [] }) next e.rest) (record {
       names =
           name_more types.names b.value c.value
           (told_some (path ++ codes "name") (with_name types.names b.value) c.value c.first) ∙ ap suc are.names;

@@ -133,7 +133,8 @@ pub asking_new : (decl : Declaration) (m : Admin) (next : ℕ) (shuts : List Shu
 asking_new decl m next shuts qs new some = record {
   told = λ first.
       asks_sent decl m next shuts qs first (take most_asks qs)
-      ∙ ap (λ b. doing m (Asking next shuts (cond b (numbered_all (length (take most_asks qs)) first qs) qs))) (sym new);
+      ∙ ap (λ b. doing m (Asking next shuts (cond b (numbered_all (length (take most_asks qs)) first qs) qs)))
+      (sym new);
   holds = λ first.
       ap (λ b. is_unasked (cond b (numbered_all (length (take most_asks qs)) first qs) qs)) new
       ∙ asked_now 65535 first qs some;

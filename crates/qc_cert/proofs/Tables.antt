@@ -121,7 +121,8 @@ row_at sets rows number some place row told all n s at is =
     let left : place % 16 ≡ some = omega (arith, s, at) in
     subst (IsRow sets number some) (sym is)
     (subst (λ m. IsRow sets number m (get_or rows place no_row)) left
-    (subst (λ m. IsRow sets m (place % 16) (get_or rows place no_row)) whole (told place (omega (arith, all, n, s, at)))))
+    (subst (λ m. IsRow sets m (place % 16) (get_or rows place no_row)) whole
+    (told place (omega (arith, all, n, s, at)))))
 
 -- ---- the answer
 or_zero : (a b : ℕ) → bit_or a b ≡ 0 → a ≡ 0
@@ -147,7 +148,8 @@ left_tells sets out row few small left fa fb fc fd =
         let all : some ≡ 0 = eqb-true some 0 e in
         let three : bit_or (bit_or row.first row.second) row.third ≡ 0 = or_zero _ row.fourth all in
         let two : bit_or row.first row.second ≡ 0 = or_zero _ row.third three in
-        sym (none_hit sets out row few left (or_zero row.first row.second two) (or_zero row.second row.first (or_comm row.second row.first ∙ two))
+        sym (none_hit sets out row few left (or_zero row.first row.second two)
+        (or_zero row.second row.first (or_comm row.second row.first ∙ two))
         (or_zero row.third (bit_or row.first row.second) (or_comm row.third _ ∙ three))
         (or_zero row.fourth _ (or_comm row.fourth (bit_or (bit_or row.first row.second) row.third) ∙ all)))
     by false e false w x y ev ew ex ey =

@@ -65,7 +65,8 @@ pub fn decisions_tell_outcomes()
 /// No two records of a client are of one transaction, and the transaction that
 /// is begun has none.
 pub fn transactions_commit_once()
-    ensures apart { (decl : Declaration) (number : ℕ) (inputs : List NumberedInput) → AreReady decl (new_client number) inputs
+    ensures apart { (decl : Declaration) (number : ℕ) (inputs : List NumberedInput)
+        → AreReady decl (new_client number) inputs
         → AllPairs (λ (c d : Commit). same_tx c.tx d.tx ≡ false)
         (after_inputs decl (new_client number) inputs).desk.commits }
     ensures begun { (decl : Declaration) (number : ℕ) (inputs : List NumberedInput) (tx : TxId)

@@ -191,10 +191,10 @@ client_asked decl a ds b n accepted no_site client (posts before turn m first ac
         (client_reach decl accepted (client_after decl (a - decl.sites) o.before).client o.input o.from o.stood.front
         o.asked).asked)))
 
-pub actor_short : (decl : Declaration) (a : ℕ) (ds : List Deed) (m : ℕ) (g : Input) → IsAccepted decl
+pub turns_are_short : (decl : Declaration) (a : ℕ) (ds : List Deed) (m : ℕ) (g : Input) → IsAccepted decl
     → a < administrator decl → Acts decl a ds false m → Every IsFromActor ds → IsFrom g
     → IsShort (actor_takes decl (actor_after decl a ds).actor g).turn
-actor_short decl a ds m g accepted below acts from here = by (is_site decl a) refl
+turns_are_short decl a ds m g accepted below acts from here = by (is_site decl a) refl
   where
     by : (b : Bool) → is_site decl a ≡ b → IsShort (actor_takes decl (actor_after decl a ds).actor g).turn
     by true is =

@@ -101,6 +101,6 @@ turn_by decl a ds steady below false is =
     ∙ ap (λ (b : Bool). cond b (Some (client_after decl (a - decl.sites) ds).turn) None) (other_client decl a below is)
     ∙ ap (λ (m : ActorMove). Some m.turn) (sym (at_client decl a ds steady is (other_client decl a below is)))
 
-pub turn : (decl : Declaration) (a : ℕ) (ds : List Deed) → AreSteady ds → a < administrator decl
+pub turns_are_those_of_actors : (decl : Declaration) (a : ℕ) (ds : List Deed) → AreSteady ds → a < administrator decl
     → turn_after decl a ds ≡ Some (actor_after decl a ds).turn
-turn decl a ds steady below = turn_by decl a ds steady below (is_site decl a) refl
+turns_are_those_of_actors decl a ds steady below = turn_by decl a ds steady below (is_site decl a) refl

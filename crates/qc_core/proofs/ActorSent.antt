@@ -197,12 +197,13 @@ site_turn decl m first turn =
 
 -- any actor
 
-pub actor_sent_at_once : (decl : Declaration) (a : ℕ) (ds : List Deed) (n : ℕ) (g : Input) (first : ℕ) → 0 < decl.sites
+pub requests_are_numbered_at_once : (decl : Declaration) (a : ℕ) (ds : List Deed) (n : ℕ) (g : Input) (first : ℕ)
+    → 0 < decl.sites
     → decl.sites ≤ most_sites → a < administrator decl → Acts decl a ds false n → MayTake ds g
     → (actor_after decl a ((ds ++ Takes g ∷ []) ++ turn_deeds first
     (actor_takes decl (actor_after decl a ds).actor g).turn)).actor ≡ actor_sent
     (actor_takes decl (actor_after decl a ds).actor g).actor first
-actor_sent_at_once decl a ds n g first some most below acts may = by (is_site decl a) refl
+requests_are_numbered_at_once decl a ds n g first some most below acts may = by (is_site decl a) refl
   where
     steady : AreSteady ds
     steady = acts_steady decl a ds false n acts

@@ -1,5 +1,5 @@
--- What the administrator's turns write and tell: a decision at most, whose failure is told alone, as that it is too long
--- for a record; and he answers nothing.
+-- What the administrator's turns write and tell: a decision at most, whose failure is told alone, as that it is too
+-- long for a record; and he answers nothing.
 use Rattle.std.proofs.Common.{[], ℕ, ◌+◌, ◌==◌, inl, nat_le, Bool, true, false, cond, List, ◌∷◌, length, map, take}
 use Rattle.std.proofs.Common.{Option, Some, None, refl}
 use Rattle.std.specs.List.{AllByRecursion as Every}

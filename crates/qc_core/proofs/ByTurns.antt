@@ -247,6 +247,8 @@ module _ (decl : Declaration) (a : ℕ) where
   somewhere false true at is = ap is_some is
   somewhere false false at is = ap is_some is
 
-  pub by_turns : (ds : List Deed) (b : Bool) (n : ℕ) → Lives decl a ds b n → (is_site decl a ≡ true → AreUncommanded ds)
+  pub who_lives_goes_by_turns : (ds : List Deed) (b : Bool) (n : ℕ) → Lives decl a ds b n
+      → (is_site decl a ≡ true → AreUncommanded ds)
       → AreByTurns (is_site decl a) ds
-  by_turns ds b n life none = somewhere (is_up ds) b (place_after (is_site decl a) ds) (place_lives ds b n life none)
+  who_lives_goes_by_turns ds b n life none =
+      somewhere (is_up ds) b (place_after (is_site decl a) ds) (place_lives ds b n life none)

@@ -71,8 +71,9 @@ kept_back a ms past (e ∷ rest) h is kept =
     by false other back = subst (λ (t : Bool). AreGivenBack
         (fold journal_with (journal_of (own a past)) (cond t (e.step ∷ []) [])) later) other back
 
-pub kept_given_back : (h : List Entry) → Kept h → (a : ℕ) → AreGivenBack no_journal (deeds a [] h)
-kept_given_back h kept a = kept_back a [] [] h h refl kept
+pub rises_give_back_journals_where_records_are_kept : (h : List Entry) → Kept h → (a : ℕ)
+    → AreGivenBack no_journal (deeds a [] h)
+rises_give_back_journals_where_records_are_kept h kept a = kept_back a [] [] h h refl kept
 
 -- so it is of what comes first, and of what comes after
 

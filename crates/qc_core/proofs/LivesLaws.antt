@@ -1,5 +1,5 @@
--- An actor through its falls and rises: who is down has no state; who never falls lives as it acts; what it puts into its
--- journal its steps put there.
+-- An actor through its falls and rises: who is down has no state; who never falls lives as it acts; what it puts into
+-- its journal its steps put there.
 use Rattle.std.proofs.Common.{[], ◌≡◌, ℕ, ◌+◌, ◌-◌, ◌==◌, Bool, true, false, cond, List, ◌∷◌, ◌++◌, fold, length}
 use Rattle.std.proofs.Common.{filter, map, Option, Some, None, option_to_list, slice_get, append_assoc, refl, sym, ap}
 use Rattle.std.proofs.Common.{◌∙◌, subst}
@@ -23,7 +23,6 @@ use Rattle.qc_core.specs.Vocabulary.{Acts, AreSteady, IsLawful, IsLawfulWithFall
 use Rattle.qc_core.specs.Vocabulary.{journal_after, journal_at, turn_with_falls, up_at}
 use Rattle.qc_core.specs.Acts as acts
 use Rattle.qc_core.specs.Lives as lives
-use Rattle.qc_core.proofs.ActorLaws.{turn}
 use Rattle.qc_core.proofs.Steady.{acts_steady, turn_steady}
 use Rattle.qc_core.proofs.Written.{after_written}
 use Rattle.qc_core.proofs.LivesOfActors.{rises, reaches, turn_by, same_turn, who_acts}
@@ -168,16 +167,17 @@ clear_post ds Stopped first turn clear =
     (append_assoc ds (tells_of turn.failed_told) (Falls causes.Stop turn.write ∷ []))
     (fallen (ds ++ tells_of turn.failed_told) causes.Stop turn.write)
 
-pub clear : (decl : Declaration) (a : ℕ) (ds : List Deed) (b : Bool) (n : ℕ) → Lives decl a ds b n → is_up ds ≡ true
+pub who_is_up_has_no_pending_record : (decl : Declaration) (a : ℕ) (ds : List Deed) (b : Bool) (n : ℕ)
+    → Lives decl a ds b n → is_up ds ≡ true
     → (journal_after ds).pending ≡ None
-clear decl a ds b n lives.starts = λ is. refl
-clear decl a ds b n (lives.takes before g m life may comes) =
-    clear_more before (Takes g ∷ []) (clear decl a before false m life) (tt, tt)
-clear decl a ds b n (lives.posts before turn m first life above lawful) =
-    clear_post before turn.append first turn (clear decl a before true m life)
-clear decl a ds b n (lives.crashes before m life is) = fallen before _ _
-clear decl a ds b n (lives.rises before records turn m first life is above lawful) =
+who_is_up_has_no_pending_record decl a ds b n lives.starts = λ is. refl
+who_is_up_has_no_pending_record decl a ds b n (lives.takes before g m life may comes) =
+    clear_more before (Takes g ∷ []) (who_is_up_has_no_pending_record decl a before false m life) (tt, tt)
+who_is_up_has_no_pending_record decl a ds b n (lives.posts before turn m first life above lawful) =
+    clear_post before turn.append first turn (who_is_up_has_no_pending_record decl a before true m life)
+who_is_up_has_no_pending_record decl a ds b n (lives.crashes before m life is) = fallen before _ _
+who_is_up_has_no_pending_record decl a ds b n (lives.rises before records turn m first life is above lawful) =
     clear_post (before ++ Rises records ∷ []) turn.append first turn
     (subst (λ (j : Journal). IsClear (is_up (before ++ Rises records ∷ [])) j)
     (sym (fold-append journal_at no_journal before (Rises records ∷ []))) (λ up_now. refl))
-clear decl a ds b n (lives.unopened before cause m life is by_disk) = fallen before _ _
+who_is_up_has_no_pending_record decl a ds b n (lives.unopened before cause m life is by_disk) = fallen before _ _

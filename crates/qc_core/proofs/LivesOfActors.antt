@@ -19,7 +19,7 @@ use Rattle.qc_core.specs.declared.actor.Actor.TheVariants as actor
 use Rattle.qc_core.specs.Vocabulary.{ActorMove, AreSteady, IsLawful, MayReach, actor_after, actor_does, actor_rises}
 use Rattle.qc_core.specs.Vocabulary.{actor_sends, actor_takes, by_admin, by_client, by_site, is_up, moved, turn_after}
 use Rattle.qc_core.specs.Vocabulary.{turn_with_falls, up_at}
-use Rattle.qc_core.proofs.ActorLaws.{other_client, turn}
+use Rattle.qc_core.proofs.ActorLaws.{other_client, turns_are_those_of_actors}
 
 -- one deed more
 
@@ -139,7 +139,7 @@ some_turn decl a ds below = by (is_site decl a) refl
 
 pub same_turn : (decl : Declaration) (a : ℕ) (ds : List Deed) → AreSteady ds → a < administrator decl
     → turn_with_falls decl a ds ≡ turn_after decl a ds
-same_turn decl a ds steady below = some_turn decl a ds below ∙ sym (turn decl a ds steady below)
+same_turn decl a ds steady below = some_turn decl a ds below ∙ sym (turns_are_those_of_actors decl a ds steady below)
 
 and_last : (x y : Bool) → (x && y) ≡ true → y ≡ true
 and_last true y is = is

@@ -102,7 +102,8 @@ module _ (site : ℕ) (ds : List Deed) (n number from to : ℕ) where
         refl refl refl refl refl refl refl
         (ap (λ (v : List Prepared). fold with_promise [] v) none_last)
         none_last
-        (ap (λ (c : ℕ). max c clock) (clock_passes (shown site ds).clock (messages.Install (start_with k clock lines)))))
+        (ap (λ (c : ℕ). max c clock)
+        (clock_passes (shown site ds).clock (messages.Install (start_with k clock lines)))))
       where
         turn : Turn
         turn = recording from number (records.Install (start_with k clock lines)) answers.Installed

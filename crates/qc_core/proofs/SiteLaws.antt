@@ -233,14 +233,17 @@ module _ (decl : Declaration) (site : ℕ) (is : is_site decl site ≡ true) whe
   all_due before [] fits = tt
   all_due before (d ∷ after) fits = (due_of before d after fits.0, all_due (before ++ d ∷ []) after fits.1)
 
-pub are_due : (decl : Declaration) (site : ℕ) (ds : List Deed) (up : Bool) → site < decl.sites → Serves decl site ds up
+pub answers_of_sites_are_due : (decl : Declaration) (site : ℕ) (ds : List Deed) (up : Bool) → site < decl.sites
+    → Serves decl site ds up
     → AreDue decl [] ds
-are_due decl site ds up below served = let is : is_site decl site ≡ true = lt-ltb site decl.sites below in
+answers_of_sites_are_due decl site ds up below served =
+    let is : is_site decl site ≡ true = lt-ltb site decl.sites below in
     all_due decl site is [] ds (are_served decl site is ds up served)
 
-pub shows : (decl : Declaration) (site : ℕ) (ds : List Deed) → site < decl.sites → Serves decl site ds true
+pub sites_are_read_off_their_steps : (decl : Declaration) (site : ℕ) (ds : List Deed) → site < decl.sites
+    → Serves decl site ds true
     → (s : SiteState) × ((actor_after decl site ds).actor ≡ Site s) × IsShown ds s
-shows decl site ds below served = (
+sites_are_read_off_their_steps decl site ds below served = (
   shown site ds,
   is_shown decl site (lt-ltb site decl.sites below) ds true served refl,
   record {

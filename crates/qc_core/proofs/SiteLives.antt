@@ -136,6 +136,6 @@ module _ (decl : Declaration) (a : ℕ) where
       (serving.unopened before cause (subst (Serves decl a before) down
       (lives_serve before false m life (first_part before (Falls cause None ∷ []) inputs))))
 
-pub serves_as_lives : (decl : Declaration) (site : ℕ) (ds : List Deed) (n : ℕ) → Lives decl site ds false n
+pub sites_that_live_serve : (decl : Declaration) (site : ℕ) (ds : List Deed) (n : ℕ) → Lives decl site ds false n
     → Every IsSiteDeed ds → Serves decl site ds (is_up ds)
-serves_as_lives decl site ds n life inputs = lives_serve decl site ds false n life inputs
+sites_that_live_serve decl site ds n life inputs = lives_serve decl site ds false n life inputs

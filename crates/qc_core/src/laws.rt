@@ -26,7 +26,7 @@ ghost use Rattle.qc_site.specs.Site.{SiteState};
 /// that this began with and those since, the lines that its records give, what is
 /// held there and promised, and its clock.
 /// So it is after any falls and rises, whatever records they gave.
-#[tactic(auto, using(crate::proofs::SiteLaws::shows))]
+#[tactic(auto, using(crate::proofs::SiteLaws::sites_are_read_off_their_steps))]
 pub fn sites_are_read_off_their_steps()
     ensures { (decl : Declaration) (site : ℕ) (ds : List Deed) → site < decl.sites → Serves decl site ds true
         → (s : SiteState) × ((actor_after decl site ds).actor ≡ actor.Site s) × IsShown ds s }
@@ -35,7 +35,7 @@ pub fn sites_are_read_off_their_steps()
 /// What a site posts for each input and each rise is due: what it writes, what
 /// it sends, and that it falls where its record isn't written. Its own steps up
 /// to then show it.
-#[tactic(auto, using(crate::proofs::SiteLaws::are_due))]
+#[tactic(auto, using(crate::proofs::SiteLaws::answers_of_sites_are_due))]
 pub fn answers_of_sites_are_due()
     ensures { (decl : Declaration) (site : ℕ) (ds : List Deed) (up : Bool) → site < decl.sites
         → Serves decl site ds up → AreDue decl [] ds }
@@ -43,7 +43,7 @@ pub fn answers_of_sites_are_due()
 
 /// A site that lives by its conduct, and is commanded by nobody, serves: it is up
 /// as it takes what it takes.
-#[tactic(auto, using(crate::proofs::SiteLives::serves_as_lives))]
+#[tactic(auto, using(crate::proofs::SiteLives::sites_that_live_serve))]
 pub fn sites_that_live_serve()
     ensures { (decl : Declaration) (site : ℕ) (ds : List Deed) (n : ℕ) → Lives decl site ds false n
         → Every IsSiteDeed ds → Serves decl site ds (is_up ds) }
@@ -62,7 +62,7 @@ pub fn actors_are_folds()
 
 /// The turn that the deeds of an actor that never falls call for is the last one
 /// of that fold.
-#[tactic(auto, using(crate::proofs::ActorLaws::turn))]
+#[tactic(auto, using(crate::proofs::ActorLaws::turns_are_those_of_actors))]
 pub fn turns_are_those_of_actors()
     ensures { (decl : Declaration) (a : ℕ) (ds : List Deed) → AreSteady ds → a < administrator decl
         → turn_after decl a ds ≡ Some (actor_after decl a ds).turn }
@@ -71,7 +71,7 @@ pub fn turns_are_those_of_actors()
 /// After the turn of an input that an actor of a run may take, one call with
 /// the number of the first message gives what the messages give one after
 /// another.
-#[tactic(auto, using(crate::proofs::ActorSent::actor_sent_at_once))]
+#[tactic(auto, using(crate::proofs::ActorSent::requests_are_numbered_at_once))]
 pub fn requests_are_numbered_at_once()
     ensures { (decl : Declaration) (a : ℕ) (ds : List Deed) (n : ℕ) (given : Input) (first : ℕ)
         → 0 < decl.sites → decl.sites ≤ most_sites → a < administrator decl → Acts decl a ds false n → MayTake ds given
@@ -94,7 +94,7 @@ pub fn actors_fit()
 
 /// An actor's turn has few messages, and they go to actors, where those that
 /// it took came from actors.
-#[tactic(auto, using(crate::proofs::ActorFits::actor_short))]
+#[tactic(auto, using(crate::proofs::ActorFits::turns_are_short))]
 pub fn turns_are_short()
     ensures { (decl : Declaration) (a : ℕ) (ds : List Deed) (m : ℕ) (given : Input) → IsAccepted decl
         → a < administrator decl → Acts decl a ds false m → Every IsFromActor ds → IsFrom given

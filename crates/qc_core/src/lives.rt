@@ -57,7 +57,7 @@ pub fn who_never_falls_lives_as_it_acts()
 
 /// While an actor is up no record is pending: at its rise it was given back, or
 /// dropped.
-#[tactic(auto, using(crate::proofs::LivesLaws::clear))]
+#[tactic(auto, using(crate::proofs::LivesLaws::who_is_up_has_no_pending_record))]
 pub fn who_is_up_has_no_pending_record()
     ensures { (decl : Declaration) (a : ℕ) (ds : List Deed) (open_input : Bool) (n : ℕ)
         → Lives decl a ds open_input n → is_up ds ≡ true → (journal_after ds).pending ≡ None }
@@ -72,7 +72,7 @@ pub fn journals_are_those_of_steps()
 /// Who lives goes by turns: it posts for each input and as it rises, its record
 /// first, and while it is down it only tells so; where no command comes to it,
 /// if it is a site.
-#[tactic(auto, using(crate::proofs::ByTurns::by_turns))]
+#[tactic(auto, using(crate::proofs::ByTurns::who_lives_goes_by_turns))]
 pub fn who_lives_goes_by_turns()
     ensures { (decl : Declaration) (a : ℕ) (ds : List Deed) (open_input : Bool) (n : ℕ)
         → Lives decl a ds open_input n → (is_site decl a ≡ true → AreUncommanded ds)
@@ -80,7 +80,7 @@ pub fn who_lives_goes_by_turns()
 {}
 
 /// Where records are kept, each rise gives back what its actor's journal holds.
-#[tactic(auto, using(crate::proofs::KeptBack::kept_given_back))]
+#[tactic(auto, using(crate::proofs::KeptBack::rises_give_back_journals_where_records_are_kept))]
 pub fn rises_give_back_journals_where_records_are_kept()
     ensures { (h : List Entry) → Kept h → (a : ℕ) → AreGivenBack no_journal (deeds a [] h) }
 {}

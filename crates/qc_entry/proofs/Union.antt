@@ -53,7 +53,8 @@ ascending-union_from x xs low ascending step (y ∷ ys) ys_ascending =
       )
       by Equal is rest =
           let same : y ≡ x = sym (lines_are_ordered.apart x y is) in (
-            every-union (λ l. line_cmp x l ≡ Less) xs ys low (subst (λ l. IsBelowAll line_cmp l ys) same ys_ascending.0),
+            every-union (λ l. line_cmp x l ≡ Less) xs ys low (subst
+                (λ l. IsBelowAll line_cmp l ys) same ys_ascending.0),
             step ys ys_ascending.1,
           )
       by Greater is rest =

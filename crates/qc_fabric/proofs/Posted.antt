@@ -10,7 +10,7 @@ use Rattle.atomic_table.specs.Seated.{TableId}
 use Rattle.qc_decl.specs.Vocabulary.{actors}
 use Rattle.qc_decl.specs.declared.declaration.Declaration.{Declaration}
 use Rattle.qc_mailbox.specs.Vocabulary.{Inboxes, IsKept, MayPost, after_post_as, Roomy}
-use Rattle.qc_mailbox.proofs.FallLaws.{may_post}
+use Rattle.qc_mailbox.proofs.FallLaws.{lawful_posts_are_of_who_is_up}
 use Rattle.qc_mailbox.proofs.FallTrays.{posts_keep_trays}
 use Rattle.qc_script.specs.Vocabulary.{RunsWithFalls, is_up, posts}
 use Rattle.qc_msg.specs.declared.record.Record.{Record}
@@ -84,7 +84,9 @@ module _ {L : ℕ → List Deed → Turn → Type 0} {F : ℕ → List Record �
         (posts (number p) turn op lg.history s.runs is_open law)
 
     may : MayPost (is_up mb.inboxes.up (number p)) turn.append turn.write
-    may = may_post L F D S lg.history op mb.inboxes (omega (arith, s.few)) s.down s.runs s.kept (number p) turn here law
+    may =
+        lawful_posts_are_of_who_is_up L F D S lg.history op mb.inboxes (omega (arith, s.few)) s.down s.runs s.kept
+        (number p) turn here law
 
     kept_after : IsKept S (lg.history ++ by (number p) xs) (after_post_as turn.append mb.inboxes (number p) turn)
     kept_after = subst (λ (x : ℕ). IsKept S (lg.history ++ by (number p) (posted_as turn.append x turn))

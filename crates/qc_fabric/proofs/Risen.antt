@@ -7,7 +7,7 @@ use Rattle.qc_decl.specs.declared.declaration.Declaration.{Declaration}
 use Rattle.qc_mailbox.specs.Vocabulary.{Inboxes, IsKept, Roomy}
 use Rattle.qc_mailbox.proofs.Controlling.{damaged_journals_keep_trays}
 use Rattle.qc_mailbox.proofs.FallLaws.{restarts_down}
-use Rattle.qc_mailbox.proofs.FallTrays.{falls_by_lines_keep_trays, rises_keep_trays, up_kept}
+use Rattle.qc_mailbox.proofs.FallTrays.{falls_by_lines_keep_trays, rises_keep_trays, trays_know_who_is_up}
 use Rattle.qc_msg.specs.declared.record.Record.{Record}
 use Rattle.qc_msg.specs.declared.step.Control.TheVariants as controls
 use Rattle.qc_msg.specs.declared.step.Fall.{Fall}
@@ -133,7 +133,8 @@ module _ {L : ℕ → List Deed → Turn → Type 0} {F : ℕ → List Record �
     restart_lines = lines_of (controls_left S lg.history) (controls.Restart a) may.next
 
     is_down : is_up mb.inboxes.up a ≡ false
-    is_down = ap (λ (up : List Bool). is_up up a) (sym (up_kept S lg.history mb.inboxes 0 s.kept (omega arith)))
+    is_down =
+        ap (λ (up : List Bool). is_up up a) (sym (trays_know_who_is_up S lg.history mb.inboxes 0 s.kept (omega arith)))
         ∙ restarts_down L F D S lg.history op (omega (arith, s.few)) s.runs a restart_lines.rest restart_lines.are
 
     run_risen : (rising : Rising) → IsRising L F a lg.history rising

@@ -56,7 +56,8 @@ impl<C: Conduct, N: RunName> Model for FabricState<C, N> {
       spare = s.spare;
     } };
 
-    ghost invariant = { λ s. IsFabricState (C.lawful N.declaration) (C.fits N.declaration) N.declaration N.script N.table
+    ghost invariant = { λ s. IsFabricState (C.lawful N.declaration)
+        (C.fits N.declaration) N.declaration N.script N.table
         s.script s.log s.mailboxes s.inputs.items s.held.items s.phase s.reserved s.spare (table_of s.passes) s.right };
 }
 

@@ -71,7 +71,12 @@ performs_keeps decl front None object inv = record { clock = refl; epoch = refl;
 performs_keeps decl front (Some t) object inv =
     by t.begun.doomed (nat_le most_transaction_operations (length t.begun.ops))
   where
-    by : (doomed long : Bool) → Keeps front (cond doomed (moved front (telling replies.Doomed)) (cond long (moved front (telling replies.TooLong)) (reads decl front t object inv [] (round_for decl front t (read_need_of decl t.begun.epoch object inv))))).front
+    by : (doomed long : Bool)
+        → Keeps front
+        (cond doomed (moved front (telling replies.Doomed))
+        (cond long (moved front (telling replies.TooLong))
+        (reads decl front t object inv []
+        (round_for decl front t (read_need_of decl t.begun.epoch object inv))))).front
     by true long = record { clock = refl; epoch = refl; count = refl }
     by false true = record { clock = refl; epoch = refl; count = refl }
     by false false =

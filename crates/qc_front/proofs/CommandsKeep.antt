@@ -93,7 +93,9 @@ append_by_holds decl front t object inv event calls r verdicts.Met is records fe
   event_recorded decl t object inv event (resp_of decl object event) records,
   room_after t object inv event (resp_of decl object event) few,
 )
-append_by_holds decl front t object inv event calls r (verdicts.Closed epoch site) is records few chosen round calls_are = (records, at_most (length t.begun.ops) few)
+append_by_holds decl front t object inv event calls r (verdicts.Closed epoch site) is records few chosen round
+    calls_are =
+    (records, at_most (length t.begun.ops) few)
 append_by_holds decl front t object inv event calls r (verdicts.Clash tx site) is records few chosen round calls_are =
     (records, at_most (length t.begun.ops) few)
 append_by_holds decl front t object inv event calls r (verdicts.Short got need) is records few chosen round calls_are =
@@ -172,7 +174,11 @@ performs_holds decl front (Some t) object inv here same =
     need = read_need_of decl t.begun.epoch object inv
 
     by : (doomed long : Bool) → nat_le most_transaction_operations (length t.begun.ops) ≡ long
-        → MoveHolds decl (cond doomed (moved front (telling replies.Doomed)) (cond long (moved front (telling replies.TooLong)) (reads decl front t object inv [] (round_for decl front t (read_need_of decl t.begun.epoch object inv)))))
+        → MoveHolds decl
+        (cond doomed (moved front (telling replies.Doomed))
+        (cond long (moved front (telling replies.TooLong))
+        (reads decl front t object inv []
+        (round_for decl front t (read_need_of decl t.begun.epoch object inv)))))
     by true long is = same
     by false true is = same
     by false false is =

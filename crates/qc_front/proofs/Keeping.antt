@@ -117,7 +117,9 @@ append_counts_holds : (decl : Declaration) (front : Front) (t : Transaction) (ob
     → MoveHolds decl (append_counts decl (learns front answer) t object inv event calls r number site answer)
 append_counts_holds decl front t object inv event calls r number site answer called records h =
     let lives : List LifeAt = (appended_with t site answer).begun.lives in
-    subst (MoveHolds decl) (sym (append_learns decl front answer (appended_with t site answer) object inv event (without_call calls number) (note r site (standing_of answer))
+    subst (MoveHolds decl)
+    (sym (append_learns decl front answer (appended_with t site answer) object inv event (without_call calls number)
+    (note r site (standing_of answer))
     ∙ ap
     (λ (u : Transaction). learned answer
     (appends decl front u object inv event (without_call calls number) (note r site (standing_of answer))))

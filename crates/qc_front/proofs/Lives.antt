@@ -183,20 +183,20 @@ with_keeps lives site (Some (answers.Granted grant)) = record {
 }
 with_keeps lives site (Some (answers.Clash holder inv event)) =
     no_grant lives (Some site) (Some (answers.Clash holder inv event))
-    (λ s life g. (let is : Some (answers.Clash holder inv event) ≡ Some (answers.Granted (grant_with life g.clock g.log)) = g.is in
-    let never : ⊥ = cc in never))
+    (λ s life g. (let is : Some (answers.Clash holder inv event)
+    ≡ Some (answers.Granted (grant_with life g.clock g.log)) = g.is in let never : ⊥ = cc in never))
 with_keeps lives site (Some (answers.Closed epoch)) =
     no_grant lives (Some site) (Some (answers.Closed epoch))
-    (λ s life g. (let is : Some (answers.Closed epoch) ≡ Some (answers.Granted (grant_with life g.clock g.log)) = g.is in
-    let never : ⊥ = cc in never))
+    (λ s life g. (let is : Some (answers.Closed epoch)
+    ≡ Some (answers.Granted (grant_with life g.clock g.log)) = g.is in let never : ⊥ = cc in never))
 with_keeps lives site (Some (answers.Behind epoch)) =
     no_grant lives (Some site) (Some (answers.Behind epoch))
-    (λ s life g. (let is : Some (answers.Behind epoch) ≡ Some (answers.Granted (grant_with life g.clock g.log)) = g.is in
-    let never : ⊥ = cc in never))
+    (λ s life g. (let is : Some (answers.Behind epoch)
+    ≡ Some (answers.Granted (grant_with life g.clock g.log)) = g.is in let never : ⊥ = cc in never))
 with_keeps lives site (Some (answers.Restarted told)) =
     no_grant lives (Some site) (Some (answers.Restarted told))
-    (λ s life g. (let is : Some (answers.Restarted told) ≡ Some (answers.Granted (grant_with life g.clock g.log)) = g.is in
-    let never : ⊥ = cc in never))
+    (λ s life g. (let is : Some (answers.Restarted told)
+    ≡ Some (answers.Granted (grant_with life g.clock g.log)) = g.is in let never : ⊥ = cc in never))
 with_keeps lives site (Some answers.Stale) =
     no_grant lives (Some site) (Some answers.Stale)
     (λ s life g. (let is : Some answers.Stale ≡ Some (answers.Granted (grant_with life g.clock g.log)) = g.is in
@@ -211,16 +211,16 @@ with_keeps lives site (Some (answers.Yes clock)) =
     let never : ⊥ = cc in never))
 with_keeps lives site (Some (answers.Shut snapshot)) =
     no_grant lives (Some site) (Some (answers.Shut snapshot))
-    (λ s life g. (let is : Some (answers.Shut snapshot) ≡ Some (answers.Granted (grant_with life g.clock g.log)) = g.is in
-    let never : ⊥ = cc in never))
+    (λ s life g. (let is : Some (answers.Shut snapshot)
+    ≡ Some (answers.Granted (grant_with life g.clock g.log)) = g.is in let never : ⊥ = cc in never))
 with_keeps lives site (Some answers.Installed) =
     no_grant lives (Some site) (Some answers.Installed)
     (λ s life g. (let is : Some answers.Installed ≡ Some (answers.Granted (grant_with life g.clock g.log)) = g.is in
     let never : ⊥ = cc in never))
 with_keeps lives site (Some (answers.Answered told)) =
     no_grant lives (Some site) (Some (answers.Answered told))
-    (λ s life g. (let is : Some (answers.Answered told) ≡ Some (answers.Granted (grant_with life g.clock g.log)) = g.is in
-    let never : ⊥ = cc in never))
+    (λ s life g. (let is : Some (answers.Answered told)
+    ≡ Some (answers.Granted (grant_with life g.clock g.log)) = g.is in let never : ⊥ = cc in never))
 
 -- nothing else changes them
 

@@ -23,7 +23,8 @@ use Rattle.qc_front.specs.Conduct.{awaited, requested, sent}
 use Rattle.qc_front.specs.Front.{FrontMove}
 use Rattle.qc_front.specs.Holds.{IsNumbered, sites_called}
 
--- what the running `do` wants of a site: a Read names its object and invocation; an Append carries the object's view and
+-- what the running `do` wants of a site: a Read names its object and invocation; an Append carries the object's
+-- view and
 -- all own lines of the object that weigh, the new one last
 abbrev pub IsFor : Declaration → Transaction → Doing → ℕ → Want → Type 0
 IsFor decl t Idle site want = ⊥

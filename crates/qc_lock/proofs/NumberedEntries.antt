@@ -42,7 +42,8 @@ tx_same a b = by (same_tx a b) refl where
       subst (λ u. is_eq (tx_cmp a u) ≡ true) (tx_apart a b is) (ap is_eq (cmp_self transactions_are_ordered.total a))
   by false is = false_from_ne_true (is_eq (tx_cmp a b)) (λ equal.
       both_ways (same_tx a b) is
-      (subst (λ u. same_tx a u ≡ true) (transactions_are_ordered.apart a b (equal_is (tx_cmp a b) equal)) (same_self a)))
+      (subst (λ u. same_tx a u ≡ true) (transactions_are_ordered.apart a b (equal_is (tx_cmp a b) equal))
+      (same_self a)))
 
 pub nat_self : (n : ℕ) → nat_cmp n n ≡ Equal
 nat_self n = cmp_self nat_cmp_total n

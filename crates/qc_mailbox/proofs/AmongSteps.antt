@@ -99,7 +99,8 @@ every_up P false es all = tt
 comes_wait : (ms : List Envelope) (a : ℕ) (up : Bool) (i : Inbox) (e : Envelope) (f : Fate) → IsSentTo ms a e
     → Waits ms a i → Waits ms a (comes_with up i e f)
 comes_wait ms a up i e f sent waits =
-    waits_along ms a (with_copies up i e f) (comes_with up i e f) (answers_wait (with_copies up i e f) e.message f) (record {
+    waits_along ms a (with_copies up i e f) (comes_with up i e f)
+    (answers_wait (with_copies up i e f) e.message f) (record {
       copies =
           every-append (IsSentTo ms a) i.copies (if_up up (copies_at_once f e)) waits.copies
           (every_up (IsSentTo ms a) up _ (every_copy (IsSentTo ms a) f e sent));

@@ -21,10 +21,10 @@ use Rattle.qc_script.specs.Vocabulary.{first_command, first_copy, first_lost, in
 use Rattle.qc_script.specs.declared.script.Script.{Script}
 use Rattle.qc_mailbox.specs.Vocabulary.{Inboxes, IsCommand, IsEmptied, IsKept, MayPost, MayWrite, TellsWhereDown}
 use Rattle.qc_mailbox.specs.Vocabulary.{is_down}
-use Rattle.qc_script.proofs.AllUp.{actor_up}
+use Rattle.qc_script.proofs.AllUp.{nobody_is_down_without_falls}
 use Rattle.qc_mailbox.proofs.Apart.{one_controls}
 use Rattle.qc_mailbox.proofs.FallRuns.{run_stands}
-use Rattle.qc_mailbox.proofs.FallTrays.{up_kept}
+use Rattle.qc_mailbox.proofs.FallTrays.{trays_know_who_is_up}
 use Rattle.qc_mailbox.proofs.LinedSteps.{Lined}
 use Rattle.qc_mailbox.proofs.Lined.{run_lined}
 use Rattle.qc_mailbox.proofs.Standing.{ClosedWhile, IsSettled, Stands}
@@ -63,9 +63,11 @@ module _ (lawful : ℕ → List Deed → Turn → Type 0) (fits : ℕ → List R
   lined : Lined open_inputs (inbox script 0 h)
   lined = run_lined lawful fits decl script few h open_inputs run
 
-  pub lines_close : (line : Control) (lines : List Control) → controls_left script h ≡ line ∷ lines → (a : ℕ)
+  pub no_input_is_open_while_a_line_is_left : (line : Control) (lines : List Control)
+      → controls_left script h ≡ line ∷ lines → (a : ℕ)
       → slice_get open_inputs a ≡ Some true → ⊥
-  lines_close line lines left = subst (λ (cs : List Control). ClosedWhile cs open_inputs) left lined.closed
+  no_input_is_open_while_a_line_is_left line lines left =
+      subst (λ (cs : List Control). ClosedWhile cs open_inputs) left lined.closed
 
   pub crashes_up : (a : ℕ) (lines : List Control) → controls_left script h ≡ controls.Crash a ∷ lines
       → is_up (inbox script 0 h).up a ≡ true
@@ -83,12 +85,12 @@ module _ (lawful : ℕ → List Deed → Turn → Type 0) (fits : ℕ → List R
   stands : (b : ℕ) → b < most_actors → Stands b h open_inputs (inbox script b h)
   stands b low = run_stands lawful fits decl script few tells b low h open_inputs run
 
-  pub up_by_deeds : (a b : ℕ) → a < most_actors → b < most_actors
+  pub inboxes_know_who_is_up : (a b : ℕ) → a < most_actors → b < most_actors
       → is_up (inbox script b h).up a ≡ not (is_down (deeds a [] h))
-  up_by_deeds a b within low = (stands b low).tied a within
+  inboxes_know_who_is_up a b within low = (stands b low).tied a within
 
   pub down_emptied : (a : ℕ) → a < most_actors → is_down (deeds a [] h) ≡ true → IsEmptied (inbox script a h)
-  down_emptied a within down = (stands a within).emptied (up_by_deeds a a within within ∙ ap not down)
+  down_emptied a within down = (stands a within).emptied (inboxes_know_who_is_up a a within within ∙ ap not down)
 
   pub down_commanded : (a : ℕ) → a < most_actors → is_down (deeds a [] h) ≡ true → (g : Input)
       → ready decl script a h ≡ Some g → IsCommand g
@@ -113,18 +115,19 @@ silent_posts up Failed None none may = absurd may
 silent_posts up Stopped None none may = absurd may
 silent_posts up end (Some w) none may = absurd (let never : ⊥ = cc in never)
 
-pub may_post : (lawful : ℕ → List Deed → Turn → Type 0) (fits : ℕ → List Record → Type 0) (decl : Declaration)
+pub lawful_posts_are_of_who_is_up : (lawful : ℕ → List Deed → Turn → Type 0) (fits : ℕ → List Record → Type 0)
+    (decl : Declaration)
     (script : Script) (h : List Entry) (open_inputs : List Bool) (kept : Inboxes)
     → actors decl ≤ most_actors → TellsWhereDown lawful → RunsWithFalls lawful fits decl script h open_inputs
     → IsKept script h kept
     → (a : ℕ) (turn : Turn) → a < most_actors → lawful a (deeds a [] h) turn
     → MayPost (is_up kept.up a) turn.append turn.write
-may_post lawful fits decl script h open_inputs kept few tells run is a turn within law =
+lawful_posts_are_of_who_is_up lawful fits decl script h open_inputs kept few tells run is a turn within law =
     by (is_down (deeds a [] h)) refl
   where
     tie : is_up kept.up a ≡ not (is_down (deeds a [] h))
-    tie = ap (λ (up : List Bool). is_up up a) (sym (up_kept script h kept a is within))
-        ∙ up_by_deeds lawful fits decl script h open_inputs few tells run a a within within
+    tie = ap (λ (up : List Bool). is_up up a) (sym (trays_know_who_is_up script h kept a is within))
+        ∙ inboxes_know_who_is_up lawful fits decl script h open_inputs few tells run a a within within
 
     by : (t : Bool) → is_down (deeds a [] h) ≡ t → MayPost (is_up kept.up a) turn.append turn.write
     by true down = silent_posts (is_up kept.up a) turn.append turn.write
@@ -136,5 +139,5 @@ pub all_up : (lawful : ℕ → List Deed → Turn → Type 0) (decl : Declaratio
     (open_inputs : List Bool) (kept : Inboxes) (a : ℕ)
     → Runs lawful decl script h open_inputs → IsKept script h kept → is_up kept.up a ≡ true
 all_up lawful decl script h open_inputs kept a run is =
-    ap (λ (up : List Bool). is_up up a) (sym (up_kept script h kept 0 is (omega arith)))
-    ∙ actor_up lawful decl script h open_inputs 0 a run
+    ap (λ (up : List Bool). is_up up a) (sym (trays_know_who_is_up script h kept 0 is (omega arith)))
+    ∙ nobody_is_down_without_falls lawful decl script h open_inputs 0 a run

@@ -87,6 +87,8 @@ module _ (lawful : ℕ → List Deed → Turn → Type 0) (fits : ℕ → List R
   run_numbered h inputs (unopened a cause lines before older run left disk) =
       step_numbered older a (steps.Fell cause None) refl (run_numbered older before run)
 
-  pub ready_sent : (h : List Entry) (inputs : List Bool) → RunsWithFalls lawful fits decl script h inputs
+  pub ready_messages_were_sent_through_falls : (h : List Entry) (inputs : List Bool)
+      → RunsWithFalls lawful fits decl script h inputs
       → (a : ℕ) (g : Input) → ready decl script a h ≡ Some g → WasSentTo a (mail h) g
-  ready_sent h inputs run a g is = sent_ready decl script h a g (run_numbered h inputs run) is
+  ready_messages_were_sent_through_falls h inputs run a g is =
+      sent_ready decl script h a g (run_numbered h inputs run) is

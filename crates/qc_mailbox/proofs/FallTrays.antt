@@ -277,7 +277,9 @@ rises_keep_trays script h old a records turn kept within down has receivers =
     (rises_as script h old a records turn kept within down turn.append has receivers))
 
 -- who is up
-pub up_kept : (script : Script) (h : List Entry) (kept : Inboxes) (a : ℕ) → IsKept script h kept → a < most_actors
+pub trays_know_who_is_up : (script : Script) (h : List Entry) (kept : Inboxes) (a : ℕ) → IsKept script h kept
+    → a < most_actors
     → (inbox script a h).up ≡ kept.up
-up_kept script h kept a is within = let shows : Shows kept a (calls_of a h) (inbox script a h) = is.inboxes a within in
+trays_know_who_is_up script h kept a is within =
+    let shows : Shows kept a (calls_of a h) (inbox script a h) = is.inboxes a within in
     shows.up

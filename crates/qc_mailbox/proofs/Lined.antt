@@ -1,5 +1,5 @@
--- In each run with falls, over any conduct: while a control line is left no input is open, and the first one that is left
--- has something to do.
+-- In each run with falls, over any conduct: while a control line is left no input is open, and the first one that is
+-- left has something to do.
 use Rattle.std.proofs.Common.{[], ◌≡◌, ℕ, ◌+◌, ◌-◌, ◌<◌, ◌≤◌, Bool, true, false, List, ◌∷◌, ◌++◌, length, Option, Some}
 use Rattle.std.proofs.Common.{None, ap, sym, subst, ◌∙◌, arith}
 use Rattle.std.specs.Prelude.{drop, set, slice_get, slice_set}

@@ -152,6 +152,13 @@ owns_message links ms a i e o = at (e.from == a) refl (is_request e.message) ref
         { to_each = one_more j.to_each e.to }) else j)
     at true mine true asks =
         owns_sent (ms ++ e ∷ []) a (record j { to_each = one_more j.to_each e.to }) e.number e.to f
-        (record { envelope = e; member = In-last e ms; number_is = refl; from_is = eqb-true e.from a mine; asks = asks }) (record { unanswered = came.unanswered; lost = came.lost })
+        (record {
+          envelope = e;
+          member = In-last e ms;
+          number_is = refl;
+          from_is = eqb-true e.from a mine;
+          asks = asks;
+        })
+        (record { unanswered = came.unanswered; lost = came.lost })
     at true mine false silent = record { unanswered = came.unanswered; lost = came.lost }
     at false other q is = came

@@ -24,7 +24,7 @@ ghost use Rattle.qc_script.specs.declared.script.Script.{Script};
 use qc_script::ConductWithFalls;
 
 /// What is kept knows who is up, as each inbox does.
-#[tactic(auto, using(crate::proofs::FallTrays::up_kept))]
+#[tactic(auto, using(crate::proofs::FallTrays::trays_know_who_is_up))]
 pub fn trays_know_who_is_up()
     ensures { (script : Script) (h : List Entry) (kept : Inboxes) (a : ℕ)
         → IsKept script h kept → a < most_actors → (inbox script a h).up ≡ kept.up }
@@ -43,7 +43,7 @@ pub fn posts_keep_trays()
 
 /// In a run, who posts a lawful turn may do so: it is up, or its turn has no
 /// record.
-#[tactic(auto, using(crate::proofs::FallLaws::may_post))]
+#[tactic(auto, using(crate::proofs::FallLaws::lawful_posts_are_of_who_is_up))]
 pub fn lawful_posts_are_of_who_is_up<C: ConductWithFalls>()
     ensures { (decl : Declaration) (script : Script) (h : List Entry) (open_inputs : List Bool) (kept : Inboxes)
         → actors decl ≤ most_actors → TellsWhereDown C.lawful

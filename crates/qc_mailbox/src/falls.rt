@@ -24,7 +24,7 @@ ghost use Rattle.qc_script.specs.declared.script.Script.{Script};
 use qc_script::ConductWithFalls;
 
 /// While a control line is left, no input is open.
-#[tactic(auto, using(crate::proofs::FallLaws::lines_close))]
+#[tactic(auto, using(crate::proofs::FallLaws::no_input_is_open_while_a_line_is_left))]
 pub fn no_input_is_open_while_a_line_is_left<C: ConductWithFalls>()
     ensures { (decl : Declaration) (script : Script) (h : List Entry) (open_inputs : List Bool)
         → actors decl ≤ most_actors
@@ -57,7 +57,7 @@ pub fn next_lines_have_something_to_do<C: ConductWithFalls>()
 {}
 
 /// Each inbox knows who is up: who by its deeds hasn't fallen since it rose.
-#[tactic(auto, using(crate::proofs::FallLaws::up_by_deeds))]
+#[tactic(auto, using(crate::proofs::FallLaws::inboxes_know_who_is_up))]
 pub fn inboxes_know_who_is_up<C: ConductWithFalls>()
     ensures { (decl : Declaration) (script : Script) (h : List Entry) (open_inputs : List Bool)
         → actors decl ≤ most_actors → TellsWhereDown C.lawful
@@ -83,7 +83,7 @@ pub fn nothing_waits_for_who_is_down<C: ConductWithFalls>()
 
 /// What is ready for an actor and is a message was sent to it, and is found
 /// under its number.
-#[tactic(auto, using(crate::proofs::FallMail::ready_sent))]
+#[tactic(auto, using(crate::proofs::FallMail::ready_messages_were_sent_through_falls))]
 pub fn ready_messages_were_sent_through_falls<C: ConductWithFalls>()
     ensures { (decl : Declaration) (script : Script) (h : List Entry) (open_inputs : List Bool)
         → RunsWithFalls C.lawful C.fits decl script h open_inputs

@@ -153,7 +153,9 @@ tally_written : (t : Tally) (h : List Entry) → Every (λ (e : Entry). IsNoRise
     → (fold tally_with t h).operations ≡ t.operations + sum_by answered_by (written h)
 tally_written t [] none = let nothing : sum_by answered_by [] ≡ 0 = refl in omega arith
 tally_written t (e ∷ h) none =
-    let rest : (fold tally_with (tally_with t e) h).operations ≡ (t.operations + answered_at (t.standing e.actor) e.step) + sum_by answered_by (written h) = tally_written (tally_with t e) h none.1 in
+    let rest : (fold tally_with (tally_with t e) h).operations
+    ≡ (t.operations + answered_at (t.standing e.actor) e.step) + sum_by answered_by (written h) =
+    tally_written (tally_with t e) h none.1 in
     let one : answered_at (t.standing e.actor) e.step ≡ answered_in (commit_in e.step) =
     answered_written (t.standing e.actor) e.step none.0 in
     let all : answered_in (commit_in e.step) + sum_by answered_by (written h) ≡ sum_by answered_by (written (e ∷ h)) =

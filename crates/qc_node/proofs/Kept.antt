@@ -9,7 +9,7 @@ use Rattle.qc_msg.specs.declared.step.Input.{Input}
 use Rattle.qc_msg.specs.declared.step.Step.{Step}
 use Rattle.qc_pass.specs.declared.token.Pass.{Pass}
 use Rattle.qc_pass.specs.Vocabulary.{number, room, seen}
-use Rattle.qc_process.specs.Vocabulary.{IsStored, ProcessView, StoreView}
+use Rattle.qc_process.specs.Vocabulary.{IsProcess, IsStored, ProcessView, StoreView}
 use Rattle.qc_process.proofs.GivenUp.{on_disk_past_input, on_disk_past_others, stored_past_input, stored_past_others}
 use Rattle.qc_script.specs.declared.script.Script.{Script}
 use Rattle.qc_fabric.specs.Vocabulary.{HasNone, Sees, Takes, Waits}
@@ -105,3 +105,10 @@ idle decl script p q b pr waits = record {
   run = waits.run;
   why = subst (λ (n : ℕ). HasNone decl script waits.run.0 n (seen q)) (sym waits.saw.pass.number_is) waits.why;
 }
+
+-- the process of a cell, which was not given up
+pub process_known : (tells : Bool) (decl : Declaration) (p : Pass Step) (pr : ProcessView) (given_up : Bool)
+    → given_up ≡ false → IsKnown tells decl (number p) (seen p) given_up pr
+    → IsProcess tells decl (number p) (seen p) pr
+process_known tells decl p pr given_up kept known =
+    subst (λ (b : Bool). IsKnown tells decl (number p) (seen p) b pr) kept known

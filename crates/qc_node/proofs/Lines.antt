@@ -8,7 +8,7 @@ use Rattle.qc_core.proofs.LivesOfActors.{down, up}
 use Rattle.qc_decl.specs.Vocabulary.{actors, administrator}
 use Rattle.qc_decl.specs.declared.declaration.Declaration.{Declaration}
 use Rattle.qc_mailbox.specs.Vocabulary.{down_at}
-use Rattle.qc_mailbox.proofs.FallLaws.{crashes_up, restarts_down, up_by_deeds}
+use Rattle.qc_mailbox.proofs.FallLaws.{crashes_up, restarts_down, inboxes_know_who_is_up}
 use Rattle.qc_link.specs.Vocabulary.{most_actors}
 use Rattle.laws_turns.proofs.Downs.{who_is_down_only_tells}
 use Rattle.qc_msg.specs.Vocabulary.{Deed, Entry, Falls, Rises, Sends, Takes, Tells, Writes, deeds}
@@ -82,7 +82,8 @@ module _ (decl : Declaration) (script : Script) (few : actors decl ≤ most_acto
   by_deeds : is_up (deeds a [] h) ≡ is_up_in (inbox script 0 h).up a
   by_deeds =
       up_or_down true false (deeds a [] h) refl
-      ∙ sym (up_by_deeds (IsLawfulWithFalls decl) (fits_of decl) decl script h inputs few (who_is_down_only_tells decl) run a 0
+      ∙ sym (inboxes_know_who_is_up (IsLawfulWithFalls decl) (fits_of decl) decl script h inputs few
+      (who_is_down_only_tells decl) run a 0
       (omega (arith, low, few)) (omega (arith)))
 
   pub crashed_up : MayDo decl script h inputs (controls.Crash a)

@@ -98,7 +98,8 @@ module _ (tells : Bool) (decl : Declaration) (script : Script) (accepted : IsAcc
 
       writable : (r : Record) → turn.write ≡ Some r → IsWritable r
       writable r is =
-          let both = turn_spelled decl script accepted sound (fits_of decl) (λ a rs fit. fit) (seen q) took.run.0 took.run.1
+          let both = turn_spelled decl script accepted sound (fits_of decl) (λ a rs fit. fit) (seen q) took.run.0
+          took.run.1
           (omega (arith, short_after)) (number p) (record turn { append = Done }) lawful r is in
           record { legal = both.0; short = both.1 }
 
@@ -171,7 +172,8 @@ module _ (tells : Bool) (decl : Declaration) (script : Script) (accepted : IsAcc
             (subst (λ (n : ℕ). Goes n (seen q) [] (seen p2)) took.pass.number_is (saw_goes q p2 saw)) is)
 
         module _ (r : Pass Step) (end : Appended) (first : ℕ)
-            (posts : Posts (IsLawfulWithFalls decl) (fits_of decl) decl script p2 r (record turn { append = end }) first)
+            (posts : Posts (IsLawfulWithFalls decl) (fits_of decl) decl script p2 r
+            (record turn { append = end }) first)
           where
             abbrev ended : Turn
             ended = record turn { append = end }
@@ -241,7 +243,8 @@ module _ (tells : Bool) (decl : Declaration) (script : Script) (accepted : IsAcc
               does =
                   deeds_last
                   ∙ (ap (λ (ds : List Deed). ds ++ deeds_as end first ended) took.does
-                  ∙ (ap (λ (ds : List Deed). (deeds (number p) [] (seen p) ++ TakesInput g ∷ []) ++ ds) (same_deeds end first turn)
+                  ∙ (ap (λ (ds : List Deed). (deeds (number p) [] (seen p) ++ TakesInput g ∷ []) ++ ds)
+                  (same_deeds end first turn)
                   ∙ ap (λ (t : Turn). (deeds (number p) [] (seen p) ++ TakesInput g ∷ []) ++ deeds_as end first t)
                   (sym turn_here)));
               up = up;

@@ -13,7 +13,7 @@ use Rattle.qc_core.proofs.ActorLaws.{other_client}
 use Rattle.qc_decl.specs.Vocabulary.{IsAccepted, actors, administrator, is_administrator, is_client, is_site}
 use Rattle.qc_decl.specs.Vocabulary.{most_steps}
 use Rattle.qc_decl.specs.declared.declaration.Declaration.{Declaration}
-use Rattle.qc_mailbox.proofs.FallMail.{ready_sent}
+use Rattle.qc_mailbox.proofs.FallMail.{ready_messages_were_sent_through_falls}
 use Rattle.qc_list.specs.Vocabulary.{In}
 use Rattle.qc_msg.specs.declared.message.Envelope.{Envelope}
 use Rattle.qc_msg.specs.declared.step.Input.{Input}
@@ -81,7 +81,9 @@ module _ (decl : Declaration) (script : Script) (accepted : IsAccepted decl) (a 
 
   pub readable : length h < most_steps → (g : Input) → ready decl script a h ≡ Some g → IsReadable g
   readable short g is =
-      readable_if short g (ready_sent (IsLawfulWithFalls decl) (fits_of decl) decl script h inputs run a g is)
+      readable_if short g
+      (ready_messages_were_sent_through_falls (IsLawfulWithFalls decl) (fits_of decl) decl script h inputs run a g
+      is)
 
   -- after it: what is posted is lawful, and goes to actors; and the actor's call that numbers its messages
 

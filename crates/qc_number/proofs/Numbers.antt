@@ -45,8 +45,8 @@ decimal_is_digits n few =
     let small : n < 2 ^ 64 = omega arith in
     (decimal_nonempty n small, digits.from (decimal n) (decimal_is_IsNumeral n small).0.1)
 
-pub number_read : (n : ℕ) → n ≤ greatest → number_of (decimal n) ≡ Some n
-number_read n few =
+pub numbers_are_read_as_written : (n : ℕ) → n ≤ greatest → number_of (decimal n) ≡ Some n
+numbers_are_read_as_written n few =
     let small : n < 2 ^ 64 = omega arith in
     let is = decimal_is_digits n few in
     let short : length (decimal n) ≤ 5 = length-decimal-le 5 n (omega arith) (omega arith) small in

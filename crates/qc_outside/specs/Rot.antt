@@ -13,4 +13,5 @@ IsRotting after (Mem disk) = ⊥
 -- it is empty, and its falls undo what wasn't synced
 abbrev pub IsKeeping : RotRackDisk → Type 0
 IsKeeping (Rot disk) = ⊥
-IsKeeping (Mem disk) = (disk.tear ≡ Nothing) × (told_by disk.tear disk.changes.items disk.written.items ≡ told_by Nothing [] [])
+IsKeeping (Mem disk) = (disk.tear ≡ Nothing)
+    × (told_by disk.tear disk.changes.items disk.written.items ≡ told_by Nothing [] [])

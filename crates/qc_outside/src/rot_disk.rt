@@ -90,7 +90,8 @@ impl Disk for RotDisk {
         ensures after { self.new.after.items ≡ self.old.after.items }
         ensures memory { (n end : ℕ) → ⟦<RotDisk as Disk>⟧.has_room self.old (suc n) end → at + length bytes.now ≤ end
             → result ≢ Err DiskWants }
-        ensures room { OnOk result ((n end : ℕ) → ⟦<RotDisk as Disk>⟧.has_room self.old (suc n) end → at + length bytes.now ≤ end
+        ensures room { OnOk result ((n end : ℕ) → ⟦<RotDisk as Disk>⟧.has_room self.old (suc n) end
+            → at + length bytes.now ≤ end
             → ⟦<RotDisk as Disk>⟧.has_room self.new n end) }
         ensures cause { DiskRose 0 0 result }
     {

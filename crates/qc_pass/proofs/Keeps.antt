@@ -94,7 +94,8 @@ module _ {E : Type 0} where
                 had_end = p.had_end;
               })
               (λ k u ne at' f. let q : IsPassOf h.history h.rooms h.ends h.seats k u = h.pass k u at' f in
-              let apart : v.number ≢ u.number = λ same. ne (sym q.own_seat ∙ (ap h.seats (sym same) ∙ p.own_seat)) in record {
+              let apart : v.number ≢ u.number =
+              λ same. ne (sym q.own_seat ∙ (ap h.seats (sym same) ∙ p.own_seat)) in record {
                 own_seat = q.own_seat;
                 made = q.made;
                 part = own_other u.number v.number h.history e apart ∙ q.part;

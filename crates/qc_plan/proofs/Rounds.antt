@@ -47,7 +47,9 @@ by_tests turns weights need asked (site ∷ sites) true true noted heavy more =
     let next : IsWanted turns after = more site sites refl in
     let same : wanted after ≡ prefix weights need (with_site asked site) sites =
     awaited weights need (with_site asked site) sites (unknown asked site) in
-    let here : cond (is_light weights need asked) (site ∷ prefix weights need (with_site asked site) sites) [] ≡ site ∷ prefix weights need (with_site asked site) sites = ap (λ t. cond t (site ∷ prefix weights need (with_site asked site) sites) []) heavy in
+    let here : cond (is_light weights need asked) (site ∷ prefix weights need (with_site asked site) sites) []
+    ≡ site ∷ prefix weights need (with_site asked site) sites =
+    ap (λ t. cond t (site ∷ prefix weights need (with_site asked site) sites) []) heavy in
     ap (λ (p : List ℕ × RoundState). (site ∷ p.0, p.1)) next
     ∙ ap (λ (ss : List ℕ). (site ∷ ss, asking_all after ss)) same
     ∙ ap (λ (ss : List ℕ). (ss, asking_all (state weights need asked (site ∷ sites)) ss)) (sym here)
@@ -154,7 +156,8 @@ pub note_some : (weights : List ℕ) (need : ℕ) (sites : List Asked) (n p site
     (map (λ (a : Asked). a.site) (drop n (set sites p (record { site = site; standing = Some standing }))))
     ≡ state weights need (note_in site standing (take n sites)) (map (λ (a : Asked). a.site) (drop n sites))
 note_some weights need sites n p site standing low place =
-    let front : take n (set sites p (record { site = site; standing = Some standing })) ≡ note_in site standing (take n sites) =
+    let front : take n (set sites p (record { site = site; standing = Some standing }))
+    ≡ note_in site standing (take n sites) =
     take-set-lt n sites p (record { site = site; standing = Some standing }) low
     ∙ ap (λ k. set (take n sites) k (record { site = site; standing = Some standing })) place
     ∙ sym (note_put site standing (take n sites)) in

@@ -9,7 +9,7 @@ use Rattle.qc_outside.specs.Vocabulary.{Fuse, Told}
 use Rattle.qc_outside.specs.declared.disk.ArmKind.{ArmKind}
 use Rattle.qc_promise.specs.Vocabulary.{DiskAccount, disk_armed}
 use Rattle.qc_store.specs.Vocabulary.{DiskHolds, IsAccountOf, StillTells}
-use Rattle.qc_store.proofs.Accounts.{counted, is_armed}
+use Rattle.qc_store.proofs.Accounts.{counted, armed_faults_are_accounted}
 use Rattle.qc_process.specs.Vocabulary.{AreUnfit, Goes, GoesArmed, IsOnDisk, IsOpened, IsStored, OpenJournal, StoreView}
 use Rattle.qc_process.proofs.Appending.{Shows}
 use Rattle.qc_process.proofs.Going.{crashed_on}
@@ -71,6 +71,6 @@ armed_of tells decl a h now s new kind at same goes is =
       account = t;
       told_by = told_armed tells decl a h now is.records is.account kind at goes is.told_by;
       still = is.still;
-      accounted = is_armed is.account s.fuse kind at goes.some is.accounted;
+      accounted = armed_faults_are_accounted is.account s.fuse kind at goes.some is.accounted;
       placed = is.placed;
     })

@@ -11,9 +11,9 @@ use Rattle.qc_promise.specs.Vocabulary.{IsKeptOrUnfit, Journal, journal_of}
 use Rattle.qc_process.specs.Vocabulary.{AreKeptOrUnfit, Goes, HasFewRecords, IsPlaced, IsStored, OpenJournal, StoreView}
 use Rattle.qc_process.specs.Vocabulary.{journal_fits}
 
-pub in_parts : (a : ℕ) (h now : List Entry) (xs ys : List Step) → Goes a h (xs ++ ys) now
+pub posts_may_be_seen_in_parts : (a : ℕ) (h now : List Entry) (xs ys : List Step) → Goes a h (xs ++ ys) now
     → (mid : List Entry) × Goes a h xs mid × Goes a mid ys now
-in_parts a h now xs ys goes = (
+posts_may_be_seen_in_parts a h now xs ys goes = (
   (h ++ goes.others) ++ by a xs,
   record { others = goes.others; not_own = goes.not_own; now_is = refl },
   record {
@@ -34,9 +34,10 @@ few_placed s (Some o) j n placed few short =
     let same : o.records ≡ length j.records = placed.2 in
     omega (arith, same, few, short)
 
-pub few_stored : (tells : Bool) (decl : Declaration) (a : ℕ) (h : List Entry) (s : StoreView) → length h < 2 ^ 31
+pub stores_take_one_record_more : (tells : Bool) (decl : Declaration) (a : ℕ) (h : List Entry) (s : StoreView)
+    → length h < 2 ^ 31
     → IsStored tells decl a h s → HasFewRecords s
-few_stored tells decl a h s short is =
+stores_take_one_record_more tells decl a h s short is =
     few_placed s s.journal is.records (length h) is.placed is.told_by.few short
 
 -- from each actor's own steps to the history

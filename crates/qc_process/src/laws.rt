@@ -32,14 +32,14 @@ pub fn stores_stay_over_looks_and_inputs()
 {}
 
 /// What an actor posts at once may be seen in two parts.
-#[tactic(auto, using(crate::proofs::Seen::in_parts))]
+#[tactic(auto, using(crate::proofs::Seen::posts_may_be_seen_in_parts))]
 pub fn posts_may_be_seen_in_parts()
     ensures { (a : ℕ) (h now : List Entry) (xs ys : List Step) → Goes a h (xs ++ ys) now
         → (mid : List Entry) × Goes a h xs mid × Goes a mid ys now }
 {}
 
 /// Far below the limit of numbers of records, one more can be written.
-#[tactic(auto, using(crate::proofs::Seen::few_stored))]
+#[tactic(auto, using(crate::proofs::Seen::stores_take_one_record_more))]
 pub fn stores_take_one_record_more()
     ensures { (tells : Bool) (decl : Declaration) (a : ℕ) (h : List Entry) (s : StoreView) → length h < 2 ^ 31
         → IsStored tells decl a h s → HasFewRecords s }

@@ -1,6 +1,7 @@
 //! A process: an actor with its store.
 
-ghost use Rattle.std.specs.Prelude.{◌≡◌, ◌≢◌, ◌+◌, ◌<◌, ◌^◌, ◌∷◌, ℕ, Bool, true, [], List, None, IfErr, IfOk, IsSome, OnErr};
+ghost use Rattle.std.specs.Prelude.{◌≡◌, ◌≢◌, ◌+◌, ◌<◌, ◌^◌, ◌∷◌, ℕ, Bool, true, [], List, None, IfErr, IfOk};
+ghost use Rattle.std.specs.Prelude.{IsSome, OnErr};
 ghost use Rattle.std.specs.Prelude.{OnOk, option_map};
 ghost use Rattle.qc_core.specs.Actors.{ActorFits, AsksFew, actor_sent, actor_takes, moved};
 ghost use Rattle.qc_core.specs.declared.actor.Actor.TheVariants as actors;

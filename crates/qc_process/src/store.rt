@@ -1,6 +1,7 @@
 //! An actor's store: its journal while that is open, and its disk by itself else.
 
-ghost use Rattle.std.specs.Prelude.{◌≡◌, ◌≢◌, ◌<◌, ◌∷◌, ℕ, Bool, [], List, Some, None, IfErr, IfOk, OnErr, OnOk, is_some};
+ghost use Rattle.std.specs.Prelude.{◌≡◌, ◌≢◌, ◌<◌, ◌∷◌, ℕ, Bool, [], List, Some, None, IfErr, IfOk, OnErr, OnOk};
+ghost use Rattle.std.specs.Prelude.{is_some};
 ghost use Rattle.std.specs.Prelude.{option_map};
 ghost use Rattle.qc_decl.specs.declared.declaration.Declaration.{Declaration};
 ghost use Rattle.qc_msg.specs.Steps.{Entry, posted_as};
@@ -136,7 +137,8 @@ impl<D: Disk> Store<D> {
     pub fn crash(&mut self)
         requires up { IsUp self.old }
         ensures down { (self.new.journal ≡ None) × (self.new.spelling ≡ None) }
-        ensures goes { (decl : Declaration) (a : ℕ) → GoesOn decl a self.old (steps.Fell fall.Script None ∷ []) self.new }
+        ensures goes { (decl : Declaration) (a : ℕ)
+            → GoesOn decl a self.old (steps.Fell fall.Script None ∷ []) self.new }
         ensures damaged { (tells : Bool) (decl : Declaration) (a : ℕ) (h now : List Entry) (bodies : List (List ℕ))
             (offset : ℕ) → IsOpened tells decl a h bodies self.old → AreUnfit decl a bodies
             → Goes a h (steps.Damaged offset ∷ []) now → IsStored tells decl a now self.new }

@@ -74,7 +74,8 @@ over s = record s { begun = None }
 abbrev pub sight_told : TxId → Sight → Reply → Sight
 sight_told tx s reply =
     option_map_or (λ (other : TxId).
-    record s { begun = Some other; seen = if same_tx other tx then s.shown ++ s.committed else s.seen }) (began_in reply)
+    record s { begun = Some other; seen = if same_tx other tx then s.shown ++ s.committed else s.seen })
+    (began_in reply)
     (option_map_or (λ (stamp : Stamp). over (record s { committed = s.committed ++ option_to_list s.begun }))
     (committed_in reply) (if is_end reply then over s else s))
 

@@ -78,12 +78,32 @@ of_line_above a l ha h below =
     let i_floor = a.tx.life ∷ n_floor in
     let a_floor = a.tx.client ∷ i_floor in
     true_both _ _ (own_stamp l h)
-    (fall 1 greatest_clock a.stamp.clock l.stamp.clock a_floor (λ f. (from_client f).is_legal (l.tx.client, (l.tx.life, (l.tx.number, (l.op, (l.object, l.event)))))) h.clock (unrise _ _ _ (sym (flat a l) ∙ below)) (free_client l h) (λ h1.
-    fall 0 15 a.tx.client l.tx.client i_floor (λ f. (from_life f).is_legal (l.tx.life, (l.tx.number, (l.op, (l.object, l.event))))) (at_most 15 l.tx.client h.tx.client) (untwice _ _ _ _ _ ha.stamp h.stamp h1) (free_life l h) (λ h2.
-    fall 1 (2 ^ 32 - 1) a.tx.life l.tx.life n_floor (λ f. (from_number f).is_legal (l.tx.number, (l.op, (l.object, l.event)))) h.tx.life (unrise _ _ _ h2) (free_number l h) (λ h3.
-    fall 1 (2 ^ 32 - 1) a.tx.number l.tx.number o_floor (λ f. (from_op f).is_legal (l.op, (l.object, l.event))) h.tx.number (unrise _ _ _ h3) (free_op l h) (λ h4.
-    fall 1 16 a.op l.op j_floor (λ f. (from_object f).is_legal (l.object, l.event)) h.op (unrise _ _ _ h4) (free_object l h) (λ h5.
-    fall 0 15 a.object l.object e_floor (λ f. (from_event f).is_legal l.event) (at_most 15 l.object h.object) (unrise _ _ _ h5) (free_event l h) (λ h6.
+    (fall 1 greatest_clock a.stamp.clock l.stamp.clock a_floor
+    (λ f. (from_client f).is_legal (
+      l.tx.client,
+      (
+        l.tx.life,
+        (
+          l.tx.number,
+          (
+            l.op,
+            (l.object, l.event),
+          ),
+        ),
+      ),
+    )) h.clock (unrise _ _ _ (sym (flat a l) ∙ below)) (free_client l h) (λ h1.
+    fall 0 15 a.tx.client l.tx.client i_floor
+    (λ f. (from_life f).is_legal (l.tx.life, (l.tx.number, (l.op, (l.object, l.event)))))
+    (at_most 15 l.tx.client h.tx.client) (untwice _ _ _ _ _ ha.stamp h.stamp h1) (free_life l h) (λ h2.
+    fall 1 (2 ^ 32 - 1) a.tx.life l.tx.life n_floor
+    (λ f. (from_number f).is_legal (l.tx.number, (l.op, (l.object, l.event)))) h.tx.life (unrise _ _ _ h2)
+    (free_number l h) (λ h3.
+    fall 1 (2 ^ 32 - 1) a.tx.number l.tx.number o_floor
+    (λ f. (from_op f).is_legal (l.op, (l.object, l.event))) h.tx.number (unrise _ _ _ h3) (free_op l h) (λ h4.
+    fall 1 16 a.op l.op j_floor (λ f. (from_object f).is_legal (l.object, l.event)) h.op (unrise _ _ _ h4)
+    (free_object l h) (λ h5.
+    fall 0 15 a.object l.object e_floor (λ f. (from_event f).is_legal l.event) (at_most 15 l.object h.object)
+    (unrise _ _ _ h5) (free_event l h) (λ h6.
     last 0 63 a.event l.event (at_most 63 l.event h.event) (unless a.event l.event h6))))))))
 
 abbrev IsLineBelow : Line → Line → Type 0

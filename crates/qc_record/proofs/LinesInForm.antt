@@ -41,7 +41,8 @@ of_tx tx h =
 
 pub lock_of : (before : Option ReadLock) (l : ReadLock) → (lock_form before).is_legal l ≡ true → IsLock l
 lock_of before l e =
-    let b = both_true (climbs 0 15 (lock_floor before) l.object) (tops 0 31 (tied (lock_floor before) l.object) l.inv) e in
+    let b = both_true (climbs 0 15 (lock_floor before) l.object)
+    (tops 0 31 (tied (lock_floor before) l.object) l.inv) e in
     record {
       object = (climb_range 0 15 l.object (lock_floor before) b.0).1;
       inv = (top_range 0 31 l.inv (tied (lock_floor before) l.object) b.1).1;

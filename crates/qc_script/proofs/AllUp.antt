@@ -148,9 +148,10 @@ pub run_up : (lawful : ℕ → List Deed → Turn → Type 0) (decl : Declaratio
     (inputs : List Bool) → Runs lawful decl script h inputs → (a : ℕ) → (inbox script a h).up ≡ everybody
 run_up lawful decl script h inputs run a = steps_up script a h _ (run_stays lawful decl script h inputs run) refl
 
-pub actor_up : (lawful : ℕ → List Deed → Turn → Type 0) (decl : Declaration) (script : Script) (h : List Entry)
+pub nobody_is_down_without_falls : (lawful : ℕ → List Deed → Turn → Type 0) (decl : Declaration) (script : Script)
+    (h : List Entry)
     (inputs : List Bool) (a b : ℕ) → Runs lawful decl script h inputs → is_up (inbox script a h).up b ≡ true
-actor_up lawful decl script h inputs a b run =
+nobody_is_down_without_falls lawful decl script h inputs a b run =
     is_up-everybody (inbox script a h).up b (run_up lawful decl script h inputs run a)
 
 -- lines that leave everybody up have a step each

@@ -26,16 +26,17 @@ same_step (controls.Restart x) step is = is
 module _ (lawful : ℕ → List Deed → Turn → Type 0) (fits : ℕ → List Record → Type 0) (decl : Declaration)
     (script : Script)
     (done : (a : ℕ) (ds : List Deed) (turn : Turn) → lawful a ds turn → turn.append ≡ Done) where
-  pub with_falls : (h : List Entry) (inputs : List Bool) → Runs lawful decl script h inputs
+  pub runs_without_falls_are_runs : (h : List Entry) (inputs : List Bool) → Runs lawful decl script h inputs
       → RunsWithFalls lawful fits decl script h inputs
-  with_falls h inputs begins = falling.begins
-  with_falls h inputs (takes a g before older run free rdy) =
-      falling.takes a g before older (with_falls older before run) free rdy
-  with_falls h inputs (posts a turn before older run taken law) =
+  runs_without_falls_are_runs h inputs begins = falling.begins
+  runs_without_falls_are_runs h inputs (takes a g before older run free rdy) =
+      falling.takes a g before older (runs_without_falls_are_runs older before run) free rdy
+  runs_without_falls_are_runs h inputs (posts a turn before older run taken law) =
       subst (λ (end : Appended). RunsWithFalls lawful fits decl script
       (older ++ by a (posted_as end (length (mail older)) turn)) (slice_set before a false)) (done a _ turn law)
-      (falling.posts a turn before older (with_falls older before run) taken law)
-  with_falls h inputs (phase before older run none left quiet more) =
-      falling.phase before older (with_falls older before run) none left quiet more
-  with_falls h inputs (control line lines step before older run left is) =
-      falling.control line lines step before older (with_falls older before run) left (same_step line step is)
+      (falling.posts a turn before older (runs_without_falls_are_runs older before run) taken law)
+  runs_without_falls_are_runs h inputs (phase before older run none left quiet more) =
+      falling.phase before older (runs_without_falls_are_runs older before run) none left quiet more
+  runs_without_falls_are_runs h inputs (control line lines step before older run left is) =
+      falling.control line lines step before older (runs_without_falls_are_runs older before run) left
+      (same_step line step is)

@@ -1,5 +1,5 @@
--- What the inboxes of two actors have in common: cuts, who is up, control lines, and the number of messages from the one
--- to the other. So a message has one fate, for its sender and for its receiver.
+-- What the inboxes of two actors have in common: cuts, who is up, control lines, and the number of messages from the
+-- one to the other. So a message has one fate, for its sender and for its receiver.
 use Rattle.std.proofs.Common.{[], ◌≡◌, ℕ, ◌+◌, ◌-◌, ◌<◌, ◌==◌, Bool, true, false, if◌then◌else◌, List, ◌∷◌, length}
 use Rattle.std.proofs.Common.{refl, ap, sym, ◌∙◌}
 use Rattle.std.specs.Prelude.{drop, set, slice_get}
@@ -112,8 +112,12 @@ sends_both : (links : List Link) (a b : ℕ) (i j : Inbox) (e : Envelope) → a 
     → InCommon a b i j
     → InCommon a b (goes links a (comes links a i e) e) (goes links b (comes links b j e) e)
 sends_both links a b i j e a_within b_within common =
-    let first : Sends i (goes links a (comes links a i e) e) (if e.to == a then one_more i.from_each e.from else i.from_each) (if e.from == a then one_more i.to_each e.to else i.to_each) = sends_does links a i e in
-    let second : Sends j (goes links b (comes links b j e) e) (if e.to == b then one_more j.from_each e.from else j.from_each) (if e.from == b then one_more j.to_each e.to else j.to_each) = sends_does links b j e in
+    let first : Sends i (goes links a (comes links a i e) e)
+    (if e.to == a then one_more i.from_each e.from else i.from_each)
+    (if e.from == a then one_more i.to_each e.to else i.to_each) = sends_does links a i e in
+    let second : Sends j (goes links b (comes links b j e) e)
+    (if e.to == b then one_more j.from_each e.from else j.from_each)
+    (if e.from == b then one_more j.to_each e.to else j.to_each) = sends_does links b j e in
     record {
       cuts = first.cuts ∙ (common.cuts ∙ sym second.cuts);
       up = first.up ∙ (common.up ∙ sym second.up);
@@ -126,7 +130,8 @@ sends_both links a b i j e a_within b_within common =
           ∙ length_more (e.from == b) j.to_each e.to most_actors common.to_length;
       count =
           ap (λ (c : List ℕ). count_of c b) first.from_each
-          ∙ (one_count a b e.to e.from i.from_each j.to_each a_within b_within common.from_length common.to_length common.count
+          ∙ (one_count a b e.to e.from i.from_each j.to_each a_within b_within common.from_length common.to_length
+          common.count
           ∙ ap (λ (c : List ℕ). count_of c a) (sym second.to_each));
     }
 

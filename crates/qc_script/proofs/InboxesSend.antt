@@ -123,7 +123,9 @@ goes_with_does i e f = by (is_request e.message)
         (if t then request_sent (record i { to_each = one_more i.to_each e.to }) e.number e.to f else
         (record i { to_each = one_more i.to_each e.to })) i.from_each (one_more i.to_each e.to)
     by true =
-        let after : Keeps (record i { to_each = one_more i.to_each e.to }) (request_sent (record i { to_each = one_more i.to_each e.to }) e.number e.to f) = sent_keeps (record i { to_each = one_more i.to_each e.to }) e.number e.to f in
+        let after : Keeps (record i { to_each = one_more i.to_each e.to })
+        (request_sent (record i { to_each = one_more i.to_each e.to }) e.number e.to f) =
+        sent_keeps (record i { to_each = one_more i.to_each e.to }) e.number e.to f in
         record {
           cuts = after.cuts;
           up = after.up;
@@ -149,7 +151,8 @@ pub sends_does : (links : List Link) (a : ℕ) (i : Inbox) (e : Envelope)
 sends_does links a i e =
     let first : Sends i (comes links a i e) (if e.to == a then one_more i.from_each e.from else i.from_each) i.to_each =
     comes_does links a i e in
-    let second : Sends (comes links a i e) (goes links a (comes links a i e) e) (comes links a i e).from_each (if e.from == a then one_more (comes links a i e).to_each e.to else (comes links a i e).to_each) =
+    let second : Sends (comes links a i e) (goes links a (comes links a i e) e) (comes links a i e).from_each
+    (if e.from == a then one_more (comes links a i e).to_each e.to else (comes links a i e).to_each) =
     goes_does links a (comes links a i e) e in
     record {
       cuts = second.cuts ∙ first.cuts;

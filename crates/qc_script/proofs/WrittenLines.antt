@@ -5,7 +5,7 @@ use Rattle.qc_link.specs.declared.rule.Rule.{Rule}
 use Rattle.qc_outside.specs.declared.disk.ArmKind.{ArmKind}
 use Rattle.qc_outside.specs.declared.disk.ArmKind.TheVariants.{Stop, Fail}
 use Rattle.qc_script.proofs.WrittenWords.{actor_read, apart, client_read, end_read, name_read, ordinal_read, rule_read}
-use Rattle.qc_number.proofs.Numbers.{number_read}
+use Rattle.qc_number.proofs.Numbers.{numbers_are_read_as_written}
 use Rattle.qc_script.specs.Vocabulary.{HasFewDigits, IsWritable, IsWritableActor, IsWritableEnd, IsWritableOrdinal}
 use Rattle.qc_script.specs.Vocabulary.{IsWritableVerb, actor_of, actor_word, client_of, command_line, end_of, end_word}
 use Rattle.qc_script.specs.Vocabulary.{line_of, link_of, name_of, ordinal_of, ordinal_word, other_line, pair_of}
@@ -49,11 +49,11 @@ unfolding other_line
 armed_read Stop actor at first second =
     then (actor_of (actor_word actor)) actor (λ a. number_of (decimal at) >>= (λ n. Some (lines.Armed a Stop n)))
     (actor_read actor first)
-    ∙ then (number_of (decimal at)) at (λ n. Some (lines.Armed actor Stop n)) (number_read at second)
+    ∙ then (number_of (decimal at)) at (λ n. Some (lines.Armed actor Stop n)) (numbers_are_read_as_written at second)
 armed_read Fail actor at first second =
     then (actor_of (actor_word actor)) actor (λ a. number_of (decimal at) >>= (λ n. Some (lines.Armed a Fail n)))
     (actor_read actor first)
-    ∙ then (number_of (decimal at)) at (λ n. Some (lines.Armed actor Fail n)) (number_read at second)
+    ∙ then (number_of (decimal at)) at (λ n. Some (lines.Armed actor Fail n)) (numbers_are_read_as_written at second)
 
 verb_read : (verb : Verb) → IsWritableVerb verb → verb_of (verb_words verb) ≡ Some verb
 verb_read Begin few = refl
@@ -92,4 +92,4 @@ line_read (lines.Command client verb) few =
     (λ c. verb_of (verb_words verb) >>= (λ v. Some (lines.Command c v))) (client_read client few.0)
     ∙ then (verb_of (verb_words verb)) verb (λ v. Some (lines.Command client v)) (verb_read verb few.1)
 line_read (lines.Epoch number) few = then (number_of (decimal number)) number (λ n. Some (lines.Epoch n))
-    (number_read number few)
+    (numbers_are_read_as_written number few)

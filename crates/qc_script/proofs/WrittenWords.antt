@@ -12,7 +12,7 @@ use Rattle.std.proofs.lemmas.Fmt.{length-decimal-le}
 use Rattle.std.proofs.lemmas.Slice.Eq.{bytes_eq-Decides}
 use Rattle.qc_link.specs.declared.rule.Rule.{Rule}
 use Rattle.qc_link.specs.declared.rule.Rule.TheVariants as rule
-use Rattle.qc_number.proofs.Numbers.{number_read}
+use Rattle.qc_number.proofs.Numbers.{numbers_are_read_as_written}
 use Rattle.qc_number.specs.Vocabulary.{number_of}
 use Rattle.qc_script.specs.Vocabulary.{HasFewDigits, IsWritableActor, IsWritableEnd, IsWritableName, IsWritableOrdinal}
 use Rattle.qc_script.specs.Vocabulary.{actor_of, actor_word, client_in, client_of, end_of, end_word, has_leading_zero}
@@ -38,7 +38,8 @@ no_leading_zero (suc n) few = by (has_leading_zero (decimal (suc n))) refl
     by false is = refl
 
 pub index_read : (n : ℕ) → HasFewDigits n → index_of (decimal n) ≡ Some n
-index_read n few = ap (λ t. cond t None (number_of (decimal n))) (no_leading_zero n few) ∙ number_read n few
+index_read n few =
+    ap (λ t. cond t None (number_of (decimal n))) (no_leading_zero n few) ∙ numbers_are_read_as_written n few
 
 -- an actor
 pub actor_read : (actor : ActorName) → IsWritableActor actor → actor_of (actor_word actor) ≡ Some actor
@@ -71,8 +72,8 @@ pub ordinal_read : (ordinal : Option ℕ) → IsWritableOrdinal ordinal → ordi
 ordinal_read None few = refl
 ordinal_read (Some n) few =
     ap (λ t. cond t (Some None) (option_map Some (number_of (decimal n))))
-    (apart number_of (decimal n) (codes "*") n (number_read n few) refl)
-    ∙ ap (option_map Some) (number_read n few)
+    (apart number_of (decimal n) (codes "*") n (numbers_are_read_as_written n few) refl)
+    ∙ ap (option_map Some) (numbers_are_read_as_written n few)
 
 pub rule_read : (what : Rule) → rule_of (rule_word what) ≡ Some what
 rule_read rule.Drop = refl

@@ -15,7 +15,7 @@ use crate::conduct::ConductWithFalls;
 
 /// A run without falls is a run with falls, where each lawful turn's record is
 /// written, whatever an actor may rise with.
-#[tactic(auto, using(crate::proofs::Fallless::with_falls))]
+#[tactic(auto, using(crate::proofs::Fallless::runs_without_falls_are_runs))]
 pub fn runs_without_falls_are_runs<C: ConductWithFalls>()
     ensures { (decl : Declaration) (script : Script) (h : List Entry) (open_inputs : List Bool)
         → ((a : ℕ) (ds : List Deed) (turn : Turn) → C.lawful a ds turn → turn.append ≡ Done)
@@ -23,7 +23,7 @@ pub fn runs_without_falls_are_runs<C: ConductWithFalls>()
 {}
 
 /// In it everybody is up, whichever inbox is asked.
-#[tactic(auto, using(crate::proofs::AllUp::actor_up))]
+#[tactic(auto, using(crate::proofs::AllUp::nobody_is_down_without_falls))]
 pub fn nobody_is_down_without_falls<C: ConductWithFalls>()
     ensures { (decl : Declaration) (script : Script) (h : List Entry) (open_inputs : List Bool) (a b : ℕ)
         → Runs C.lawful decl script h open_inputs → is_up (inbox script a h).up b ≡ true }

@@ -52,7 +52,8 @@ pub state_cases : (P : SiteState → Type 0) (decl : Declaration) (s : SiteState
     → ((tx : TxId) (stamp : Stamp) (p : Prepared) → message ≡ messages.Decision tx (Committed stamp)
     → P (joins s tx stamp (Some p)).site)
     → ((k : ℕ) → message ≡ messages.Close k → P (closed s k))
-    → ((k clock : ℕ) (lines : List Line) → message ≡ messages.Install (start_with k clock lines) → nat_le k s.epoch ≡ false
+    → ((k clock : ℕ) (lines : List Line) → message ≡ messages.Install (start_with k clock lines)
+    → nat_le k s.epoch ≡ false
     → P (installed s k clock lines))
     → P (site_at decl s from number message).site
 state_cases P decl s from number (messages.Request tx epoch life (Read read_here)) same read append promise drop join

@@ -36,7 +36,8 @@ impl Site {
         requires sites { decl.now.sites ≤ most_sites }
         requires clients { decl.now.clients ≤ most_clients }
         requires declared { names_declared decl.now requester.tx want.now ≡ true }
-        ensures ok { IfOk result (λ turn. grants decl.now self.old requester.asker.from requester.asker.number requester.tx want.now
+        ensures ok { IfOk result (λ turn. grants decl.now self.old requester.asker.from requester.asker.number
+            requester.tx want.now
             ≡ record { site = self.new; turn = turn }) }
         ensures err { OnErr result (self.new ≡ self.old) }
     {
@@ -91,7 +92,8 @@ impl Site {
         requires sites { decl.now.sites ≤ most_sites }
         requires client { requester.tx.client < most_clients }
         requires declared { IsSome (kind_at decl.now object) }
-        ensures ok { IfOk result (λ turn. appends_by decl.now self.old requester.asker.from requester.asker.number requester.tx view.now own.now
+        ensures ok { IfOk result (λ turn. appends_by decl.now self.old requester.asker.from requester.asker.number
+            requester.tx view.now own.now
             (append_clash (relation_at decl.now object) self.old.held requester.tx own.now)
             ≡ record { site = self.new; turn = turn }) }
         ensures err { OnErr result (self.new ≡ self.old) }

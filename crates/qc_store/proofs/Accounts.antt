@@ -42,9 +42,9 @@ pub in_time : (t : DiskAccount) (f : Fuse) (w : DiskArm) → IsAccountOf t f →
 in_time t f w is waits = in_time_by t.waiting t.unarmed f.armed f.unarmed w is waits
 
 -- a fault is armed
-pub is_armed : (t : DiskAccount) (f : Fuse) (kind : ArmKind) (at : ℕ) → 1 ≤ at → IsAccountOf t f
+pub armed_faults_are_accounted : (t : DiskAccount) (f : Fuse) (kind : ArmKind) (at : ℕ) → 1 ≤ at → IsAccountOf t f
     → IsAccountOf (disk_armed t kind at) (record { armed = Some (kind, at); unarmed = f.unarmed })
-is_armed t f kind at some is = (
+armed_faults_are_accounted t f kind at some is = (
   record {
     kind_is = refl;
     later = omega arith;

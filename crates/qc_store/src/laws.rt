@@ -22,7 +22,7 @@ pub fn accounts_are_in_time()
 
 /// A fault that is armed anew takes the place of one that was, in the account as
 /// on the disk.
-#[tactic(auto, using(crate::proofs::Accounts::is_armed))]
+#[tactic(auto, using(crate::proofs::Accounts::armed_faults_are_accounted))]
 pub fn armed_faults_are_accounted()
     ensures { (t : DiskAccount) (f : Fuse) (kind : ArmKind) (at : ℕ) → 1 ≤ at → IsAccountOf t f
         → IsAccountOf (disk_armed t kind at) (record { armed = Some (kind, at); unarmed = f.unarmed }) }

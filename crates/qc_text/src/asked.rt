@@ -32,15 +32,21 @@ pub(crate) fn put_command(
 {
     match command {
         Command::Begin => page.put("begin"),
-        Command::Do { object, inv } => put_all(page, &[
-            Piece::Words(object_name(decl, object as usize)),
-            Piece::Words(" "),
-            Piece::Words(invocation_name(decl, object as usize, inv)),
-        ]),
+        Command::Do { object, inv } => put_all(
+            page,
+            &[
+                Piece::Words(object_name(decl, object as usize)),
+                Piece::Words(" "),
+                Piece::Words(invocation_name(decl, object as usize, inv)),
+            ],
+        ),
         Command::Commit => page.put("commit"),
         Command::Abort => page.put("abort"),
         Command::Epoch { number } => {
-            put_all(page, &[Piece::Words("epoch "), Piece::Number(number as u64)])
+            put_all(
+                page,
+                &[Piece::Words("epoch "), Piece::Number(number as u64)],
+            )
         }
     }
 }

@@ -76,7 +76,8 @@ pub fn sites_read_so()
         ≡ codes "s0 life 2 epoch 1 lines 0 held 1\n" }
     ensures installed { (tx : TxId) (lock : ReadLock) (line : Line) → site_line (by 0 (steps.Wrote (records.Prepare
         (record { tx = tx; epoch = 1; locks = lock ∷ []; own = []; lines = [] }))
-        ∷ steps.Wrote (records.Install (start_with 2 5 (line ∷ []))) ∷ [])) 0 ≡ codes "s0 life 1 epoch 2 lines 1 held 0\n" }
+        ∷ steps.Wrote (records.Install (start_with 2 5 (line ∷ []))) ∷ [])) 0
+        ≡ codes "s0 life 1 epoch 2 lines 1 held 0\n" }
 {}
 
 /// A summary of a load reads so. Of `@three`, c0 is actor 3. Two transactions

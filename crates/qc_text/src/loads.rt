@@ -56,24 +56,30 @@ fn put_operations(page: &mut Page, decl: &Declaration, ops: &[Op]) -> Result<(),
 fn put_load(page: &mut Page, count: u32, seed: u32) -> Result<(), OutOfMemory>
     ensures { OnOk result (page.new ≡ page.old ++ load_line count seed) }
 {
-    put_all(page, &[
-        Piece::Words("load "),
-        Piece::Number(count as u64),
-        Piece::Words(" "),
-        Piece::Number(seed as u64),
-        Piece::Words("\n"),
-    ])
+    put_all(
+        page,
+        &[
+            Piece::Words("load "),
+            Piece::Number(count as u64),
+            Piece::Words(" "),
+            Piece::Number(seed as u64),
+            Piece::Words("\n"),
+        ],
+    )
 }
 
 /// Adds a line of a word and a number.
 fn put_number(page: &mut Page, word: &str, number: usize) -> Result<(), OutOfMemory>
     ensures { OnOk result (page.new ≡ page.old ++ number_line word.now number) }
 {
-    put_all(page, &[
-        Piece::Words(word),
-        Piece::Number(number as u64),
-        Piece::Words("\n"),
-    ])
+    put_all(
+        page,
+        &[
+            Piece::Words(word),
+            Piece::Number(number as u64),
+            Piece::Words("\n"),
+        ],
+    )
 }
 
 /// How many transactions were told aborted.
@@ -178,11 +184,14 @@ fn put_last(page: &mut Page, greatest: Option<Stamp>) -> Result<(), OutOfMemory>
     ensures { OnOk result (page.new ≡ page.old ++ last_line greatest) }
 {
     match greatest {
-        Some(stamp) => put_all(page, &[
-            Piece::Words("last "),
-            Piece::Stamp(stamp),
-            Piece::Words("\n"),
-        ]),
+        Some(stamp) => put_all(
+            page,
+            &[
+                Piece::Words("last "),
+                Piece::Stamp(stamp),
+                Piece::Words("\n"),
+            ],
+        ),
         None => page.put("last -\n"),
     }
 }

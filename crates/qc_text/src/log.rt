@@ -28,11 +28,14 @@ pub(crate) fn put_log(
 fn put_commit(page: &mut Page, decl: &Declaration, commit: &Commit) -> Result<(), OutOfMemory>
     ensures { OnOk result (page.new ≡ page.old ++ commit_line decl.now commit.now) }
 {
-    put_all(page, &[
-        Piece::Stamp(commit.stamp),
-        Piece::Words(" "),
-        Piece::Transaction(commit.tx),
-    ])?;
+    put_all(
+        page,
+        &[
+            Piece::Stamp(commit.stamp),
+            Piece::Words(" "),
+            Piece::Transaction(commit.tx),
+        ],
+    )?;
     put_ops(page, decl, commit.ops.items())?;
     page.put("\n")?;
     Ok(())
@@ -59,14 +62,17 @@ fn put_op<'a>(
 ) -> Result<(), OutOfMemory>
     ensures { OnOk result (page.new ≡ page.old ++ op_text decl.now before.now op.now) }
 {
-    put_all(page, &[
-        Piece::Words(before),
-        Piece::Words(object_name(decl, op.object as usize)),
-        Piece::Words(" "),
-        Piece::Words(invocation_name(decl, op.object as usize, op.inv)),
-        Piece::Words(" "),
-        Piece::Words(outcome_text(decl, op)),
-    ])
+    put_all(
+        page,
+        &[
+            Piece::Words(before),
+            Piece::Words(object_name(decl, op.object as usize)),
+            Piece::Words(" "),
+            Piece::Words(invocation_name(decl, op.object as usize, op.inv)),
+            Piece::Words(" "),
+            Piece::Words(outcome_text(decl, op)),
+        ],
+    )
 }
 
 /// The name of an operation's response.

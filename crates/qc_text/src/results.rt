@@ -7,8 +7,8 @@ ghost use Rattle.qc_text.specs.Results.{closed_text, half_text, moved_text, quor
 ghost use Rattle.qc_text.specs.Results.{restarted_text, why_text};
 
 use crate::names::response_name;
-use crate::piece::{Piece, put_all};
 use crate::parts::put_set;
+use crate::piece::{Piece, put_all};
 use qc_decl::Declaration;
 use qc_list::{OutOfMemory, Page};
 use qc_msg::{AbortCause, Command, Half, Reply};
@@ -62,12 +62,15 @@ fn put_at<'a>(
     ensures { OnOk result (page.new
         ≡ page.old ++ (words.now ++ (piece_text piece.entry ++ (codes " " ++ site_text site)))) }
 {
-    put_all(page, &[
-        Piece::Words(words),
-        piece,
-        Piece::Words(" "),
-        Piece::Site(site),
-    ])
+    put_all(
+        page,
+        &[
+            Piece::Words(words),
+            piece,
+            Piece::Words(" "),
+            Piece::Site(site),
+        ],
+    )
 }
 
 /// Adds that a site's epoch is closed, with the one that it told.
@@ -81,14 +84,17 @@ fn put_closed(page: &mut Page, epoch: u8, site: u8) -> Result<(), OutOfMemory>
 fn put_quorum(page: &mut Page, half: Half, got: u16, need: u16) -> Result<(), OutOfMemory>
     ensures { OnOk result (page.new ≡ page.old ++ quorum_text half got need) }
 {
-    put_all(page, &[
-        Piece::Words("! quorum "),
-        Piece::Words(half_text(half)),
-        Piece::Words(" "),
-        Piece::Number(got as u64),
-        Piece::Words(" of "),
-        Piece::Number(need as u64),
-    ])
+    put_all(
+        page,
+        &[
+            Piece::Words("! quorum "),
+            Piece::Words(half_text(half)),
+            Piece::Words(" "),
+            Piece::Number(got as u64),
+            Piece::Words(" of "),
+            Piece::Number(need as u64),
+        ],
+    )
 }
 
 /// A response's name, by the object of the command.
@@ -130,14 +136,17 @@ fn put_why(page: &mut Page, why: AbortCause) -> Result<(), OutOfMemory>
 fn put_restarted(page: &mut Page, site: u8, old: u32, new: u32) -> Result<(), OutOfMemory>
     ensures { OnOk result (page.new ≡ page.old ++ restarted_text site old new) }
 {
-    put_all(page, &[
-        Piece::Words("! restarted "),
-        Piece::Site(site),
-        Piece::Words(" "),
-        Piece::Number(old as u64),
-        Piece::Words(" "),
-        Piece::Number(new as u64),
-    ])
+    put_all(
+        page,
+        &[
+            Piece::Words("! restarted "),
+            Piece::Site(site),
+            Piece::Words(" "),
+            Piece::Number(old as u64),
+            Piece::Words(" "),
+            Piece::Number(new as u64),
+        ],
+    )
 }
 
 /// Adds the sites that closed their epoch, and those that installed the next.

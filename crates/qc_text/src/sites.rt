@@ -101,14 +101,17 @@ fn put_shown(page: &mut Page, alloc: Global, deeds: &[Deed<'_>]) -> Result<(), O
     let current = lifetime_of(deeds);
     let log = log_of(alloc, &current)?;
     let held = count_holders(alloc, &current)?;
-    put_all(page, &[
-        Piece::Words(" life "),
-        Piece::Number(life_of(&current)),
-        Piece::Words(" epoch "),
-        Piece::Number(epoch_of(&current) as u64),
-        Piece::Words(" lines "),
-        Piece::Number(log.lines().len() as u64),
-        Piece::Words(" held "),
-        Piece::Number(held),
-    ])
+    put_all(
+        page,
+        &[
+            Piece::Words(" life "),
+            Piece::Number(life_of(&current)),
+            Piece::Words(" epoch "),
+            Piece::Number(epoch_of(&current) as u64),
+            Piece::Words(" lines "),
+            Piece::Number(log.lines().len() as u64),
+            Piece::Words(" held "),
+            Piece::Number(held),
+        ],
+    )
 }

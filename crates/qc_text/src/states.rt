@@ -32,12 +32,15 @@ fn put_state(
 ) -> Result<(), OutOfMemory>
     ensures { OnOk result (page.new ≡ page.old ++ state_line decl.now (option_map (λ v. v.items) states.now) object) }
 {
-    put_all(page, &[
-        Piece::Words(object_name(decl, object)),
-        Piece::Words(" "),
-        Piece::Words(state_text(decl, states, object)),
-        Piece::Words("\n"),
-    ])
+    put_all(
+        page,
+        &[
+            Piece::Words(object_name(decl, object)),
+            Piece::Words(" "),
+            Piece::Words(state_text(decl, states, object)),
+            Piece::Words("\n"),
+        ],
+    )
 }
 
 /// The name of an object's state, and `?` where a step was missing.

@@ -18,6 +18,7 @@ use Rattle.qc_script.specs.Vocabulary.{RunWithFalls, begins}
 use Rattle.qc_script.specs.declared.script.Script.{Script}
 use Rattle.qc_top.proofs.Right.{work_is}
 use Rattle.qc_fabric.specs.Vocabulary.{IsBelow}
+use Rattle.qc_top.proofs.Room.{room_left}
 use Rattle.qc_top.proofs.Runs.{run_atomic, run_due, run_known}
 use Rattle.qc_top.specs.Vocabulary.{AreStatesKnown, Caused, Gives, IsFullCause, IsNoRack, IsNoShelf, IsRan, IsRefusal}
 use Rattle.qc_top.specs.Vocabulary.{IsRight, IsRunnable, IsTold, Leaves, LeavesRun, OnPrinted, PrintsBetween}
@@ -49,17 +50,29 @@ on_printed (causes.Script fault) P here = tt
 on_printed (causes.Rack fault) P here = tt
 on_printed (causes.Full what number) P here = tt
 
+-- limits, where nothing ran
+
+below_at_first : (h : List Entry) → h ≡ [] → IsBelow h
+below_at_first h none =
+    subst IsBelow (sym none) (record { steps = omega arith; operations = omega arith; carried = omega arith })
+
+pub unbegun_full : (fault : RackFault) (h : List Entry) → h ≡ [] → IsFullCause (cause_of_rack fault) h
+unbegun_full (racks.NotEmpty actor) h none = none
+unbegun_full (racks.Failed actor) h none = none
+unbegun_full racks.OutOfMemory h none = below_at_first h none
+
 -- what a run leaves
 pub leaves_run : (decl : Declaration) (script : Script) (output : Output) (h : List Entry) (old : Option (List ℕ))
     (cause : Cause) (new : Option (List ℕ)) → IsRunnable decl script
     → RunWithFalls (IsLawfulWithFalls decl) (fits_of decl) decl script h → IsRan cause
-    → OnPrinted cause (IsWholeWithFalls (fits_of decl) decl script h)
+    → OnPrinted cause (IsWholeWithFalls (fits_of decl) decl script h) → IsFullCause cause h
     → PrintsBetween (output_of output decl script h) old cause new → LeavesRun decl script output old cause new h
-leaves_run decl script output h old cause new ready run ran whole text = record {
+leaves_run decl script output h old cause new ready run ran whole full text = record {
   accepted = ready.accepted;
   due = ran;
   run = run;
   whole = whole;
+  room = λ room spent. room_left decl script ready h run room spent cause full;
   text = text;
   states = on_printed cause (Kept h → AreStatesKnown decl h) (run_known decl script ready h run);
   replies = run_due decl script ready h run;
@@ -82,7 +95,7 @@ leaves_want (Ok (works.Accept decl)) taken right = record {
 }
 leaves_want (Ok (works.Run decl script output)) taken right =
     leaves_run decl script output [] taken causes.OutOfMemory taken (right (works.Run decl script output) refl)
-    (empty_run decl script) tt tt (want_between (output_of output decl script []) taken)
+    (empty_run decl script) tt tt (below_at_first [] refl) (want_between (output_of output decl script []) taken)
 
 -- the run that didn't begin, since the rack gave no disk, or for want of memory
 
@@ -112,6 +125,7 @@ leaves_unbegun decl script output taken fault cause h ready none is =
     (subst (λ (k : List Entry). LeavesRun decl script output taken (cause_of_rack fault) taken k) (sym none)
     (leaves_run decl script output [] taken (cause_of_rack fault) taken ready (empty_run decl script)
     (unbegun_ran fault) (unbegun_printed fault (IsWholeWithFalls (fits_of decl) decl script []))
+    (unbegun_full fault [] refl)
     (unbegun_between fault (output_of output decl script []) taken)))
 
 -- nothing was to be done, for this cause
@@ -169,11 +183,7 @@ ran_no_usage cause ran is = subst IsRan is ran
 pub refused_no_usage : (cause : Cause) → IsRefusal cause → cause ≡ causes.Usage → ⊥
 refused_no_usage cause refusal is = subst IsRefusal is refusal
 
--- limits, where nothing ran
-
-below_at_first : (h : List Entry) → h ≡ [] → IsBelow h
-below_at_first h none =
-    subst IsBelow (sym none) (record { steps = omega arith; operations = omega arith; carried = omega arith })
+-- limits by the causes with which nothing ran
 
 pub told_full : (cause : Cause) (h : List Entry) → IsTold cause → h ≡ [] → IsFullCause cause h
 told_full causes.Done h told none = below_at_first h none
@@ -202,11 +212,6 @@ pub unread_full : (fault : WordsFault) (cause : Cause) (h : List Entry) → caus
 unread_full words_faults.Usage cause h is none = subst (λ (c : Cause). IsFullCause c h) (sym is) none
 unread_full words_faults.OutOfMemory cause h is none =
     subst (λ (c : Cause). IsFullCause c h) (sym is) (below_at_first h none)
-
-pub unbegun_full : (fault : RackFault) (h : List Entry) → h ≡ [] → IsFullCause (cause_of_rack fault) h
-unbegun_full (racks.NotEmpty actor) h none = none
-unbegun_full (racks.Failed actor) h none = none
-unbegun_full racks.OutOfMemory h none = below_at_first h none
 
 -- the causes with which the rack isn't blamed: those that tell, and those for which there is nothing to do
 

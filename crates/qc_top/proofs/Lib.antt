@@ -5,5 +5,6 @@ mod Loads
 mod OwnRises
 mod Planned
 mod Right
+mod Room
 mod Runs
 mod Takes

@@ -8,8 +8,8 @@ use Rattle.laws_bounds.proofs.Rising.{run_rises_fit}
 use Rattle.qc_core.specs.Vocabulary.{IsLawfulWithFalls}
 use Rattle.qc_decl.specs.Vocabulary.{actors}
 use Rattle.qc_decl.specs.declared.declaration.Declaration.{Declaration}
-use Rattle.laws_due.proofs.AllDue.{runs_due}
-use Rattle.laws_due.proofs.WholeLaw.{is_whole}
+use Rattle.laws_due.proofs.AllDue.{runs_with_falls_are_due}
+use Rattle.laws_due.proofs.WholeLaw.{runs_with_falls_are_whole}
 use Rattle.laws_due.specs.Vocabulary.{IsClosedWithFalls, IsWholeWithFalls}
 use Rattle.qc_fabric.specs.Vocabulary.{IsBelow, before_last_event}
 use Rattle.qc_fabric.proofs.Limits.{first_reached, none_reached}
@@ -42,7 +42,7 @@ module _ (decl : Declaration) (script : Script) (ready : IsRunnable decl script)
 
   pub run_due : Due decl h
   run_due =
-      runs_due decl script (fits_of decl) ready.accepted
+      runs_with_falls_are_due decl script (fits_of decl) ready.accepted
       (scripts_ask_what_is_declared decl script ready.accepted ready.declared) few h run.0 run.1
       (rises_planned decl h (run_rises_fit decl script (fits_of decl) (λ a records fit. fit.0) h run.0 run.1))
       (run_own decl script h run.0 run.1)
@@ -72,7 +72,8 @@ module _ (decl : Declaration) (script : Script) (ready : IsRunnable decl script)
       let closed : IsClosedWithFalls (fits_of decl) decl script h =
       subst (λ (bits : List Bool). RunsWithFalls (IsLawfulWithFalls decl) (fits_of decl) decl script h bits) clear
       ended.runs in
-      is_whole decl script ready.accepted (scripts_ask_what_is_declared decl script ready.accepted ready.declared)
+      runs_with_falls_are_whole decl script ready.accepted
+      (scripts_ask_what_is_declared decl script ready.accepted ready.declared)
       (fits_of decl) h closed over.1.1.none_ready over.1.1.none_left
       (asks_known decl ready.accepted script ready.declared (fits_of decl) (λ a records fit. fit.0))
       (asks_epochs decl script ready.declared) over.1.0

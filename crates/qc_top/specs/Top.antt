@@ -1,12 +1,14 @@
 -- What the top call leaves: a run of the words' script and its text, a word on a declaration, or a cause that is due.
 use Rattle.std.specs.Prelude.{◌≡◌, ℕ, Bool, ◌++◌, List, [], Option, Some, None, Ok, Err, IsSome, ◌⊎◌}
-use Rattle.qc_promise.specs.Vocabulary.{Atomic, Due, Kept, committed}
+use Rattle.qc_promise.specs.Vocabulary.{Atomic, Due, Kept, Spent, committed}
 use Rattle.qc_core.specs.Vocabulary.{IsLawfulWithFalls}
 use Rattle.laws_due.specs.Vocabulary.{IsWholeWithFalls}
+use Rattle.laws_room.specs.Vocabulary.{HasRoom}
 use Rattle.theory_onecopy.specs.Vocabulary.{replay}
 use Rattle.qc_decl.specs.Vocabulary.{IsAccepted}
 use Rattle.qc_decl.specs.declared.declaration.Declaration.{Declaration}
 use Rattle.qc_msg.specs.Vocabulary.{Entry}
+use Rattle.qc_msg.specs.declared.step.Quantity.{Quantity}
 use Rattle.qc_outside.specs.Vocabulary.{Answer, Files, Places}
 use Rattle.qc_outside.specs.declared.rack.RackFault.{RackFault}
 use Rattle.qc_outside.specs.declared.rack.RackFault.TheVariants as racks
@@ -113,6 +115,10 @@ IsRan (causes.Shelf script fault) = ⊥
 IsRan (causes.Declaration fault) = ⊥
 IsRan (causes.Script fault) = ⊥
 
+-- it isn't told that a limit was reached
+abbrev pub IsNotFull : Cause → Type 0
+IsNotFull cause = (what : Quantity) (number : ℕ) → cause ≡ causes.Full what number → ⊥
+
 -- What a call leaves that had nothing to do, for this cause: nothing happened, and nothing was printed. Memory may be
 -- wanting before the cause is known.
 pub record LeavesNothing (why : Cause) (old : Option (List ℕ)) (cause : Cause) (new : Option (List ℕ))
@@ -148,6 +154,8 @@ pub record LeavesRun (decl : Declaration) (script : Script) (output : Output) (o
   -- where something is printed of it, it is a whole one: each input that was taken has its turn, all that the script
   -- asks was done, and nothing is left to do
   pub whole : OnPrinted cause (IsWholeWithFalls (fits_of decl) decl script h)
+  -- where the script has room, and no disk failed of itself, it comes to no limit
+  pub room : HasRoom decl script → Spent h 0 → IsNotFull cause
   -- what is printed is the text, or the summary, of just this history
   pub text : PrintsBetween (output_of output decl script h) old cause new
   -- and each state in it is known, where actors keep their records

@@ -3,8 +3,8 @@ pub use Rattle.qc_top.specs.Answers.{AreAnswers, IsAnswerFor, IsCounted, IsShort
 pub use Rattle.qc_top.specs.Answers.{most_declaration_bytes, most_script_bytes, script_file}
 pub use Rattle.qc_top.specs.Racks.{FillsPlaces, IsRackBlamed, IsUsed, LeavesRack, cause_of_rack}
 pub use Rattle.qc_top.specs.Source.{GivesSource}
-pub use Rattle.qc_top.specs.Top.{AreStatesKnown, IsEnd, IsFullCause, IsNoRack, IsNoShelf, IsRan, IsRight, IsRunnable}
-pub use Rattle.qc_top.specs.Top.{IsTold, Leaves, LeavesAsked, LeavesRun, LeavesWords, OnPrinted, PrintsBetween}
+pub use Rattle.qc_top.specs.Top.{AreStatesKnown, IsEnd, IsFullCause, IsNoRack, IsNoShelf, IsNotFull, IsRan, IsRight}
+pub use Rattle.qc_top.specs.Top.{IsRunnable, IsTold, Leaves, LeavesAsked, LeavesRun, LeavesWords, OnPrinted, PrintsBetween}
 pub use Rattle.qc_top.specs.Top.{cause_of_words, output_of}
 pub use Rattle.qc_top.specs.Words.{folder_in, folder_of}
 pub use Rattle.qc_top.specs.Work.{Caused, Gives, IsBlamed, IsRefusal, accept_work, bytes_of, load_work, run_of}

@@ -1,6 +1,6 @@
 //! The top call.
 
-ghost use Rattle.std.specs.Prelude.{◌≡◌, ◌⊎◌, ◌-◌, ◌<◌, ◌≤◌, ◌^◌, Bool, IsSome, None, Ok, option_copied};
+ghost use Rattle.std.specs.Prelude.{◌≡◌, ◌⊎◌, ◌-◌, ◌<◌, ◌≤◌, ◌^◌, ℕ, Bool, IsSome, None, Ok, Some, option_copied};
 ghost use Rattle.qc_fabric.specs.Events.{before_last_event};
 ghost use Rattle.qc_fabric.specs.Limits.{IsBelow};
 ghost use Rattle.qc_outside.specs.Causes.{Rose};
@@ -10,13 +10,13 @@ ghost use Rattle.qc_promise.specs.Spent.{Spent};
 ghost use Rattle.qc_report.specs.Causes.{status_of};
 ghost use Rattle.qc_top.specs.Answers.{IsShort};
 ghost use Rattle.qc_top.specs.Racks.{IsRackBlamed, IsUsed, LeavesRack};
-ghost use Rattle.qc_top.specs.Top.{IsFullCause, IsNoShelf, IsRight, Leaves, LeavesWords, cause_of_words};
+ghost use Rattle.qc_top.specs.Top.{IsFullCause, IsNoShelf, IsNotFull, IsRight, Leaves, LeavesWords, cause_of_words};
 ghost use Rattle.qc_top.specs.Words.{folder_in, folder_of, workers_of};
 ghost use Rattle.qc_top.specs.Work.{IsBlamed, work_of};
 ghost use Rattle.qc_words.specs.Askable.{IsAskable};
 ghost use Rattle.qc_words.specs.Asked.{asked_in};
 ghost use Rattle.qc_words.specs.Parts.{texts_of};
-ghost use Rattle.qc_words.specs.Words.{asked};
+ghost use Rattle.qc_words.specs.Words.{Load, asked};
 
 use crate::answers::{Answers, answers_for};
 use crate::ended::{Ended, without_run};
@@ -66,6 +66,8 @@ where
         → Spent result.history (R.faults rack.new - R.faults rack.old) }
     ensures status { result.status ≡ status_of result.cause }
     ensures full { IsFullCause result.cause result.history }
+    ensures loads { (count seed workers : ℕ) → asked (texts_of words.now) ≡ Some (Load count seed workers)
+        → R.faults rack.new < 2 ^ 64 - 1 → R.faults rack.new ≡ R.faults rack.old → IsNotFull result.cause }
     ensures before { IsBelow (before_last_event result.history) }
     ensures files { F.files shelf.new ≡ F.files shelf.old }
     ensures shelf { (script : Bool) → result.cause ≡ Cause.Shelf script ShelfFault.Failed

@@ -9,7 +9,7 @@ use Rattle.qc_words.specs.Vocabulary.{greatest_seed, most_transactions, most_wor
 use Rattle.qc_words.specs.Vocabulary.{words_in}
 use Rattle.qc_number.specs.Vocabulary.{number_of}
 use Rattle.qc_words.proofs.Clapped.{option_is_long, values_are_plain}
-use Rattle.qc_number.proofs.Numbers.{decimal_is_digits, number_read}
+use Rattle.qc_number.proofs.Numbers.{decimal_is_digits, numbers_are_read_as_written}
 
 -- a value names no option
 no_option : (word : Text) → IsName word → option_of word ≡ None
@@ -23,7 +23,7 @@ digits_are_value (b ∷ rest) some all = grind (arith, all)
 number_is : (n : ℕ) → n ≤ 99999 → (IsName (decimal n)) × (number_of (decimal n) ≡ Some n)
 number_is n few =
     let is = decimal_is_digits n few in
-    (digits_are_value (decimal n) is.0 is.1, number_read n few)
+    (digits_are_value (decimal n) is.0 is.1, numbers_are_read_as_written n few)
 
 within_is : (least most n : ℕ) → least ≤ n → n ≤ most → most ≤ 99999 → number_within least most (decimal n) ≡ Some n
 within_is least most n above below few =

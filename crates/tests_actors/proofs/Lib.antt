@@ -1,3 +1,4 @@
 pub mod Young
+pub mod YoungClocks
 pub mod ClientJournals
 pub mod Records

@@ -1,5 +1,5 @@
--- What each site of a history posts is due where two lists are equal for each: what is due for its inputs and rises, and
--- what it posts.
+-- What each site of a history posts is due where two lists are equal for each: what is due for its inputs and rises,
+-- and what it posts.
 use Rattle.std.proofs.Common.{◌≡◌, ℕ, zero, suc, ◌<◌, ◌==◌, Bool, true, false, List, [], ◌∷◌, ◌++◌, refl, ap, subst}
 use Rattle.std.proofs.Common.{sym, arith}
 use Rattle.std.proofs.lemmas.Bool.{eqb-false, eqb-true}

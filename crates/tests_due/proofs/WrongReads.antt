@@ -87,7 +87,10 @@ short_of_less_refused all = short_of_less_differs (due_at 9 three 1 (deeds 4 [] 
 
 conflict_with_another_differs : ◌≡◌ {A = Option Reply} (Some (replies.Conflict (tx 0 1) 1))
     (Some (replies.Conflict (tx 2 1) 1)) → ⊥
-conflict_with_another_differs e = let same : ◌≡◌ {A = ℕ} (client_named (Some (replies.Conflict (tx 0 1) 1))) (client_named (Some (replies.Conflict (tx 2 1) 1))) = ap client_named e in let never : ⊥ = cc in never
+conflict_with_another_differs e =
+    let same : ◌≡◌ {A = ℕ} (client_named (Some (replies.Conflict (tx 0 1) 1)))
+    (client_named (Some (replies.Conflict (tx 2 1) 1))) = ap client_named e in
+    let never : ⊥ = cc in never
 
 pub conflict_with_another_refused : AreRepliesDue three 1 (deeds 4 [] wrong_reads.conflict_with_another) → ⊥
 conflict_with_another_refused all =

@@ -28,7 +28,11 @@ record_missing_refused all = record_missing_differs (due_at 15 three 0 (deeds 3 
 operation_left_out_differs : ◌≡◌ {A = Option Commit}
     (Some (record { stamp = stamp 1 0; tx = tx 0 1; ops = operation 0 2 (Some 2) ∷ [] }))
     (Some (record { stamp = (stamp 1 0); tx = (tx 0 1); ops = [] })) → ⊥
-operation_left_out_differs e = let same : ◌≡◌ {A = ℕ} (count_written (Some (record { stamp = stamp 1 0; tx = tx 0 1; ops = operation 0 2 (Some 2) ∷ [] }))) (count_written (Some (record { stamp = (stamp 1 0); tx = (tx 0 1); ops = [] }))) = ap count_written e in let never : ⊥ = cc in never
+operation_left_out_differs e =
+    let same : ◌≡◌ {A = ℕ}
+    (count_written (Some (record { stamp = stamp 1 0; tx = tx 0 1; ops = operation 0 2 (Some 2) ∷ [] })))
+    (count_written (Some (record { stamp = (stamp 1 0); tx = (tx 0 1); ops = [] }))) = ap count_written e in
+    let never : ⊥ = cc in never
 
 pub operation_left_out_refused : AreRepliesDue three 0 (deeds 3 [] wrong_records.operation_left_out) → ⊥
 operation_left_out_refused all =
@@ -43,7 +47,10 @@ recorded_twice_refused all = recorded_twice_differs (due_at 14 three 0 (deeds 3 
 
 low_stamp_differs : ◌≡◌ {A = Option Reply} (Some (replies.Committed (stamp 2 1))) (Some (replies.Committed (stamp 1 1)))
     → ⊥
-low_stamp_differs e = let same : ◌≡◌ {A = ℕ} (clock_told (Some (replies.Committed (stamp 2 1)))) (clock_told (Some (replies.Committed (stamp 1 1)))) = ap clock_told e in let never : ⊥ = cc in never
+low_stamp_differs e =
+    let same : ◌≡◌ {A = ℕ} (clock_told (Some (replies.Committed (stamp 2 1))))
+    (clock_told (Some (replies.Committed (stamp 1 1)))) = ap clock_told e in
+    let never : ⊥ = cc in never
 
 pub low_stamp_refused : AreRepliesDue three 1 (deeds 4 [] wrong_records.low_stamp) → ⊥
 low_stamp_refused all = low_stamp_differs (due_at 19 three 1 (deeds 4 [] wrong_records.low_stamp) all).0

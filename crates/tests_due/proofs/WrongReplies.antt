@@ -62,7 +62,10 @@ pub begins_twice_refused : AreRepliesDue three 0 (deeds 3 [] wrong_replies.begin
 begins_twice_refused all = begins_twice_differs (due_at 3 three 0 (deeds 3 [] wrong_replies.begins_twice) all).0
 
 begins_at_two_differs : ◌≡◌ {A = Option Reply} (Some (replies.Began (tx 0 1))) (Some (replies.Began (tx 0 2))) → ⊥
-begins_at_two_differs e = let same : ◌≡◌ {A = ℕ} (number_begun (Some (replies.Began (tx 0 1)))) (number_begun (Some (replies.Began (tx 0 2)))) = ap number_begun e in let never : ⊥ = cc in never
+begins_at_two_differs e =
+    let same : ◌≡◌ {A = ℕ} (number_begun (Some (replies.Began (tx 0 1))))
+    (number_begun (Some (replies.Began (tx 0 2)))) = ap number_begun e in
+    let never : ⊥ = cc in never
 
 pub begins_at_two_refused : AreRepliesDue three 0 (deeds 3 [] wrong_replies.begins_at_two) → ⊥
 begins_at_two_refused all = begins_at_two_differs (due_at 1 three 0 (deeds 3 [] wrong_replies.begins_at_two) all).0

@@ -53,7 +53,8 @@ pub fn wrong_turns_through_falls_are_refused()
     ensures stops_once_it_sent { AreByTurns (is_site three 0) (deeds 0 [] falls.stops_once_it_sent) → ⊥ }
     ensures falls_untold { AreByTurns (is_site three 3) (deeds 3 [] falls.falls_untold) → ⊥ }
     ensures falls_though_committed { AreByTurns (is_site three 3) (deeds 3 [] falls.falls_though_committed) → ⊥ }
-    ensures falls_with_nothing_to_write { AreByTurns (is_site three 0) (deeds 0 [] falls.falls_with_nothing_to_write) → ⊥ }
+    ensures falls_with_nothing_to_write { AreByTurns (is_site three 0)
+        (deeds 0 [] falls.falls_with_nothing_to_write) → ⊥ }
     ensures falls_with_a_rise { AreByTurns (is_site three 0) (deeds 0 [] falls.falls_with_a_rise) → ⊥ }
     ensures crashes_with_a_record { AreByTurns (is_site three 0) (deeds 0 [] falls.crashes_with_a_record) → ⊥ }
     ensures crashes_while_down { AreByTurns (is_site three 0) (deeds 0 [] falls.crashes_while_down) → ⊥ }

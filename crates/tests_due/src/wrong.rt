@@ -54,7 +54,8 @@ pub fn wrong_appends_are_refused()
 
 /// These aren't due: requests that no round wants, replies of what isn't declared, and untold replies.
 pub fn wrong_asks_are_refused()
-    ensures conflict_of_a_site_too_many { AreRepliesDue three 0 (deeds 3 [] wrong_asks.conflict_of_a_site_too_many) → ⊥ }
+    ensures conflict_of_a_site_too_many { AreRepliesDue three 0
+        (deeds 3 [] wrong_asks.conflict_of_a_site_too_many) → ⊥ }
     ensures closed_by_a_site_too_many { AreRepliesDue three 0 (deeds 3 [] wrong_asks.closed_by_a_site_too_many) → ⊥ }
     ensures out_of_order { AreRepliesDue three 0 (deeds 3 [] wrong_asks.out_of_order) → ⊥ }
     ensures waits_for_a_site_too_many { AreRepliesDue three 0 (deeds 3 [] wrong_asks.waits_for_a_site_too_many) → ⊥ }

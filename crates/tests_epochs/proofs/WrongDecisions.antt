@@ -25,7 +25,11 @@ committed_lines_left_out_differs : ◌≡◌ {A = ℕ} 1 0 → ⊥
 committed_lines_left_out_differs e = let never : ⊥ = cc in never
 
 pub committed_lines_left_out_refused : IsAdminDueIn three_epochs wrong_decisions.committed_lines_left_out → ⊥
-committed_lines_left_out_refused all = committed_lines_left_out_differs (ap lines_decided (admin_due_at 15 three_epochs (deeds (administrator three_epochs) [] wrong_decisions.committed_lines_left_out) all).0)
+committed_lines_left_out_refused all =
+    committed_lines_left_out_differs
+    (ap lines_decided
+    (admin_due_at 15 three_epochs (deeds (administrator three_epochs) [] wrong_decisions.committed_lines_left_out)
+    all).0)
 
 aborted_lines_merged_differs : ◌≡◌ {A = ℕ} 2 3 → ⊥
 aborted_lines_merged_differs e = let never : ⊥ = cc in never
@@ -40,13 +44,20 @@ a_line_that_nobody_told_differs : ◌≡◌ {A = ℕ} 1 2 → ⊥
 a_line_that_nobody_told_differs e = let never : ⊥ = cc in never
 
 pub a_line_that_nobody_told_refused : IsAdminDueIn three_epochs wrong_decisions.a_line_that_nobody_told → ⊥
-a_line_that_nobody_told_refused all = a_line_that_nobody_told_differs (ap lines_decided (admin_due_at 5 three_epochs (deeds (administrator three_epochs) [] wrong_decisions.a_line_that_nobody_told) all).0)
+a_line_that_nobody_told_refused all =
+    a_line_that_nobody_told_differs
+    (ap lines_decided
+    (admin_due_at 5 three_epochs (deeds (administrator three_epochs) [] wrong_decisions.a_line_that_nobody_told) all).0)
 
 one_entry_of_a_transaction_differs : ◌≡◌ {A = ℕ} 2 1 → ⊥
 one_entry_of_a_transaction_differs e = let never : ⊥ = cc in never
 
 pub one_entry_of_a_transaction_refused : IsAdminDueIn two_objects wrong_decisions.one_entry_of_a_transaction → ⊥
-one_entry_of_a_transaction_refused all = one_entry_of_a_transaction_differs (ap lines_decided (admin_due_at 9 two_objects (deeds (administrator two_objects) [] wrong_decisions.one_entry_of_a_transaction) all).0)
+one_entry_of_a_transaction_refused all =
+    one_entry_of_a_transaction_differs
+    (ap lines_decided
+    (admin_due_at 9 two_objects (deeds (administrator two_objects) [] wrong_decisions.one_entry_of_a_transaction)
+    all).0)
 
 another_log_installed_differs : ◌≡◌ {A = Option Reply} None (Some (replies.Moved 3 7)) → ⊥
 another_log_installed_differs e = let never : ⊥ = cc in never

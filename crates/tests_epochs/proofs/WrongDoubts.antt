@@ -33,7 +33,10 @@ doubt_of_another_promise_differs : ◌≡◌ {A = ℕ} 17 32 → ⊥
 doubt_of_another_promise_differs e = let never : ⊥ = cc in never
 
 pub doubt_of_another_promise_refused : IsAdminDueIn three_epochs wrong_doubts.doubt_of_another_promise → ⊥
-doubt_of_another_promise_refused all = doubt_of_another_promise_differs (ap doubt_told (admin_due_at 11 three_epochs (deeds (administrator three_epochs) [] wrong_doubts.doubt_of_another_promise) all).0)
+doubt_of_another_promise_refused all =
+    doubt_of_another_promise_differs
+    (ap doubt_told
+    (admin_due_at 11 three_epochs (deeds (administrator three_epochs) [] wrong_doubts.doubt_of_another_promise) all).0)
 
 doubt_before_it_is_asked_differs : ◌≡◌ {A = Option Reply} None (Some (replies.InDoubt (tx 0 1) 0)) → ⊥
 doubt_before_it_is_asked_differs e = let never : ⊥ = cc in never

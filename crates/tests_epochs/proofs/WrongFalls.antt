@@ -41,18 +41,27 @@ another_record_pending_differs : ◌≡◌ {A = ℕ} 1 0 → ⊥
 another_record_pending_differs e = let never : ⊥ = cc in never
 
 pub another_record_pending_refused : IsAdminDueIn three_epochs wrong_falls.another_record_pending → ⊥
-another_record_pending_refused all = another_record_pending_differs (ap lines_pending ((admin_due_at 5 three_epochs (deeds (administrator three_epochs) [] wrong_falls.another_record_pending) all).1).1)
+another_record_pending_refused all =
+    another_record_pending_differs
+    (ap lines_pending
+    ((admin_due_at 5 three_epochs (deeds (administrator three_epochs) [] wrong_falls.another_record_pending) all).1).1)
 
 decided_again_though_it_rose_differs : ◌≡◌ {A = Option EpochStart} None
     (Some (record { epoch = 2; clock = 1; lines = (line 1 0 1 1 0 3 ∷ []) })) → ⊥
 decided_again_though_it_rose_differs e = let never : ⊥ = cc in never
 
 pub decided_again_though_it_rose_refused : IsAdminDueIn three_epochs wrong_falls.decided_again_though_it_rose → ⊥
-decided_again_though_it_rose_refused all = decided_again_though_it_rose_differs ((admin_due_at 14 three_epochs (deeds (administrator three_epochs) [] wrong_falls.decided_again_though_it_rose) all).0)
+decided_again_though_it_rose_refused all =
+    decided_again_though_it_rose_differs
+    ((admin_due_at 14 three_epochs (deeds (administrator three_epochs) [] wrong_falls.decided_again_though_it_rose)
+    all).0)
 
 decided_again_after_a_rise_differs : ◌≡◌ {A = Option EpochStart} None
     (Some (record { epoch = 2; clock = 1; lines = (line 1 0 1 1 0 3 ∷ []) })) → ⊥
 decided_again_after_a_rise_differs e = let never : ⊥ = cc in never
 
 pub decided_again_after_a_rise_refused : IsAdminDueIn three_epochs wrong_falls.decided_again_after_a_rise → ⊥
-decided_again_after_a_rise_refused all = decided_again_after_a_rise_differs ((admin_due_at 17 three_epochs (deeds (administrator three_epochs) [] wrong_falls.decided_again_after_a_rise) all).0)
+decided_again_after_a_rise_refused all =
+    decided_again_after_a_rise_differs
+    ((admin_due_at 17 three_epochs (deeds (administrator three_epochs) [] wrong_falls.decided_again_after_a_rise)
+    all).0)

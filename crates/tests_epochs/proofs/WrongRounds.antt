@@ -44,13 +44,19 @@ a_shut_of_an_earlier_command_differs : ◌≡◌ {A = Option EpochStart} None
 a_shut_of_an_earlier_command_differs e = let never : ⊥ = cc in never
 
 pub a_shut_of_an_earlier_command_refused : IsAdminDueIn three_epochs wrong_rounds.a_shut_of_an_earlier_command → ⊥
-a_shut_of_an_earlier_command_refused all = a_shut_of_an_earlier_command_differs ((admin_due_at 15 three_epochs (deeds (administrator three_epochs) [] wrong_rounds.a_shut_of_an_earlier_command) all).0)
+a_shut_of_an_earlier_command_refused all =
+    a_shut_of_an_earlier_command_differs
+    ((admin_due_at 15 three_epochs (deeds (administrator three_epochs) [] wrong_rounds.a_shut_of_an_earlier_command)
+    all).0)
 
 short_before_all_are_asked_differs : ◌≡◌ {A = Option Reply} None (Some (replies.Quorum halves.Close 0 2)) → ⊥
 short_before_all_are_asked_differs e = let never : ⊥ = cc in never
 
 pub short_before_all_are_asked_refused : IsAdminDueIn three_epochs wrong_rounds.short_before_all_are_asked → ⊥
-short_before_all_are_asked_refused all = short_before_all_are_asked_differs ((admin_due_at 5 three_epochs (deeds (administrator three_epochs) [] wrong_rounds.short_before_all_are_asked) all).0)
+short_before_all_are_asked_refused all =
+    short_before_all_are_asked_differs
+    ((admin_due_at 5 three_epochs (deeds (administrator three_epochs) [] wrong_rounds.short_before_all_are_asked)
+    all).0)
 
 short_of_another_weight_differs : ◌≡◌ {A = ℕ} 2 3 → ⊥
 short_of_another_weight_differs e = let never : ⊥ = cc in never

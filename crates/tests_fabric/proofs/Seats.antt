@@ -120,7 +120,8 @@ module _ {z : TableId} {decl : Declaration} {p : Pass Step} {down : Bool} (q : P
         subst (λ (n : ℕ). down ≡ is_down (deeds n [] (seen q))) (sym same.number_is) (was ∙ ap is_down (sym does)));
   }
 
-module _ {z : TableId} {decl : Declaration} {p : Pass Step} {down : Bool} (q : Pass Step) (s : IsSeat z decl p down) where
+module _ {z : TableId} {decl : Declaration} {p : Pass Step} {down : Bool} (q : Pass Step)
+    (s : IsSeat z decl p down) where
   pub sees_on : Sees p q → IsSeat z decl q down
   sees_on see = stays q s see.pass see.does
 

@@ -1,5 +1,7 @@
 pub mod KeptRecords
 pub mod Sound
+pub mod SoundMoves
+pub mod SoundRises
 pub mod Refusing
 pub mod WorkedRuns
 pub mod Random1To10Runs

@@ -9,7 +9,8 @@ ghost use Rattle.tests_falls.specs.WrongSites as wrong_sites;
 pub fn wrong_posts_through_falls_are_refused()
     ensures old_life { IsNoPost three 1 wrong_sites.old_life wrong_sites.old_life_then }
     ensures old_grant { IsNoPost three 1 wrong_sites.old_grant wrong_sites.old_grant_then }
-    ensures old_grant_unwritten { IsNoPost three 1 wrong_sites.old_grant_unwritten wrong_sites.old_grant_unwritten_then }
+    ensures old_grant_unwritten { IsNoPost three 1 wrong_sites.old_grant_unwritten
+        wrong_sites.old_grant_unwritten_then }
     ensures nothing_asked { IsNoPost three 0 wrong_sites.nothing_asked wrong_sites.nothing_asked_then }
     ensures no_life { IsNoPost three 0 wrong_sites.no_life wrong_sites.no_life_then }
     ensures asked_unwritten { IsNoPost three 0 wrong_sites.asked_unwritten wrong_sites.asked_unwritten_then }
@@ -17,10 +18,13 @@ pub fn wrong_posts_through_falls_are_refused()
     ensures fault_alone { IsNoPost three 1 wrong_sites.fault_alone wrong_sites.fault_alone_then }
     ensures voted_unwritten { IsNoPost three 1 wrong_sites.voted_unwritten wrong_sites.voted_unwritten_then }
     ensures unknown_alone { IsNoPost three 3 wrong_clients.unknown_alone wrong_clients.unknown_alone_then }
-    ensures committed_unwritten { IsNoPost three 3 wrong_clients.committed_unwritten wrong_clients.committed_unwritten_then }
+    ensures committed_unwritten { IsNoPost three 3 wrong_clients.committed_unwritten
+        wrong_clients.committed_unwritten_then }
     ensures old_name { IsNoPost three 3 wrong_clients.old_name wrong_clients.old_name_then }
-    ensures decided_without_record { IsNoPost three 3 wrong_clients.decided_without_record wrong_clients.decided_without_record_then }
-    ensures decided_against_record { IsNoPost three 3 wrong_clients.decided_against_record wrong_clients.decided_against_record_then }
+    ensures decided_without_record { IsNoPost three 3 wrong_clients.decided_without_record
+        wrong_clients.decided_without_record_then }
+    ensures decided_against_record { IsNoPost three 3 wrong_clients.decided_against_record
+        wrong_clients.decided_against_record_then }
     ensures begun_while_down { IsNoPost three 3 wrong_clients.begun_while_down wrong_clients.begun_while_down_then }
     ensures stamp_again { IsNoPost three 3 wrong_clients.stamp_again wrong_clients.stamp_again_then }
 {}

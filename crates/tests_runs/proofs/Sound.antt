@@ -115,7 +115,8 @@ begins_soundly : (decl : Declaration) (script : Script) (s t : Stage) (may : Boo
     → cond may (Some (with_step decl s (steps.Phase (phase_of s.history + 1)))) None ≡ Some t → IsRunTo decl script t
 begins_soundly decl script s t false run may is = absurd (let never : ⊥ = cc in never)
 begins_soundly decl script s t true run may is =
-    let before : (none_left (controls_left script s.history) && nat_lt (phase_of s.history) (length script.phases)) ≡ true =
+    let before : (none_left (controls_left script s.history) && nat_lt (phase_of s.history) (length script.phases))
+    ≡ true =
     first_of_both (none_left (controls_left script s.history) && nat_lt (phase_of s.history) (length script.phases))
     (is_quiet decl script s) may in
     let quiet : is_quiet decl script s ≡ true =

@@ -259,7 +259,8 @@ s1 life 1 epoch 1 lines 1 held 0
 s2 life 1 epoch 1 lines 0 held 0
 ";
 
-/// Two objects, a slot that is empty, a disk that fails at a vote, a fast write that a slow reader passes, and one operation that loses a request.
+/// Two objects, a slot that is empty, a disk that fails at a vote, a fast write that a slow reader passes, and one
+/// operation that loses a request.
 #[test]
 fn runs_over_declarations_of_files(rt: HostRuntime) {
     let rows = [

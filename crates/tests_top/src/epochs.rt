@@ -1,4 +1,5 @@
-//! Whole runs in which quorums change while somebody falls, by one worker and by four: each a story, with its script and
+//! Whole runs in which quorums change while somebody falls, by one worker and by four: each a story, with its
+//! script and
 //! the text that it prints. What they want comes from a model that was written apart. `examples/quorums_change` and
 //! `examples/quorums_change_in_doubt` have two more, which `.ci/examples` runs by one worker and by four.
 
@@ -9,7 +10,7 @@ use std::process::Abort;
 use std::sync::Wait;
 use std::thread::Threads;
 
-const DECLARATION: &str = "\
+pub(crate) const DECLARATION: &str = "\
 sites = 3
 clients = 3
 

@@ -8,7 +8,8 @@ ghost use Rattle.theory_witnesses.specs.Moves.{acts_of};
 ghost use Rattle.theory_witnesses.specs.Settings.{moving_register, three_in_two_epochs};
 ghost use Rattle.theory_witnesses.specs.Stories.{first, first_again};
 ghost use Rattle.theory_witnesses.specs.Witnesses.{one_epoch, two_epochs};
-ghost use Rattle.theory_bases.specs.Witnesses.{HasDependence, HasLowSnapshot, IsDisciplinedRun, WritesAfter, WritesBefore};
+ghost use Rattle.theory_bases.specs.Witnesses.{HasDependence, HasLowSnapshot, IsDisciplinedRun, WritesAfter};
+ghost use Rattle.theory_bases.specs.Witnesses.{WritesBefore};
 ghost use Rattle.theory_bases.specs.Witnesses.{low_snapshot, read_and_written_in_both, two_moves, write_line};
 
 /// The machine's own run through falls, in one epoch.

@@ -8,9 +8,11 @@ ghost use Rattle.theory_witnesses.specs.Stories.{first, first_again};
 ghost use Rattle.theory_bases.specs.Bases.{IsAbove};
 ghost use Rattle.theory_bases.specs.Short.{AreShortDeeds, IsUnionOf, StandsFor, base_of, short_site_after};
 ghost use Rattle.theory_bases.specs.Witnesses.{write_line};
-ghost use Rattle.theory_bases.specs.Wrong.{HasLaterView, HasMissedLine, HasStrayLine, HasTwoDecisions, IsUndisciplinedRun};
+ghost use Rattle.theory_bases.specs.Wrong.{HasLaterView, HasMissedLine, HasStrayLine, HasTwoDecisions};
+ghost use Rattle.theory_bases.specs.Wrong.{IsUndisciplinedRun};
 ghost use Rattle.theory_bases.specs.Wrong.{appended_without_threshold, decided_twice, decided_with_two_logs};
-ghost use Rattle.theory_bases.specs.Wrong.{granted_in_another_epoch, seen_in_another_epoch, short_deeds, shorter_deeds, whole_deeds};
+ghost use Rattle.theory_bases.specs.Wrong.{granted_in_another_epoch, seen_in_another_epoch, short_deeds};
+ghost use Rattle.theory_bases.specs.Wrong.{shorter_deeds, whole_deeds};
 
 /// The machine allows an epoch to be decided twice, with another clock.
 #[tactic(auto, using(crate::proofs::Undisciplined::epochs_decided_twice_are_refused))]

@@ -2,10 +2,12 @@
 //! and is shown by a run without it.
 
 ghost use Rattle.theory_machine.specs.Asked.{PreparesOnce, PreparesWhenExecuted, VotesWhenAsked, VotesInGrantedLife};
-ghost use Rattle.theory_machine.specs.Asked.{RecordsPrepareWhenAsked, CommitsWhenVoting, AllHaveVoted, StampIsItsClients};
+ghost use Rattle.theory_machine.specs.Asked.{RecordsPrepareWhenAsked, CommitsWhenVoting, AllHaveVoted};
+ghost use Rattle.theory_machine.specs.Asked.{StampIsItsClients};
 ghost use Rattle.theory_machine.specs.Asked.{StampPassesClock, RecordHasOperations, AbortsBeforeRecord};
 ghost use Rattle.theory_machine.specs.Asked.{RisesWithNoneRunning, RisesPastRecords, LearnsWhatWasAnnounced};
-ghost use Rattle.theory_witnesses.specs.Guarantees.{LogsHoldOperations, RecordsAreApart, RecordsAreOneCopy, VerdictsAgree};
+ghost use Rattle.theory_witnesses.specs.Guarantees.{LogsHoldOperations, RecordsAreApart, RecordsAreOneCopy};
+ghost use Rattle.theory_witnesses.specs.Guarantees.{VerdictsAgree};
 ghost use Rattle.theory_witnesses.specs.Needed.{IsNeeded};
 
 /// A transaction that was told to be given up is prepared and commits.

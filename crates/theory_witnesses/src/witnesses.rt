@@ -4,7 +4,8 @@
 ghost use Rattle.std.specs.Prelude.{◌++◌};
 ghost use Rattle.qc_decl.specs.One.{three};
 ghost use Rattle.theory_witnesses.specs.Settings.{three_in_two_epochs};
-ghost use Rattle.theory_witnesses.specs.Witnesses.{Commits, IsRefused, conflict, one_epoch, one_epoch_records, two_epochs};
+ghost use Rattle.theory_witnesses.specs.Witnesses.{Commits, IsRefused, conflict, one_epoch, one_epoch_records};
+ghost use Rattle.theory_witnesses.specs.Witnesses.{two_epochs};
 ghost use Rattle.theory_witnesses.specs.Witnesses.{two_epochs_records, read_under_way, write_under_way};
 
 /// Two clients, in one epoch: a conflict, a client that falls with its commit

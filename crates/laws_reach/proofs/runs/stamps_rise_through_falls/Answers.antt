@@ -1,4 +1,4 @@
-use Rattle.laws_reach.proofs.VerdictLaw.{pending_rise, records_rise}
+use Rattle.laws_reach.proofs.RecordsRise.{pending_rise, records_rise}
 use Rattle.laws_reach.proofs.runs.stamps_rise_through_falls.Goals as goal
 
 pub returns-clause-written : goal.returns-clause-written

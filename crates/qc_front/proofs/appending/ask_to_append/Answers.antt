@@ -24,4 +24,5 @@ returns c =
     ap (λ (draft : Draft). made draft c.ask.new.round c.in_ok-turn.turn) c.in_ok-turn.ensures.draft
     ∙ ap (λ (round : RoundState). made (asked_draft c.args.draft sites) round c.in_ok-turn.turn)
     c.in_ok-turn.ensures.round
-    ∙ ap (made (asked_draft c.args.draft sites) (asking_all c.args.open_round.round sites)) (c.in_ok-turn.ensures.turn ∙ same)
+    ∙ ap (made (asked_draft c.args.draft sites) (asking_all c.args.open_round.round sites))
+    (c.in_ok-turn.ensures.turn ∙ same)

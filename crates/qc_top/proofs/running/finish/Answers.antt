@@ -16,7 +16,8 @@ returns-clause-leaves g c =
     (g.K.Sink.taken c.args.sink.now) c.conclude-cause.result
     (g.K.Sink.taken c.conclude-cause.new.sink) c.requires.runnable
     (ended_run c.args.decl.now c.args.ran.script c.requires.runnable c.args.ran.history c.args.ran.end c.requires.ended)
-    c.conclude-cause.ensures.ran c.conclude-cause.ensures.whole c.conclude-cause.ensures.text
+    c.conclude-cause.ensures.ran c.conclude-cause.ensures.whole c.conclude-cause.ensures.full
+    c.conclude-cause.ensures.text
 
 pub returns-clause-before : goal.returns-clause-before
 returns-clause-before g c = ended_below c.args.decl.now c.args.ran.script c.requires.runnable c.args.ran.history

@@ -3,12 +3,14 @@ use Rattle.qc_report.specs.declared.cause.Cause.TheVariants as causes
 use Rattle.std.specs.Prelude.{option_and_then}
 use Rattle.qc_top.proofs.Blame.{blame_rose}
 use Rattle.qc_top.proofs.Ends.{unread_due, unread_full, unread_no_rack, unread_no_shelf, unread_no_sink, unread_usage}
+use Rattle.qc_promise.specs.Vocabulary.{Spent}
 use Rattle.qc_top.proofs.Idle.{begun_kept, begun_spent}
+use Rattle.qc_top.proofs.Room.{load_left, unread_not_full}
 use Rattle.qc_top.proofs.Runs.{begun_below}
 use Rattle.qc_top.proofs.Takes.{answers_short}
 use Rattle.qc_top.specs.Vocabulary.{IsRackBlamed, folder_of}
 use Rattle.qc_words.proofs.Askable.{words_ask_within_limits}
-use Rattle.qc_words.specs.Vocabulary.{AskedOf, asked, asked_in, texts_of}
+use Rattle.qc_words.specs.Vocabulary.{AskedOf, Load, asked, asked_in, texts_of}
 use Rattle.qc_top.proofs.top.quorum_words.Goals as goal
 
 -- words that were read
@@ -61,6 +63,14 @@ returns-in-Ok-clause-kept g c = c.perform.ensures.used.kept
 pub returns-in-Ok-clause-spent : goal.returns-in-Ok-clause-spent
 returns-in-Ok-clause-spent g c = c.perform.ensures.used.spent
 
+pub returns-in-Ok-clause-loads : goal.returns-in-Ok-clause-loads
+returns-in-Ok-clause-loads g c = λ count seed workers asks few same.
+    load_left (asked_in c.in-Ok.asked) count seed workers
+    (let is : Some (asked_in c.in-Ok.asked) ≡ Some (Load count seed workers) = sym c.in-Ok.ensures ∙ asks in cc)
+    (words_ask_within_limits (texts_of c.args.words.now) (asked_in c.in-Ok.asked) c.in-Ok.ensures)
+    c.answers_for-answers.result _ c.perform.result.cause _ c.perform.result.history c.perform.ensures.leaves
+    (subst (Spent c.perform.result.history) (omega (arith, same)) (c.perform.ensures.used.spent few))
+
 pub returns-in-Ok-clause-later : goal.returns-in-Ok-clause-later
 returns-in-Ok-clause-later g c = c.perform.ensures.used.later
 
@@ -100,6 +110,10 @@ pub returns-in-Err-clause-full : goal.returns-in-Err-clause-full
 returns-in-Err-clause-full g c =
     unread_full c.in-Err.fault c.without_run.result.cause c.without_run.result.history
     (c.without_run.ensures.cause ∙ c.words_cause.ensures) c.without_run.ensures.history
+
+pub returns-in-Err-clause-loads : goal.returns-in-Err-clause-loads
+returns-in-Err-clause-loads g c = λ count seed workers asks few same.
+    unread_not_full c.in-Err.fault c.without_run.result.cause (c.without_run.ensures.cause ∙ c.words_cause.ensures)
 
 pub returns-in-Err-clause-before : goal.returns-in-Err-clause-before
 returns-in-Err-clause-before g c = begun_below c.without_run.result.history c.without_run.ensures.history

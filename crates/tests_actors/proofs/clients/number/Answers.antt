@@ -5,7 +5,8 @@ use Rattle.tests_actors.proofs.clients.number.Goals as goal
 
 pub sent-requires-clause-front : goal.sent-requires-clause-front
 sent-requires-clause-front c =
-    let fits : ClientFits c.args.client.now = young_fits c.args.decl.now c.args.client.now c.args.age c.requires.accepted c.requires.young c.requires.few in
+    let fits : ClientFits c.args.client.now =
+    young_fits c.args.decl.now c.args.client.now c.args.age c.requires.accepted c.requires.young c.requires.few in
     fits.front.few
 
 pub returns : goal.returns

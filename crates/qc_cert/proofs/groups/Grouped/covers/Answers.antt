@@ -5,7 +5,9 @@ use Rattle.qc_cert.proofs.Grouped.{covered_in, uncovered_past}
 use Rattle.qc_cert.proofs.MarkedTriples.{All-distinct, distinct_triples_cover_alike}
 use Rattle.qc_cert.proofs.groups.Grouped.covers.Goals as goal
 use Rattle.qc_cert.proofs.groups.Grouped.covers.Goals.{then-triple-ge-MOST_STATES-via-then-triple-ge-MOST_STATES}
-use Rattle.qc_cert.proofs.groups.Grouped.covers.Goals.{then-triple-ge-MOST_STATES-via-else-triple-ge-MOST_STATES+then-triple-ge-MOST_STATES-2}
+use Rattle.qc_cert.proofs.groups.Grouped.covers.Goals.{
+  then-triple-ge-MOST_STATES-via-else-triple-ge-MOST_STATES+then-triple-ge-MOST_STATES-2,
+}
 
 pub returns-then-triple-ge-MOST_STATES : goal.returns-then-triple-ge-MOST_STATES
 returns-then-triple-ge-MOST_STATES c =
