@@ -1,4 +1,4 @@
-use Rattle.std.proofs.Common.{◌≡◌, ◌∙◌, ◌⊎◌, Option, Some, None, inl, inr, refl, subst, sym}
+use Rattle.std.proofs.Common.{◌≡◌, ◌∙◌, ◌⊎◌, Option, Some, None, inl, inr, refl, subst, sym, arith}
 use Rattle.qc_report.specs.declared.cause.Cause.TheVariants as causes
 use Rattle.std.specs.Prelude.{option_and_then}
 use Rattle.qc_top.proofs.Blame.{blame_rose}
