@@ -9,7 +9,7 @@ use std::process::Abort;
 use std::sync::Wait;
 use std::thread::Threads;
 
-const DECLARATION: &str = "\
+pub(crate) const DECLARATION: &str = "\
 sites = 3
 clients = 3
 

@@ -21,6 +21,8 @@ mod epochs;
 #[cfg(test)]
 mod falls;
 #[cfg(test)]
+mod histories;
+#[cfg(test)]
 mod loads;
 #[cfg(test)]
 mod losses;
@@ -29,4 +31,10 @@ mod overtaking;
 #[cfg(test)]
 mod racks;
 #[cfg(test)]
+mod room;
+#[cfg(test)]
+mod rot;
+#[cfg(test)]
 mod stories;
+#[cfg(test)]
+mod torn;
