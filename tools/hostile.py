@@ -201,13 +201,13 @@ def show(row, found):
 
 
 def group_of(kind, rule):
-    """A refusal's part of a kind's line."""
-    if kind == "scripts":
-        return rule.split(": ")[0]
-    if kind != "declarations" or rule == GOOD:
-        return rule
-    place = plain_refusals.OTHER_RULES.index(rule) if rule in plain_refusals.OTHER_RULES else None
-    return "field" if place is None else plain_refusals.GROUPS[place]
+    """A refusal's part of a kind's line; and where it is told in a line of its own, that line's head and what it is."""
+    if rule in plain_refusals.GROUPS and kind == "declarations":
+        return plain_refusals.GROUPS[rule], plain_refusals.GROUPS[rule], rule
+    head, _, why = rule.partition(": ")
+    if kind == "declarations" and why:
+        return "field", "field " + head, why
+    return head, head if why else None, why
 
 
 def tell(rows):
@@ -215,17 +215,15 @@ def tell(rows):
     counts = collections.Counter((row.kind, row.rule) for row in rows)
     missing = [(kind, rule) for kind, rules in RULES.items() for rule in (GOOD, *rules) if not counts[kind, rule]]
     for kind, rules in RULES.items():
-        groups = collections.Counter()
+        groups, told = collections.Counter(), collections.defaultdict(list)
         for rule in (GOOD, *rules):
-            groups[group_of(kind, rule)] += counts[kind, rule]
+            group, head, what = group_of(kind, rule)
+            groups[group] += counts[kind, rule]
+            told[head].append("%s %d" % (what, counts[kind, rule]))
         total = sum(groups.values())
         print("%s: %d rows: %s" % (kind, total, ", ".join("%s %d" % group for group in groups.items())))
-        told = collections.defaultdict(list)
-        for rule in rules if len(rules) > len(groups) else ():
-            head, _, why = rule.rpartition(": ") if ": " in rule else ("", "", rule)
-            told[head].append("%s %d" % (why, counts[kind, rule]))
-        for head, parts in told.items():
-            print("    %s%s" % (head + ": " if head else "", ", ".join(parts)))
+        for head in filter(None, told):
+            print("    %s: %s" % (head, ", ".join(told[head])))
     for kind, rule in missing:
         print("%s: this never came: %s" % (kind, rule))
     return not missing

@@ -92,9 +92,9 @@ VALUES = (
 )
 TEXTS = (
     "=1", "=[]", "=true", "", " ", "-", "a", "0 R 0", "0 R  0 0", "0 R 0 -", "0 R 0 0 ", " 0 R 0 0", "0 R 0 0 0",
-    "2 R 0 0", "0 S 0 0", "0 R 2 0", "0 R 0 2", "0 W0 ok 0", "1 R 0 0", "R", "S W0:ok", "R W0", "R W0:1",
-    "R W0:ok ", "R W0:ok:ok", "R W0:ok W1:ok", "R :ok", "R W0:", "0 0", "0 2 -", "2 0 -", "0 0 W1", "0 0 W1:ok,",
-    "0 0 ,W1:ok", "0 0 -,W1:ok", "0 0 --", "0 0 W1:ok,W1:ok", "0 0 W1:ok,W0:ok", "0 0 W1:ok,W0:ok,R:0,R:1",
+    "2 R 0 0", "0 S 0 0", "0 R 2 0", "0 R 0 2", "0 W0 ok 0", "1 R 0 0", "R", "S W0:ok", "R W0", "R W0:1", "R W0:ok ",
+    "R W0:ok:ok", "R W0:ok W1:ok", "R :ok", "R W0:", "0 0", "0 2 -", "2 0 -", "0 0 W1", "0 0 W1:ok,", "0 0 ,W1:ok",
+    "0 0 -,W1:ok", "0 0 --", "0 0 W1:ok,W1:ok", "1 1 W1:ok", "0 1 -", "0 0 W1:ok,W0:ok", "0 0 W1:ok,W0:ok,R:0,R:1",
     "0 0 W1:ok, W0:ok", "0 0 ", "x R", "y R 1", "x S 1", "x R +1", "x R -1", "x R 000001", "x R 00001", "x R 65535",
     "x R 65536", "x R 99999", "x R ", "x R 0", "x R 1 ", "x R 1.0", "x W0 1", "x W0:1 1", "x W0:ok 1",
     "x W0:ok 65535", "x W0:ok 65536", "x W0:ok", "y W0:ok 1", "x W0:ok 2", "x R 2", "x R:0 1",
@@ -106,12 +106,12 @@ def ruled(rng):
     for place, (_, keys) in enumerate(BASE):
         for key, value in keys.items():
             yield turned(place, **{key: None})
-            yield from (turned(place, **{key: it}) for it in (*ALWAYS, *some(rng, VALUES, 45)))
+            yield from (turned(place, **{key: it}) for it in (*ALWAYS, *some(rng, VALUES, 30)))
             if isinstance(value, list):
                 for text in TEXTS:
-                    where = rng.randrange(len(value) + 1)
+                    where = rng.randrange(len(value))
                     yield turned(place, **{key: value[:where] + [text] + value[where + 1 :]})
-                yield from (turned(place, **{key: [*value, it]}) for it in some(rng, TEXTS, 25))
+                yield from (turned(place, **{key: [*value, it]}) for it in some(rng, TEXTS, 14))
                 yield from (turned(place, **{key: value[:at] + value[at + 1 :]}) for at in range(len(value)))
                 yield from (turned(place, **{key: value[: at + 1] + value[at:]}) for at in range(len(value)))
         for key in ("hue", '"hue\\nall"', '""', "'a b'", "a.b", "name.x", "\u00e9", "sites", "name", "Type", "weights"):
@@ -120,7 +120,7 @@ def ruled(rng):
         yield turned(0, **{key: "1" for key in pair.split(" ")})
     yield from (many(place, ()) for place in range(4))
     for place, key in enumerate(("type", "object", "epoch"), 1):
-        top = [("", {**BASE[0][1], key: value}) for value in (*ALWAYS, *some(rng, VALUES, 45))]
+        top = [("", {**BASE[0][1], key: value}) for value in (*ALWAYS, *some(rng, VALUES, 30))]
         yield from (written([it, *BASE[1:place], *BASE[place + 1 :]]) for it in top)
     yield from (many(place, [BASE[place]] * 2) for place in range(4))
 
@@ -131,6 +131,14 @@ def events(count):
     rows = ["s %s %s s" % (invs[k // 8], resps[k % 8]) for k in range(count)]
     lists = {"invocations": invs, "responses": resps, "rows": rows, "depends": None, "triples": ["s s -"]}
     return turned(1, states=["s"], start='"s"', **lists)
+
+
+def triples(more):
+    """A type with the most triples, and more; as many with the same two states as may be."""
+    states = ["s%d" % k for k in range(9)]
+    listed = ["%s %s -" % (view, log) for view in states[:8] for log in states[:8] for _ in range(1_024)]
+    lists = {"invocations": ["i"], "responses": ["r"], "rows": ["s0 i r s0"], "depends": None, "triples": listed}
+    return turned(1, states=states, start='"s0"', **{**lists, "triples": listed + ["s8 s8 -"] * more})
 
 
 def limits():
@@ -154,7 +162,31 @@ def limits():
         yield turned(1, triples=["0 0 -", *["0 0 W0:ok"] * (1_024 + more), *BASE[1][1]["triples"][1:]])
         yield turned(1, rows=BASE[1][1]["rows"] * 2 if more else BASE[1][1]["rows"])
         yield turned(1, rows=["0 R 0 0"] * (131_072 + more))
-    yield turned(1, triples=["0 0 -"] * 65_537)
+        yield triples(more)
+        yield turned(3, initial=["x R %d" % (65_535 + more)])
+        yield turned(3, initial=["x R %s1" % ("0" * (4 + more))])
+        yield turned(3, final=["x W0:ok %d" % (65_535 + more), "x W1:ok 1"])
+        yield turned(3, final=["x W0:ok %s1" % ("0" * (4 + more)), "x W1:ok 1"])
+        yield turned(2, name='"%s"' % "_-"[more])
+
+
+def relations(rng):
+    """The base with other dependences and triples, some of them right, and other thresholds."""
+    keys, events_ = BASE[1][1], ["R:0", "R:1", "W0:ok", "W1:ok"]
+    for _ in range(150):
+        out = [",".join(rng.sample(events_, rng.randrange(5))) or "-" for _ in range(6)]
+        more = ["%d %d %s" % (rng.randrange(2), rng.randrange(2), it) for it in out[: rng.randrange(7)]]
+        listed = [it for it in keys["triples"] if rng.random() < 0.95] + more
+        needs = [it for it in keys["depends"] if rng.random() < 0.9]
+        others = rng.choice((0, 0, 1, 3))
+        needs += ["%s %s" % (rng.choice(keys["invocations"]), rng.choice(events_)) for _ in range(others)]
+        yield turned(1, depends=needs, triples=rng.sample(listed, len(listed)))
+    yield from (turned(1, triples=["0 0 " + it, *keys["triples"][1:]]) for it in (*events_, ",".join(events_)))
+    for _ in range(100):
+        weights, need = [rng.randrange(3) for _ in range(3)], lambda: rng.choice((0, 1, 2, 2, 3, 3, 4))
+        final = ["x %s %d" % (event, need()) for event in events_ if rng.random() < 0.7]
+        text = turned(3, weights=str(weights), initial=["x R %d" % need(), "x W1 %d" % need()], final=final)
+        yield text.replace(b"sites = 1", b"sites = 3")
 
 
 # What the kit's reader takes otherwise than `tomllib`, and what is asked of in its place.
@@ -213,8 +245,8 @@ MORE = b"zz", b"", b"-", b" ", b"a b", b"0", b"1", b"2", b"65536", b"00001", b"\
 def declarations(rng):
     """The rows: bytes, and those of which plain_declarations is asked."""
     first, others = base(), examples()
-    rows = [first, *others, *ruled(rng), *limits(), *some(rng, cuts(first), 300), b"", written(BASE)]
-    rows += some(rng, changes(first), 450) + some(rng, left_out(first), 150) + some(rng, put_in(rng, first), 150)
+    rows = [first, *others, *ruled(rng), *limits(), *relations(rng), *some(rng, cuts(first), 250), b"", written(BASE)]
+    rows += some(rng, changes(first), 350) + some(rng, left_out(first), 150) + some(rng, put_in(rng, first), 150)
     rows += lines_changed(rng, first)
     for data in others:
         rows += some(rng, cuts(data), 8) + some(rng, changes(data), 12) + some(rng, list(lines_changed(rng, data)), 14)

@@ -125,6 +125,15 @@ POOL = (
 ).split(b" ") + [b""]
 
 
+# Numbers at the most digits and past them, and with leading zeros.
+DIGITS = (
+    b"c99999 begin", b"c100000 begin", b"c01 begin", b"c00000 do door_1 Get", b"crash s99999", b"crash s100000",
+    b"crash s00", b"crash c1 ", b"stop s0 at 00001", b"stop s0 at 000001", b"stop s0 at 100000", b"fail admin at ",
+    b"admin epoch 00003", b"admin epoch 000003", b"admin epoch 99999", b"admin epoch 100000", b"cut s0 s00",
+    b"heal c0 c99999", b"c0 do admin  ", b"c0 do  Ring", b"c0 do door_1 ", b"admin do admin Ring", b"s0 begin",
+    b"phase 1", b"phase ", b"link admin admin 00001 late",
+)
+
 ENDS = b"", b"\n", b"\r", b"\r\n", b"\r\r\n", b" ", b"\0", b"\nx"
 
 
@@ -182,17 +191,18 @@ def scripts(rng):
     for data, is_other in ((THREE_SCRIPT, False), (OTHER_SCRIPT, True)):
         made = [*cuts(data), *lines_changed(rng, data), *ends(data)]
         made += [it for _ in range(2) for it in words_changed(rng, data)]
-        made += some(rng, changes(data), 350) + some(rng, left_out(data), 120) + some(rng, put_in(rng, data), 120)
+        made += some(rng, changes(data), 250) + some(rng, left_out(data), 90) + some(rng, put_in(rng, data), 90)
         rows += [(it, is_other) for it in made]
     for data in examples():
         made = [data, *some(rng, cuts(data), 4), *some(rng, list(lines_changed(rng, data)), 5)]
         made += some(rng, changes(data), 4) + some(rng, words_changed(rng, data), 6)
         rows += [(it, False) for it in made]
     rows += [(it, True) for it in formed((b"", b"\n"))]
-    for is_other, count in ((True, 350), (False, 150)):
+    rows += [(before + line, True) for line in DIGITS for before in (b"", b"phase\n", b"#\n\nphase\r\nadmin epoch 2\n")]
+    for is_other, count in ((True, 200), (False, 100)):
         rows += [(it, is_other) for it in some(rng, list(formed(ENDS)), count)]
-    rows += [(lines_of_pool(rng), rng.random() < 0.7) for _ in range(700)]
+    rows += [(lines_of_pool(rng), rng.random() < 0.7) for _ in range(600)]
     rows += [(random_bytes(rng, 40), False) for _ in range(60)]
     rows += [(b"phase\n" + random_bytes(rng, 9), True) for _ in range(40)]
-    rows += [(bytes([byte]), False) for byte in range(256)]
+    rows += [(bytes([byte]), False) for byte in range(0, 256, 3)]
     return list(dict.fromkeys(rows))

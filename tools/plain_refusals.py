@@ -40,9 +40,9 @@ GROUPED = {
     "certificate": ("no start triple", "left out isn't covered", "taken isn't covered", "differs"),
     "plan": ("no weight", "too heavy", "can miss"),
 }
-OTHER_RULES = tuple(rule for rules in GROUPED.values() for rule in rules)
-GROUPS = tuple(group for group, rules in GROUPED.items() for _ in rules)
-RULES = OTHER_RULES + tuple("%s: %s" % (path, why) for path, whys in BROKEN.items() for why in whys)
+# The group of each rule that isn't a field's.
+GROUPS = {rule: group for group, rules in GROUPED.items() for rule in rules}
+RULES = tuple(GROUPS) + tuple("%s: %s" % (path, why) for path, whys in BROKEN.items() for why in whys)
 
 
 class Refused(Exception):
