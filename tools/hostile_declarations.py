@@ -181,12 +181,36 @@ def relations(rng):
         others = rng.choice((0, 0, 1, 3))
         needs += ["%s %s" % (rng.choice(keys["invocations"]), rng.choice(events_)) for _ in range(others)]
         yield turned(1, depends=needs, triples=rng.sample(listed, len(listed)))
-    yield from (turned(1, triples=["0 0 " + it, *keys["triples"][1:]]) for it in (*events_, ",".join(events_)))
+    for place, triple in enumerate(keys["triples"]):
+        for out in (*events_, "R:0,W0:ok", "W1:ok,W0:ok,R:1,R:0", "-"):
+            listed = [*keys["triples"][:place], triple[:4] + out, *keys["triples"][place + 1 :]]
+            yield turned(1, triples=listed)
     for _ in range(100):
         weights, need = [rng.randrange(3) for _ in range(3)], lambda: rng.choice((0, 1, 2, 2, 3, 3, 4))
         final = ["x %s %d" % (event, need()) for event in events_ if rng.random() < 0.7]
         text = turned(3, weights=str(weights), initial=["x R %d" % need(), "x W1 %d" % need()], final=final)
         yield text.replace(b"sites = 1", b"sites = 3")
+
+
+def seconds():
+    """Faults of the second type, object and epoch, and faults of the second object's thresholds."""
+    rows, triples_ = BASE[1][1]["rows"], BASE[1][1]["triples"]
+    faults = [(1, {"triples": triples_[:at] + triples_[at + 1 :]}) for at in range(4)]
+    faults += [(1, {"depends": ["R W0:ok"]}), (1, {"rows": [*rows, "2 R 0 0"]}), (1, {"rows": [*rows, rows[0]]})]
+    faults += [(place, {"hue": "1"}) for place in (1, 2, 3)] + [(2, {"type": '"zz"'})]
+    faults += [(3, {"weights": "[0]"}), (3, {"weights": "[]"})]
+    faults += [(3, {"initial": ["x R 2"]}), (3, {"final": ["x W1:ok 1"]}), (3, {"initial": []})]
+    for place, fault in faults:
+        name = {} if place == 3 else {"name": '"second"'}
+        yield many(place, [BASE[place], (BASE[place][0], {**BASE[place][1], **name, **fault})])
+        yield many(place, [(BASE[place][0], {**BASE[place][1], **fault}), (BASE[place][0], {**BASE[place][1], **name})])
+    for x, y in ((1, 1), (1, 2), (2, 1), (2, 2), (1, 0), (0, 1)):
+        for key, events_ in (("initial", "R"), ("final", "W0:ok W1:ok")):
+            needs = [(it, need, event) for it, need in (("x", x), ("y", y)) for event in events_.split(" ")]
+            final = [*BASE[3][1]["final"], "y W0:ok 1", "y W1:ok 1"]
+            whole = {"initial": ["x R 1", "y R 1"], "final": final}
+            whole[key] = ["%s %s %d" % (it, event, need) for it, need, event in needs]
+            yield written([*BASE[:2], *named(2, "xy"), (BASE[3][0], {**BASE[3][1], **whole})])
 
 
 # What the kit's reader takes otherwise than `tomllib`, and what is asked of in its place.
@@ -245,8 +269,8 @@ MORE = b"zz", b"", b"-", b" ", b"a b", b"0", b"1", b"2", b"65536", b"00001", b"\
 def declarations(rng):
     """The rows: bytes, and those of which plain_declarations is asked."""
     first, others = base(), examples()
-    rows = [first, *others, *ruled(rng), *limits(), *relations(rng), *some(rng, cuts(first), 250), b"", written(BASE)]
-    rows += some(rng, changes(first), 350) + some(rng, left_out(first), 150) + some(rng, put_in(rng, first), 150)
+    rows = [first, *others, *ruled(rng), *limits(), *seconds(), *relations(rng), b"", written(BASE)]
+    rows += some(rng, cuts(first), 250) + some(rng, changes(first), 350) + some(rng, left_out(first), 150) + some(rng, put_in(rng, first), 150)
     rows += lines_changed(rng, first)
     for data in others:
         rows += some(rng, cuts(data), 8) + some(rng, changes(data), 12) + some(rng, list(lines_changed(rng, data)), 14)

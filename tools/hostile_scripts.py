@@ -131,7 +131,8 @@ DIGITS = (
     b"crash s00", b"crash c1 ", b"stop s0 at 00001", b"stop s0 at 000001", b"stop s0 at 100000", b"fail admin at ",
     b"admin epoch 00003", b"admin epoch 000003", b"admin epoch 99999", b"admin epoch 100000", b"cut s0 s00",
     b"heal c0 c99999", b"c0 do admin  ", b"c0 do  Ring", b"c0 do door_1 ", b"admin do admin Ring", b"s0 begin",
-    b"phase 1", b"phase ", b"link admin admin 00001 late",
+    b"phase 1", b"phase ", b"link admin admin 00001 late", b"stop s0 at +1", b"fail c0 at -1", b"admin epoch +2",
+    b"link * s0 +1 late",
 )
 
 ENDS = b"", b"\n", b"\r", b"\r\n", b"\r\r\n", b" ", b"\0", b"\nx"
