@@ -270,7 +270,8 @@ def declarations(rng):
     """The rows: bytes, and those of which plain_declarations is asked."""
     first, others = base(), examples()
     rows = [first, *others, *ruled(rng), *limits(), *seconds(), *relations(rng), b"", written(BASE)]
-    rows += some(rng, cuts(first), 250) + some(rng, changes(first), 350) + some(rng, left_out(first), 150) + some(rng, put_in(rng, first), 150)
+    rows += some(rng, cuts(first), 250) + some(rng, changes(first), 350)
+    rows += some(rng, left_out(first), 150) + some(rng, put_in(rng, first), 150)
     rows += lines_changed(rng, first)
     for data in others:
         rows += some(rng, cuts(data), 8) + some(rng, changes(data), 12) + some(rng, list(lines_changed(rng, data)), 14)
