@@ -35,10 +35,10 @@ def below(used, names):
     return [name for name in used if name in found]
 
 
-def build(folder, name, template, uses, proofs=()):
-    """Makes a program of this name from a template, over the libraries that it
-    uses, and tells where it stands. With pairs of a function and a file of the
-    bench, that file is the function's Invariants.antt."""
+def lay_out(folder, name, template, uses, proofs=()):
+    """Makes the crate of a program of this name from a template, beside a copy of the libraries that it uses, and tells
+    its folder. A template that isn't named by a whole path is one of the bench. With pairs of a function and a file of
+    the bench, that file is the function's Invariants.antt."""
     lines, used = libraries()
     crates = below(used, uses)
     for crate in crates:
@@ -55,8 +55,14 @@ def build(folder, name, template, uses, proofs=()):
         for crate in crates:
             file.write(lines[crate])
         file.write("%s: %s\n" % (name, " ".join(uses)))
-    subprocess.run(["rt", "run"], cwd=os.path.join(folder, "crates", name), check=True, stdout=subprocess.DEVNULL)
-    return os.path.join(folder, "crates", name, "out", name)
+    return os.path.join(folder, "crates", name)
+
+
+def build(folder, name, template, uses, proofs=()):
+    """Proves and builds such a program, and tells where it stands."""
+    made = lay_out(folder, name, template, uses, proofs)
+    subprocess.run(["rt", "run"], cwd=made, check=True, stdout=subprocess.DEVNULL)
+    return os.path.join(made, "out", name)
 
 
 def plain(folder, source):

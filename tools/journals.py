@@ -14,9 +14,10 @@ declaration. A transaction is client.life.number, a lock object.invocation, an o
 clock/transaction/op.object.event, an operation object.invocation.response, or object.invocation.absent; `-` is none.
 
 With `--summary` there is one line for each file, with its records and the offset of the gate that ends them. A file
-that is no journal, or a body that is no record, is told with the offset where that begins. Status 0 where each file
-reads as a journal of records, 1 where one doesn't, where one can't be read and where a folder has none, 2 for other
-words.
+that is no journal is told with the offset of the gate where that begins, and a body that is no record with the offset
+where it ceases to be one: at the first field out of its range or out of order, at its end within a field, or at the
+first byte behind the last. Status 0 where each file reads as a journal of records, 1 where one doesn't, where one can't
+be read and where a folder has none, 2 for other words.
 """
 
 import os
@@ -34,7 +35,7 @@ class Wrong(Exception):
 
     def __init__(self, offset, what):
         super().__init__("%d: %s" % (offset, what))
-        self.offset = offset
+        self.offset, self.what = offset, what
 
 
 # Journals.
@@ -57,29 +58,41 @@ def bodies_of(journal):
 # Bodies. Each number is read with its bounds.
 
 
+def numbers_in(item):
+    """The numbers of an item, in their order."""
+    return [number for part in item for number in numbers_in(part)] if isinstance(item, tuple) else [item]
+
+
 class Body:
     """A body that is being read."""
 
     def __init__(self, body, begin):
         self.body, self.begin, self.at = body, begin, 0
+        # The numbers of the item before, from the next one on, as long as those up to here were the same.
+        self.tied = []
 
     def number(self, width, least, most):
         """The next number, of so many bytes."""
         behind = self.at + width
+        if behind > len(self.body):
+            raise Wrong(self.begin + len(self.body), "no whole record")
         found = int.from_bytes(self.body[self.at : behind], "big")
-        if behind > len(self.body) or not least <= found <= most:
+        if not least <= found <= most:
             raise Wrong(self.begin + self.at, "no record")
+        if self.tied:
+            before, *rest = self.tied
+            if found < before or found == before and not rest:
+                raise Wrong(self.begin + self.at, "not above the one before")
+            self.tied = rest if found == before else []
         self.at = behind
         return found
 
     def rising(self, count, item, key=lambda item: item):
-        """So many items, each above the one before."""
+        """So many items, each above the one before: by the first number that differs."""
         items = []
         for _ in range(count):
-            begin = self.begin + self.at
+            self.tied = numbers_in(key(items[-1])) if items else []
             items.append(item())
-            if len(items) > 1 and key(items[-2]) >= key(items[-1]):
-                raise Wrong(begin, "not above the one before")
         return items
 
     def end(self):
@@ -149,7 +162,7 @@ def prepare(body):
         ("tx", body.tx()),
         ("epoch", body.epoch()),
         ("locks", body.rising(body.number(2, 0, 65_535), body.lock)),
-        ("own", body.rising(body.number(1, 0, 16), body.own, key=lambda own: own[0])),
+        ("own", body.rising(body.number(1, 0, 16), body.own, key=lambda own: own[:1])),
         ("lines", body.lines()),
     ]
 
