@@ -120,15 +120,30 @@ fn is_commit(record: &Record, stamp: Stamp) -> bool {
     }
 }
 
-/// Whether a commit of this stamp was written, or rose, in these steps.
-fn has_commit(entries: &[Entry], stamp: Stamp) -> bool {
+/// Whether a commit of this stamp is written in a step, or rises in it.
+fn has_commit(step: &Step, stamp: Stamp) -> bool {
+    match step {
+        Step::Wrote(record) => is_commit(record, stamp),
+        Step::Rose(records) => has_risen(records, stamp),
+        _ => false,
+    }
+}
+
+/// Whether a client is told in a step that a transaction committed with this stamp.
+fn is_told(step: &Step, stamp: Stamp) -> bool {
+    match step {
+        Step::Told(Reply::Committed { stamp: told }) => *told == stamp,
+        _ => false,
+    }
+}
+
+/// Whether a commit of this stamp stands before anybody is told of it.
+fn stands_before(entries: &[Entry], stamp: Stamp) -> bool {
     for entry in entries {
-        let is_here = match &entry.step {
-            Step::Wrote(record) => is_commit(record, stamp),
-            Step::Rose(records) => has_risen(records, stamp),
-            _ => false,
-        };
-        if is_here {
+        if is_told(&entry.step, stamp) {
+            return false;
+        }
+        if has_commit(&entry.step, stamp) {
             return true;
         }
     }
@@ -137,15 +152,12 @@ fn has_commit(entries: &[Entry], stamp: Stamp) -> bool {
 
 /// Whether clients were told that a transaction committed for commits alone that stood before.
 pub(crate) fn is_told_rightly(entries: &[Entry]) -> bool {
-    let mut place = 0;
     for entry in entries {
         if let Step::Told(Reply::Committed { stamp }) = &entry.step {
-            let (before, _) = entries.split_at(place);
-            if !has_commit(before, *stamp) {
+            if !stands_before(entries, *stamp) {
                 return false;
             }
         }
-        place += 1;
     }
     true
 }
