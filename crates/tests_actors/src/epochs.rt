@@ -70,8 +70,7 @@ fn promises_are_told_in_order(rt: HostRuntime) -> Result<(), OutOfMemory> {
             ),
             (
                 Taken::Close(2),
-                "write close 2; 6: 14 shut clock 0 [], prepare 0.1.1 epoch 1 [0 0][][], prepare 2.1.1 epoch 1 [0
-                    0][][]; else 6: 14 fault",
+                "write close 2; 6: 14 shut clock 0 [], prepare 0.1.1 epoch 1 [0 0][][], prepare 2.1.1 epoch 1 [0 0][][]; else 6: 14 fault",
             ),
         ],
         (2, 1, 0, 2),
@@ -95,8 +94,7 @@ fn a_closed_site_tells_what_it_has_now(rt: HostRuntime) -> Result<(), OutOfMemor
             ),
             (
                 Taken::Close(2),
-                "write close 2; 6: 12 shut clock 5 [5.1 1.1.1 1 0 3], prepare 0.1.1 epoch 1 [][1 0 2][5.1 1.1.1 1 0
-                    3]; else 6: 12 fault",
+                "write close 2; 6: 12 shut clock 5 [5.1 1.1.1 1 0 3], prepare 0.1.1 epoch 1 [][1 0 2][5.1 1.1.1 1 0 3]; else 6: 12 fault",
             ),
             (Taken::Committed(0, 9), "write done 0.1.1 clock 9"),
             (

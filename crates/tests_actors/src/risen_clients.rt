@@ -73,8 +73,7 @@ fn stamps_are_above_the_records(rt: HostRuntime) -> Result<(), OutOfMemory> {
             ),
             (
                 Taken::Commit,
-                "write commit 10.1 1.2.1 []; tell Committed { stamp: Stamp { clock: 10, client: 1 } }; else tell
-                    Unknown",
+                "write commit 10.1 1.2.1 []; tell Committed { stamp: Stamp { clock: 10, client: 1 } }; else tell Unknown",
             ),
             (Taken::Inquiry(2), "2: 1.1.2 is committed 8.1"),
         ],
@@ -145,8 +144,7 @@ fn two_thousand_records(rt: HostRuntime) -> Result<(), OutOfMemory> {
             ),
             (
                 Taken::Commit,
-                "write commit 4001.1 1.2.1 []; tell Committed { stamp: Stamp { clock: 4001, client: 1 } }; else
-                    tell Unknown",
+                "write commit 4001.1 1.2.1 []; tell Committed { stamp: Stamp { clock: 4001, client: 1 } }; else tell Unknown",
             ),
         ],
     )
