@@ -13,7 +13,7 @@ TESTS, PROGRAM = "tests_", "quorum"
 # from the bottom up; a crate stands on none of a later band
 BANDS = {
     "base": "list stamp number table cert plan entry lock link view outside pass journal decl accept",
-    "theory": "theory_onecopy theory_machine theory_witnesses theory_bases",
+    "theory": "theory_onecopy theory_machine theory_witnesses theory_bases theory_marks",
     "system": "msg record fit script mailbox fabric promise spent store site commit front client epoch recover admin core process gen",
     "laws": "laws_turns laws_due laws_bounds laws_refinement laws_atomic laws_reach laws_guarantees laws_votes laws_room",
     "outside": "node report text words top files quorum",

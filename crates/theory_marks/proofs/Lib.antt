@@ -1,0 +1,15 @@
+pub mod Lists
+pub mod Members
+pub mod Logs
+pub mod Sites
+pub mod SiteActs
+pub mod Now
+pub mod Clients
+pub mod CountsReads
+pub mod CountsAppends
+pub mod Asks
+pub mod Serves
+pub mod Keeps
+pub mod Runs
+pub mod Witnessed
+pub mod Wronged
