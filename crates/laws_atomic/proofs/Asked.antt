@@ -4,8 +4,8 @@ use Rattle.std.proofs.Common.{slice_get, refl, sym, ap, ◌∙◌, subst}
 use Rattle.std.specs.List.{filter_map}
 use Rattle.std.proofs.lemmas.List.Elements.{filter_map-append}
 use Rattle.qc_list.specs.Vocabulary.{In}
-use Rattle.qc_list.proofs.Members.{In-first, In-last, In-unfiltered}
-use Rattle.theory_onecopy.proofs.Lists.{Mapped, in_split, map_in}
+use Rattle.qc_list.proofs.Members.{In-first, In-last, In-unfiltered, In-either}
+use Rattle.theory_onecopy.proofs.Lists.{Mapped, map_in}
 use Rattle.qc_core.specs.Vocabulary.{IsLawful}
 use Rattle.qc_decl.specs.declared.declaration.Declaration.{Declaration}
 use Rattle.qc_msg.specs.declared.step.Command.{Command}
@@ -58,7 +58,7 @@ in_phases a zero c [] asked = absurd asked
 in_phases a (suc k) c [] asked = absurd asked
 in_phases a zero c (p ∷ phases) asked = absurd asked
 in_phases a (suc k) c (p ∷ phases) asked =
-    elim (in_split c (commands_for a p.commands) (asked_in_all a (take k phases)) asked) [
+    elim (In-either c (commands_for a p.commands) (asked_in_all a (take k phases)) asked) [
       | inl here ↦ of_phase a c p (p ∷ phases) (inl refl) here
       | inr there ↦ later_phase c p phases (in_phases a k c phases there)
     ]

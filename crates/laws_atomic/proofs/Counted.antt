@@ -1,7 +1,7 @@
 -- What is taken for a request, in the account of a client: what the account keeps of it, and that its clock passes a
 -- grant's.
-use Rattle.std.proofs.Common.{◌≡◌, ◌≤◌, ℕ, ◌==◌, ◌&&◌, Bool, true, false, cond, List, [], ◌∷◌, inl, inr, Option, Some}
-use Rattle.std.proofs.Common.{None, option_map, refl, sym, ap, ◌∙◌, subst, arith, eq-eqb, eqb-true}
+use Rattle.std.proofs.Common.{◌≡◌, ◌≤◌, ℕ, ◌==◌, Bool, true, false, cond, List, [], ◌∷◌, inl, inr, Option, Some, None}
+use Rattle.std.proofs.Common.{option_map, refl, sym, ap, ◌∙◌, subst, arith, eq-eqb, eqb-true}
 use Rattle.std.specs.Prelude.{is_none}
 use Rattle.std.specs.List.{find}
 use Rattle.qc_stamp.specs.declared.stamp.TxId.{TxId}
@@ -15,6 +15,8 @@ use Rattle.qc_msg.specs.Vocabulary.{grant_with}
 use Rattle.qc_promise.specs.Vocabulary.{Account, ClientRequest, Current, counted, counted_for, granted, is_append}
 use Rattle.qc_promise.specs.Vocabulary.{is_open, is_prepare, lived, promised, taken_for, told_by, with_read}
 use Rattle.laws_due.proofs.OpenRequests.{IsFound, found}
+use Rattle.laws_due.proofs.AdminRequests.{none_taken}
+use Rattle.qc_list.proofs.Booleans.{and_first}
 
 -- the name of the begun transaction
 abbrev pub name_of : Option Current → Option TxId
@@ -137,10 +139,6 @@ told d q (Some (answers.Answered verdict)) = nothing_told q.want d
 
 -- the other requests stay open
 
-first_true : (x y : Bool) → (x && y) ≡ true → x ≡ true
-first_true true y is = refl
-first_true false y is = absurd (let never : ⊥ = cc in never)
-
 stays_among : (n m : ℕ) (answer : Option Answer) → (m ≡ n → ⊥) → (qs : List ClientRequest) (q : ClientRequest)
     → q.number ≡ m → In q qs → In q (taken_for n answer qs)
 stays_among n m answer other [] q is among = among
@@ -148,7 +146,7 @@ stays_among n m answer other (p ∷ qs) q is (inl same) = inl (by (is_open n p) 
   where
     by : (o : Bool) → is_open n p ≡ o → q ≡ cond o (record p { taken = Some answer }) p
     by true it = absurd (other (sym is ∙ ap (λ (x : ClientRequest). x.number) same
-        ∙ eqb-true p.number n (first_true (p.number == n) (is_none p.taken) it)))
+        ∙ eqb-true p.number n (and_first (p.number == n) (is_none p.taken) it)))
     by false it = same
 stays_among n m answer other (p ∷ qs) q is (inr later) = inr (stays_among n m answer other qs q is later)
 
@@ -202,10 +200,6 @@ counts n d answer = by (find (is_open n) d.requests)
 pub untaken_is : (q : ClientRequest) → q.taken ≡ None → is_none q.taken ≡ true
 untaken_is q is = ap (λ (o : Option (Option Answer)). is_none o) is
 
-pub taken_is : (o : Option (Option Answer)) → is_none o ≡ true → o ≡ None
-taken_is None is = refl
-taken_is (Some a) is = absurd (let never : ⊥ = cc in never)
-
 open_is : (n : ℕ) (q : ClientRequest) → q.number ≡ n → q.taken ≡ None → is_open n q ≡ true
 open_is n q is untaken = rw (eq-eqb q.number n is, untaken_is q untaken) refl
 
@@ -244,4 +238,4 @@ passes n d life clock log o asks = by (find (is_open n) d.requests) refl
         let f : IsFound n d.requests q = found n d.requests q is in
         granted_passes (record d
         { requests = taken_for n (Some (answers.Granted (grant_with life clock log))) d.requests }) q.site
-        life clock log q.want (asks q f.among f.number_is (taken_is q.taken f.open_still))
+        life clock log q.want (asks q f.among f.number_is (none_taken q.taken f.open_still))

@@ -32,7 +32,7 @@ use Rattle.laws_atomic.proofs.Sights.{sent_sees, wrote_sees}
 use Rattle.laws_atomic.proofs.Taking as taking
 use Rattle.laws_atomic.proofs.Taking.{IsFree, sent_free}
 use Rattle.laws_atomic.proofs.Tellings.{begins_new, told_sees}
-use Rattle.laws_turns.proofs.Up.{acts_up}
+use Rattle.qc_core.proofs.Steady.{acts_steady}
 
 -- a turn
 
@@ -74,7 +74,7 @@ module _ (decl : Declaration) (commits : List Commit) (tx : TxId) where
           (wrote_sees commits tx d s wrote st w decl written
           (λ c same. there c (inl (ap (λ (x : Record). Writes x) (sym same)))) is.0) is.1 right.1 free alone
 
-due-second : (decl : Declaration) (d : Account) (xs ys : List Deed) → AreByRows decl d (xs ++ ys)
+pub due-second : (decl : Declaration) (d : Account) (xs ys : List Deed) → AreByRows decl d (xs ++ ys)
     → AreByRows decl (fold (account_at decl) d xs) ys
 due-second decl d [] ys all = all
 due-second decl d (x ∷ xs) ys all = due-second decl (account_at decl d x) xs ys all.1
@@ -83,7 +83,7 @@ right-first : (tx : TxId) (st : Status) (xs ys : List Deed) → AreRightFrom tx 
 right-first tx st [] ys all = tt
 right-first tx st (x ∷ xs) ys all = (all.0, right-first tx (status_at tx st x) xs ys all.1)
 
-right-second : (tx : TxId) (st : Status) (xs ys : List Deed) → AreRightFrom tx st (xs ++ ys)
+pub right-second : (tx : TxId) (st : Status) (xs ys : List Deed) → AreRightFrom tx st (xs ++ ys)
     → AreRightFrom tx (fold (status_at tx) st xs) ys
 right-second tx st [] ys all = all
 right-second tx st (x ∷ xs) ys all = right-second tx (status_at tx st x) xs ys all.1
@@ -135,7 +135,7 @@ module _ (decl : Declaration) (a : ℕ) (client : is_client decl a ≡ true) (co
     take g may f =
         taking.take decl (a - decl.sites) commits tx ds (client_after decl (a - decl.sites) ds).client
         (fold (sight tx) no_sight ds) (fold wrote_at [] ds) (fold (status_at tx) statuses.Unborn ds) tied w g
-        (may_give decl (a - decl.sites) ds (acts_up decl a ds false n acts) g may) f
+        (may_give decl (a - decl.sites) ds (acts_steady decl a ds false n acts) g may) f
 
     taken_at : (g : Input) → MayTake ds g → AreFounded commits (ds ++ Takes g ∷ []) → IsAt (ds ++ Takes g ∷ [])
     taken_at g may f = more_deeds ds (Takes g ∷ []) (take g may f)

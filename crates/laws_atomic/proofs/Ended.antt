@@ -25,8 +25,9 @@ use Rattle.laws_due.proofs.Halves.{waiting_verdict}
 use Rattle.laws_due.proofs.Nothing.{do_row_is}
 use Rattle.laws_due.proofs.OpenRequests.{IsFound, every_taken, found}
 use Rattle.laws_atomic.proofs.Counted.{AreSame, IsSame, IsTold, told, untaken_is}
-use Rattle.laws_atomic.proofs.Waiting.{NoneOpen, noted_none, taken_none, round_with, reads_kept, DoesRead, DoesAppend}
-use Rattle.laws_atomic.proofs.Waiting.{asks_none, does_read, does_append, does_commit, DoesCommit, Goes}
+use Rattle.laws_atomic.proofs.Waiting.{NoneOpen, noted_none, taken_none, round_with, DoesRead, DoesAppend, asks_none}
+use Rattle.laws_atomic.proofs.Waiting.{does_read, does_append, does_commit, DoesCommit, Goes}
+use Rattle.laws_due.proofs.Hears.{reads_kept}
 
 -- and once something is taken
 

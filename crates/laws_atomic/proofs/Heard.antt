@@ -1,10 +1,9 @@
 -- What an actor takes was sent, and what it sends is mail.
-use Rattle.std.proofs.Common.{◌≡◌, ℕ, zero, suc, ◌==◌, Bool, true, false, cond, List, [], ◌∷◌, ◌++◌, ◌⊎◌, inl, inr}
-use Rattle.std.proofs.Common.{Option, Some, None, option_to_list, slice_get, append_assoc, refl, sym, ap, ◌∙◌, subst}
-use Rattle.std.proofs.Common.{eqb-true}
+use Rattle.std.proofs.Common.{◌≡◌, ℕ, ◌==◌, Bool, true, false, cond, List, [], ◌∷◌, ◌++◌, ◌⊎◌, inl, inr, Option, Some}
+use Rattle.std.proofs.Common.{None, option_to_list, slice_get, append_assoc, refl, sym, ap, ◌∙◌, subst, eqb-true}
 use Rattle.std.specs.List.{cons_option}
 use Rattle.qc_list.specs.Vocabulary.{In}
-use Rattle.qc_list.proofs.Members.{In-first, In-second}
+use Rattle.qc_list.proofs.Members.{In-first, In-second, In-either, In-at}
 use Rattle.qc_msg.specs.declared.message.Envelope.{Envelope}
 use Rattle.qc_msg.specs.declared.message.Message.{Message}
 use Rattle.qc_msg.specs.declared.step.Input.TheVariants as inputs
@@ -12,16 +11,10 @@ use Rattle.qc_msg.specs.declared.step.Step.{Step}
 use Rattle.qc_msg.specs.declared.step.Step.TheVariants as steps
 use Rattle.qc_msg.specs.Vocabulary.{Deed, Entry, Falls, Rises, Sends, Takes, Tells, Writes, deed_at, deeds, envelope_at}
 use Rattle.qc_msg.specs.Vocabulary.{envelope_of, heard, mail}
-use Rattle.laws_atomic.proofs.Seeing.{in_split}
 
 pub cons_is : {A : Type 0} (o : Option A) (xs : List A) → cons_option o xs ≡ option_to_list o ++ xs
 cons_is None xs = refl
 cons_is (Some x) xs = refl
-
-pub at_place : {A : Type 0} (xs : List A) (n : ℕ) (x : A) → slice_get xs n ≡ Some x → In x xs
-at_place [] n x is = absurd (let never : ⊥ = cc in never)
-at_place (y ∷ xs) zero x is = inl (let same : y ≡ x = cc in sym same)
-at_place (y ∷ xs) (suc n) x is = inr (at_place xs n x is)
 
 -- what is taken
 
@@ -45,13 +38,14 @@ other_deed : (e : Envelope) (d : Deed) → got d ≡ None → In (Takes (inputs.
 other_deed e d none (inl same) = let is : Some e ≡ got d = ap got same in let never : ⊥ = cc in never
 other_deed e d none (inr never) = never
 
-step_took : (ms : List Envelope) (step : Step) (e : Envelope) → In (Takes (inputs.Got e)) (deed_at ms step) → In e ms
+pub step_took : (ms : List Envelope) (step : Step) (e : Envelope) → In (Takes (inputs.Got e)) (deed_at ms step)
+    → In e ms
 step_took ms (steps.Phase k) e among = absurd among
 step_took ms (steps.Cut x y) e among = absurd among
 step_took ms (steps.Heal x y) e among = absurd among
 step_took ms (steps.Armed actor kind at) e among = absurd among
 step_took ms (steps.Called command) e among = absurd (other_deed e (Takes (inputs.Called command)) refl among)
-step_took ms (steps.Got n) e among = heard_in ms (slice_get ms n) e (λ d is. at_place ms n d is) among
+step_took ms (steps.Got n) e among = heard_in ms (slice_get ms n) e (λ d is. In-at ms n d is) among
 step_took ms (steps.Lost n) e among = absurd (other_deed e (Takes (inputs.Lost n)) refl among)
 step_took ms (steps.Wrote written) e among = absurd (other_deed e (Writes written) refl among)
 step_took ms (steps.Sent n to message) e among = absurd (other_deed e (Sends n to message) refl among)
@@ -64,7 +58,7 @@ pub took_sent : (a : ℕ) (ms : List Envelope) (h : List Entry) (e : Envelope) �
     → In e (ms ++ mail h)
 took_sent a ms [] e among = absurd among
 took_sent a ms (x ∷ h) e among =
-    by (in_split (Takes (inputs.Got e)) (cond (x.actor == a) (deed_at ms x.step) [])
+    by (In-either (Takes (inputs.Got e)) (cond (x.actor == a) (deed_at ms x.step) [])
     (deeds a (ms ++ option_to_list (envelope_of x)) h) among)
     (took_sent a (ms ++ option_to_list (envelope_of x)) h e)
   where
@@ -95,7 +89,7 @@ not_sent a n to m d none (inl same) = let is : Some (record { number = n; from =
     ≡ posted_by a d = ap (posted_by a) same in let never : ⊥ = cc in never
 not_sent a n to m d none (inr never) = never
 
-heard_none : (o : Option Envelope) (n to : ℕ) (m : Message) → In (Sends n to m) (heard o) → ⊥
+pub heard_none : (o : Option Envelope) (n to : ℕ) (m : Message) → In (Sends n to m) (heard o) → ⊥
 heard_none None n to m among = among
 heard_none (Some e) n to m among = not_sent 0 n to m (Takes (inputs.Got e)) refl among
 
@@ -123,7 +117,7 @@ pub sent_mailed : (a : ℕ) (ms : List Envelope) (h : List Entry) (n to : ℕ) (
     → In (Sends n to m) (deeds a ms h) → In (record { number = n; from = a; to = to; message = m }) (mail h)
 sent_mailed a ms [] n to m among = absurd among
 sent_mailed a ms (x ∷ h) n to m among =
-    by (in_split (Sends n to m) (cond (x.actor == a) (deed_at ms x.step) [])
+    by (In-either (Sends n to m) (cond (x.actor == a) (deed_at ms x.step) [])
     (deeds a (ms ++ option_to_list (envelope_of x)) h) among)
     (sent_mailed a (ms ++ option_to_list (envelope_of x)) h n to m)
   where

@@ -13,10 +13,10 @@ use Rattle.qc_msg.specs.declared.step.Command.{Command}
 use Rattle.qc_msg.specs.declared.step.Command.TheVariants.{Begin, Do, Commit, Abort, Epoch}
 use Rattle.qc_script.specs.Vocabulary.{IsAskedFor, IsCommandFor, IsPhaseFor, IsScriptFor}
 use Rattle.qc_script.specs.declared.script.Script.{Script}
-use Rattle.laws_turns.proofs.Places.{slice_get-within}
 use Rattle.laws_refinement.specs.Vocabulary.{IsNamed, IsNamedAt, IsPlanned}
 use Rattle.qc_plan.specs.declared.plan.Plan.{Plan}
 use Rattle.laws_atomic.specs.Vocabulary.{AreNamed}
+use Rattle.qc_list.proofs.Places.{some_at}
 
 module _ (decl : Declaration) (accepted : IsAccepted decl) where
   -- an invocation that has a name is its type's
@@ -29,7 +29,7 @@ module _ (decl : Declaration) (accepted : IsAccepted decl) where
       by_names number None at none e = absurd (let never : ⊥ = cc in never)
       by_names number (Some names) at found e =
           let k : (kind : Kind) × (slice_get decl.kinds number ≡ Some kind) =
-          slice_get-within decl.kinds number (accepted.typed object number at) in
+          some_at decl.kinds number (accepted.typed object number at) in
           let low : inv < length names.invs = (position-Some (bytes_eq name) names.invs inv [] e).0 in
           let many : length names.invs ≡ k.0.table.invs = (accepted.names number k.0 names k.1 found).invs.count in
           (k.0, ap (option_and_then (slice_get decl.kinds)) at ∙ k.1, (omega arith))
@@ -48,7 +48,7 @@ module _ (decl : Declaration) (accepted : IsAccepted decl) where
       by true is = absurd (let none : number ≡ 0 = eqb-true number 0 is in let never : ⊥ = omega arith in never)
       by false is =
           let at : (plan : Plan) × (slice_get decl.plans (number - 1) ≡ Some plan) =
-          slice_get-within decl.plans (number - 1) (omega arith) in
+          some_at decl.plans (number - 1) (omega arith) in
           (at.0, ap (λ (b : Bool). cond b None (slice_get decl.plans (number - 1))) is ∙ at.1)
 
   asked_named : (actor : ℕ) (c : Command) → IsAskedFor decl actor c → IsNamed decl c

@@ -14,13 +14,13 @@ use Rattle.qc_script.specs.Runs.{begins, takes, posts, phase, control}
 use Rattle.qc_script.specs.declared.script.Script.{Script}
 use Rattle.laws_turns.proofs.Acted.{deeds-silent}
 use Rattle.laws_turns.proofs.Numbered.{IsSilent, control_silent, mail-silent, phase_silent}
-use Rattle.laws_turns.proofs.Places.{replicate_at}
 use Rattle.laws_refinement.specs.Vocabulary.{first_net}
 use Rattle.laws_atomic.proofs.Calm as calm
 use Rattle.laws_atomic.proofs.Posted.{control_writes, written_same}
 use Rattle.laws_atomic.proofs.Stood.{Stood, client_stays, site_stays, true_false}
 use Rattle.laws_atomic.proofs.StandsTaken.{stands_taken}
 use Rattle.laws_atomic.proofs.StandsPosted.{stands_posted}
+use Rattle.qc_list.proofs.Places.{replicate_at}
 
 module _ (decl : Declaration) (script : Script) (accepted : IsAccepted decl) (sound : IsScriptFor decl script) where
   module _ (h : List Entry) (open_inputs : List Bool) (run : Runs (IsLawful decl) decl script h open_inputs)

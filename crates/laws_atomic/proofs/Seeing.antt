@@ -1,5 +1,5 @@
 -- A client's sight agrees with the account of its deeds: what was seen has a record whose stamp the clock has passed.
-use Rattle.std.proofs.Common.{◌≡◌, ◌≢◌, ◌≤◌, ◌<◌, ℕ, true, List, [], ◌∷◌, ◌++◌, ◌⊎◌, inl, inr, Some, arith}
+use Rattle.std.proofs.Common.{◌≡◌, ◌≢◌, ◌≤◌, ◌<◌, ℕ, true, List, Some, arith}
 use Rattle.std.specs.List.{cons_option}
 use Rattle.qc_stamp.specs.declared.stamp.Stamp.{Stamp}
 use Rattle.qc_stamp.specs.declared.stamp.TxId.{TxId}
@@ -7,8 +7,7 @@ use Rattle.qc_list.specs.Vocabulary.{In}
 use Rattle.qc_entry.specs.declared.record.Commit.{Commit}
 use Rattle.qc_msg.specs.Vocabulary.{Deed}
 use Rattle.theory_onecopy.proofs.Orders.{clock_less}
-use Rattle.qc_promise.specs.Vocabulary.{Account, HasBefore, Sight, Status, given_up, is_begun, status_sent}
-use Rattle.qc_promise.specs.Vocabulary.{status_written}
+use Rattle.qc_promise.specs.Vocabulary.{Account, HasBefore, Sight, Status, given_up, is_begun}
 use Rattle.qc_promise.specs.Status as statuses
 use Rattle.laws_turns.specs.Vocabulary.{written_by}
 use Rattle.laws_atomic.proofs.Counted.{IsOpen, name_of}
@@ -67,12 +66,3 @@ pub record Sees (commits : List Commit) (tx : TxId) (d : Account) (s : Sight) (w
   pub ended : (r : Commit) → In r wrote → r.tx ≡ tx → HasCommitted st
   pub stands : (r : Commit) → In r wrote → r.tx ≡ tx → is_begun tx s.begun ≡ true → d.written ≡ Some r
   pub listed : (r : Commit) → d.written ≡ Some r → In r commits
-
-pub in_split : {X : Type 0} (x : X) (xs ys : List X) → In x (xs ++ ys) → In x xs ⊎ In x ys
-in_split x [] ys among = inr among
-in_split x (y ∷ xs) ys (inl same) = inl (inl same)
-in_split x (y ∷ xs) ys (inr later) = by (in_split x xs ys later)
-  where
-    by : In x xs ⊎ In x ys → In x (y ∷ xs) ⊎ In x ys
-    by (inl old) = inl (inr old)
-    by (inr new) = inr new

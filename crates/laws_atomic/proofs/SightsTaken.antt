@@ -4,7 +4,7 @@ use Rattle.std.proofs.Common.{inr, filter, map, Some, None, refl, sym, ap, ◌�
 use Rattle.std.specs.List.{list_any}
 use Rattle.qc_stamp.specs.declared.stamp.TxId.{TxId}
 use Rattle.qc_list.specs.Vocabulary.{In}
-use Rattle.qc_list.proofs.Members.{In-passes, In-unfiltered}
+use Rattle.qc_list.proofs.Members.{In-passes, In-unfiltered, In-either}
 use Rattle.qc_entry.specs.declared.line.Line.{Line}
 use Rattle.qc_entry.specs.declared.record.Commit.{Commit}
 use Rattle.qc_msg.specs.declared.message.Answer.{Answer}
@@ -14,7 +14,7 @@ use Rattle.qc_msg.specs.Vocabulary.{grant_with}
 use Rattle.qc_promise.specs.Vocabulary.{Account, HasBefore, Sight, Status, answered, counted, is_begun, sees, waits}
 use Rattle.qc_promise.specs.Seen.{granted}
 use Rattle.laws_atomic.proofs.Counted.{AsksForGrants, IsCounted, IsOpen, counts, passes}
-use Rattle.laws_atomic.proofs.Seeing.{IsUpTo, Sees, higher, in_split}
+use Rattle.laws_atomic.proofs.Seeing.{IsUpTo, Sees, higher}
 
 -- an answer is taken, or that a request is lost
 
@@ -89,11 +89,11 @@ module _ (commits : List Commit) (tx : TxId) (d : Account) (s : Sight) (wrote : 
       waiting =
           λ m among. c.others m (other_number n m s.waiting among)
           (w.waiting m (In-unfiltered (λ (k : ℕ). not (k == n)) m s.waiting among));
-      shown = λ t among. either t s.shown (w.shown t) (in_split t s.shown (map (λ (l : Line). l.tx) lines) among);
+      shown = λ t among. either t s.shown (w.shown t) (In-either t s.shown (map (λ (l : Line). l.tx) lines) among);
       committed = λ t among. up t (w.committed t among);
       seen =
           λ is t among. either t s.seen (w.seen is t)
-          (in_split t s.seen (map (λ (l : Line). l.tx) lines)
+          (In-either t s.seen (map (λ (l : Line). l.tx) lines)
           (subst (λ (b : Bool). In t (cond b (s.seen ++ map (λ (l : Line). l.tx) lines) s.seen)) is among));
       before = λ r among its. on_seen r among its (is_begun tx s.begun) refl;
       ended = w.ended;

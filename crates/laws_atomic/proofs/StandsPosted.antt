@@ -26,8 +26,9 @@ use Rattle.laws_refinement.proofs.Machine.{put_one}
 use Rattle.laws_atomic.proofs.Calm as calm
 use Rattle.laws_atomic.proofs.Posted.{client_posted, site_posted, written_posted}
 use Rattle.laws_atomic.proofs.Silent.{site_silent}
-use Rattle.laws_atomic.proofs.Stood.{ClientStands, OpenClient, OpenSite, SiteStands, Stood, apart, both, client_stays}
+use Rattle.laws_atomic.proofs.Stood.{ClientStands, OpenClient, OpenSite, SiteStands, Stood, both, client_stays}
 use Rattle.laws_atomic.proofs.Stood.{false_true, may_come, not_now, site_stays, sent_calm, slot_other}
+use Rattle.qc_list.proofs.Numbers.{numbers_apart}
 
 module _ (decl : Declaration) (script : Script) (accepted : IsAccepted decl) (sound : IsScriptFor decl script) where
   module _ (h : List Entry) (open_inputs : List Bool) (run : Runs (IsLawful decl) decl script h open_inputs)
@@ -64,7 +65,7 @@ module _ (decl : Declaration) (script : Script) (accepted : IsAccepted decl) (so
           (slot_other open_inputs a b false other) (old.clients_are b client)
 
       differs : (b : ℕ) → b ≢ a → (a == b) ≡ false
-      differs b other = apart a b (λ same. other (sym same))
+      differs b other = numbers_apart a b (λ same. other (sym same))
 
       module _ (site : is_site decl a ≡ true) (law : turn ≡ (site_after decl a (deeds a [] h)).turn) where
         x : OpenSite decl (old.net.sites a) a h
@@ -100,7 +101,7 @@ module _ (decl : Declaration) (script : Script) (accepted : IsAccepted decl) (so
               (λ other. site_elsewhere b is (differs b other));
           clients_are =
               λ b is. client_elsewhere b is
-              (apart a b (λ same. both decl b (subst (λ (k : ℕ). is_site decl k ≡ true) same site) is));
+              (numbers_apart a b (λ same. both decl b (subst (λ (k : ℕ). is_site decl k ≡ true) same site) is));
         }
           where
             here : SiteStands decl move.site a now_posted (slice_get (slice_set open_inputs a false) a)
@@ -137,7 +138,7 @@ module _ (decl : Declaration) (script : Script) (accepted : IsAccepted decl) (so
               ∙ sym (written_posted h a (length (mail h)) turn);
           sites_are =
               λ b is. site_elsewhere b is
-              (apart a b
+              (numbers_apart a b
               (λ same. (let site : is_site decl a ≡ true = subst (λ (k : ℕ). is_site decl k ≡ true) (sym same) is in
               let never : ⊥ = cc in never)));
           clients_are =

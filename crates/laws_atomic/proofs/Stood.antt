@@ -1,7 +1,7 @@
 -- A net stands for a history where its sites and clients are as their deeds give them, or as they were before the
 -- input that is open. Such a client is tied to its account as that was.
-use Rattle.std.proofs.Common.{◌≡◌, ◌≢◌, ℕ, ◌-◌, ◌<◌, ◌≤◌, ◌==◌, ◌&&◌, arith, Bool, true, false, List, [], ◌++◌, Option}
-use Rattle.std.proofs.Common.{Some, slice_get, refl, sym, ap, ◌∙◌, subst, eq-eqb, eqb-true, ltb-true}
+use Rattle.std.proofs.Common.{◌≡◌, ◌≢◌, ℕ, ◌-◌, ◌<◌, ◌≤◌, ◌==◌, arith, Bool, true, false, List, [], ◌++◌, Option, Some}
+use Rattle.std.proofs.Common.{slice_get, sym, ap, ◌∙◌, subst, eq-eqb, ltb-true}
 use Rattle.std.specs.Prelude.{fold, slice_set}
 use Rattle.qc_decl.proofs.Clients.{client_past}
 use Rattle.qc_list.specs.Vocabulary.{In}
@@ -18,16 +18,16 @@ use Rattle.qc_client.specs.Vocabulary.{client_after, client_takes}
 use Rattle.qc_client.specs.declared.client.Client.{Client}
 use Rattle.qc_site.specs.Vocabulary.{SiteState, site_after, site_takes}
 use Rattle.qc_promise.specs.Vocabulary.{Account, account, account_at, account_taken, new_account}
-use Rattle.laws_turns.proofs.Places.{slice_get-more, slice_get-set_other, slice_get-set_same}
 use Rattle.laws_turns.proofs.SiteReplies.{IsMailProper, IsProperFrom}
 use Rattle.laws_due.specs.Vocabulary.{Ties}
 use Rattle.laws_refinement.specs.Vocabulary.{MayCome, MayCommand, Net}
 use Rattle.laws_atomic.proofs.Calm.{IsCalm}
 use Rattle.laws_atomic.proofs.FirstSites.{IsCalmGiven, IsCalmMessage}
+use Rattle.qc_list.proofs.Places.{slice_get-more, slice_get-set_other, slice_get-set_same}
 
 -- what was sent stays so, and may come
 
-still_sent : (a : ℕ) (ms more : List Envelope) (g : Input) → WasSentTo a ms g → WasSentTo a (ms ++ more) g
+pub still_sent : (a : ℕ) (ms more : List Envelope) (g : Input) → WasSentTo a ms g → WasSentTo a (ms ++ more) g
 still_sent a ms more (inputs.Called command) sent = tt
 still_sent a ms more (inputs.Got envelope) sent = (slice_get-more ms more envelope.number envelope sent.0, sent.1)
 still_sent a ms more (inputs.Lost number) sent = tt
@@ -40,17 +40,6 @@ may_come net a (inputs.Got envelope) sent = (
   sent.1,
 )
 may_come net a (inputs.Lost number) sent = tt
-
-and_first : (s t : Bool) → (s && t) ≡ true → s ≡ true
-and_first true t is = refl
-and_first false t is = is
-
-pub apart : (a b : ℕ) → (a ≡ b → ⊥) → (a == b) ≡ false
-apart a b never = at (a == b) refl
-  where
-    at : (t : Bool) → (a == b) ≡ t → t ≡ false
-    at true same = absurd (never (eqb-true a b same))
-    at false other = refl
 
 -- a place is one or the other
 pub not_now : (open_inputs : List Bool) (a : ℕ) (v w t : Bool) → slice_get open_inputs a ≡ Some w → v ≢ t

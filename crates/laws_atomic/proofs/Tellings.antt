@@ -19,8 +19,9 @@ use Rattle.qc_promise.specs.Vocabulary.{is_append, is_begun, refused, requests_f
 use Rattle.qc_promise.specs.Vocabulary.{sight_told, status_told, with_absent, with_response}
 use Rattle.qc_promise.specs.Status as statuses
 use Rattle.laws_atomic.proofs.Counted.{name_of}
-use Rattle.laws_atomic.proofs.Seeing.{HasCommitted, IsUpTo, Sees, higher, in_split, stays_committed}
+use Rattle.laws_atomic.proofs.Seeing.{HasCommitted, IsUpTo, Sees, higher, stays_committed}
 use Rattle.laws_atomic.proofs.Stamps.{due_stamp}
+use Rattle.qc_list.proofs.Members.{In-either}
 
 -- most replies leave the begun transaction its name, and the clock
 
@@ -135,7 +136,7 @@ module _ (decl : Declaration) (commits : List Commit) (tx : TxId) (d : Account) 
     waiting = λ n among. absurd (free n among);
     shown = w.shown;
     committed = w.committed;
-    seen = λ is x among. known x (in_split x s.shown s.committed
+    seen = λ is x among. known x (In-either x s.shown s.committed
         (subst (λ (b : Bool). In x (cond b (s.shown ++ s.committed) s.seen)) is among));
     before = λ r among its. before_one r among its (same_tx other tx) refl;
     ended = λ r among its. ended_one r among its (same_tx other tx) refl;
@@ -181,7 +182,7 @@ module _ (decl : Declaration) (commits : List Commit) (tx : TxId) (d : Account) 
     begun = refl;
     waiting = λ n among. absurd (free n among);
     shown = λ t among. higher commits t d.clock stamp.clock more (w.shown t among);
-    committed = λ t among. known_one t (in_split t s.committed (option_to_list s.begun) among);
+    committed = λ t among. known_one t (In-either t s.committed (option_to_list s.begun) among);
     seen = λ is. absurd (let never : ⊥ = cc in never);
     before = w.before;
     ended = w.ended;

@@ -1,21 +1,20 @@
 -- What runs, as far as replies wait for its requests: where the client has no open input, it waits for some.
-use Rattle.std.proofs.Common.{[], ◌≡◌, ℕ, ◌==◌, ◌&&◌, Bool, true, false, cond, List, ◌∷◌, inl, inr, filter, length, map}
-use Rattle.std.proofs.Common.{Option, Some, None, option_map, refl, sym, ap, ◌∙◌}
-use Rattle.std.specs.Prelude.{drop, is_none, is_some}
+use Rattle.std.proofs.Common.{[], ◌≡◌, ℕ, ◌&&◌, true, false, List, ◌∷◌, inl, inr, length, map, Option, Some, None}
+use Rattle.std.proofs.Common.{option_map, refl, ap, ◌∙◌}
+use Rattle.std.specs.Prelude.{drop, is_some}
 use Rattle.std.specs.List.{AllByRecursion as Every, list_all}
 use Rattle.qc_list.specs.Vocabulary.{In}
 use Rattle.qc_decl.specs.Vocabulary.{first_site, read_need_of}
 use Rattle.qc_decl.specs.declared.declaration.Declaration.{Declaration}
 use Rattle.qc_msg.specs.declared.message.Answer.{Answer}
-use Rattle.qc_msg.specs.declared.message.Want.{Want}
-use Rattle.qc_msg.specs.declared.message.Want.TheVariants.{Read, Append, Prepare}
+use Rattle.qc_msg.specs.declared.message.Want.TheVariants.{Read}
 use Rattle.qc_msg.specs.Vocabulary.{read_of}
 use Rattle.qc_msg.specs.declared.step.Command.TheVariants as commands
 use Rattle.qc_plan.specs.declared.standing.Asked.{Asked}
 use Rattle.qc_plan.specs.declared.standing.Verdict.TheVariants as verdicts
 use Rattle.qc_plan.specs.Vocabulary.{RoundState, all_noted, start, verdict}
 use Rattle.qc_promise.specs.Vocabulary.{Account, ClientRequest, Current, answer_of, asked_by, is_append, is_prepare}
-use Rattle.qc_promise.specs.Vocabulary.{is_read, round_of, standing_of, taken_for, weights_of}
+use Rattle.qc_promise.specs.Vocabulary.{is_read, round_of, standing_of, weights_of}
 use Rattle.qc_client.specs.declared.client.Client.{Client}
 use Rattle.laws_due.specs.Vocabulary.{IsDo, IsOpenIn, IsPrepare, Ties, appends, reads, rests, votes}
 
@@ -54,36 +53,6 @@ round_with decl client epoch need hs =
     let asked : List Asked = map asked_by hs in
     let fresh : RoundState = start (weights_of decl epoch) (first_site decl client) need in
     record fresh { asked = asked; rest = drop (length asked) fresh.rest }
-
--- requests that aren't open are no matter of what is taken
-pub reads_kept : (n : ℕ) (answer : Option Answer) (qs : List ClientRequest) → Every (IsOpenIn is_append) qs
-    → filter (λ (q : ClientRequest). is_read q.want) (taken_for n answer qs)
-    ≡ filter (λ (q : ClientRequest). is_read q.want) qs
-reads_kept n answer [] all = refl
-reads_kept n answer (q ∷ qs) all = by (q.number == n) (is_none q.taken) refl (reads_kept n answer qs all.1)
-  where
-    no_read : (w : Want) → is_append w ≡ true → is_read w ≡ false
-    no_read (Read read) is = absurd (let never : ⊥ = cc in never)
-    no_read (Append object view own) is = refl
-    no_read Prepare is = refl
-
-    by : (u b : Bool) → is_none q.taken ≡ b
-        → filter (λ (p : ClientRequest). is_read p.want) (taken_for n answer qs)
-        ≡ filter (λ (p : ClientRequest). is_read p.want) qs
-        → filter (λ (p : ClientRequest). is_read p.want)
-        (cond (u && b) (record q { taken = Some answer }) q ∷ taken_for n answer qs)
-        ≡ filter (λ (p : ClientRequest). is_read p.want) (q ∷ qs)
-    by true true is e =
-        let other : is_read q.want ≡ false = no_read q.want (all.0 is) in
-        ap (λ (b : Bool). cond b
-        (record q { taken = Some answer } ∷ filter (λ (p : ClientRequest). is_read p.want) (taken_for n answer qs))
-        (filter (λ (p : ClientRequest). is_read p.want) (taken_for n answer qs))) other
-        ∙ e
-        ∙ sym
-        (ap (λ (b : Bool). cond b (q ∷ filter (λ (p : ClientRequest). is_read p.want) qs)
-        (filter (λ (p : ClientRequest). is_read p.want) qs)) other)
-    by true false is e = ap (λ (v : List ClientRequest). cond (is_read q.want) (q ∷ v) v) e
-    by false b is e = ap (λ (v : List ClientRequest). cond (is_read q.want) (q ∷ v) v) e
 
 -- what runs, as far as replies wait for its requests
 

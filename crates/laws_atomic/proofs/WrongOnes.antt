@@ -20,7 +20,7 @@ other_client_too same = let e : theirs.client ≡ second.client = ap (λ (t : Tx
 other_number : first ≢ second
 other_number same = let e : first.number ≡ second.number = ap (λ (t : TxId). t.number) same in omega arith
 
-not_less : (o : Ordering) → o ≡ Greater → o ≡ Less → ⊥
+pub not_less : (o : Ordering) → o ≡ Greater → o ≡ Less → ⊥
 not_less o more less = let never : ⊥ = cc in never
 
 -- of two records, the one of this transaction isn't before

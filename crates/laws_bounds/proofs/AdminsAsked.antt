@@ -1,6 +1,6 @@
 -- Each question of the administrator with a number has its Ask in mail at that place.
-use Rattle.std.proofs.Common.{◌≡◌, ℕ, ◌+◌, cond, is_none, List, [], ◌∷◌, ◌++◌, length, Option, Some}
-use Rattle.std.proofs.Common.{None, slice_get, refl, sym, ap, ◌∙◌, subst, append_assoc, length-append, arith}
+use Rattle.std.proofs.Common.{◌≡◌, ℕ, ◌+◌, cond, is_none, List, [], ◌∷◌, ◌++◌, length, Option, Some, None, slice_get}
+use Rattle.std.proofs.Common.{refl, sym, ap, ◌∙◌, subst, append_assoc, length-append, arith}
 use Rattle.std.specs.List.{AllByRecursion as Every}
 use Rattle.qc_list.proofs.Members.{every-weaker}
 use Rattle.qc_admin.specs.Vocabulary.{sent_each}
@@ -8,10 +8,10 @@ use Rattle.qc_core.proofs.AdminTurns.{IsOfAdmin, IsSentByAdmin}
 use Rattle.qc_decl.specs.declared.declaration.Declaration.{Declaration}
 use Rattle.qc_entry.specs.declared.line.Line.{Line}
 use Rattle.qc_entry.specs.declared.record.Prepared.{Prepared}
-use Rattle.qc_epoch.specs.Vocabulary.{Admin, Asking, Closing, Doing, Installing, Question, Resting}
+use Rattle.qc_epoch.specs.Vocabulary.{Admin, Asking, Closing, Doing, Installing, Question, Resting, ShutSite}
+use Rattle.qc_epoch.specs.Vocabulary.{admin_takes, numbered_first, requested, sent_one}
 use Rattle.qc_msg.specs.declared.payload.EpochStart.{EpochStart}
-use Rattle.qc_epoch.specs.Vocabulary.{ShutSite, admin_takes, numbered_first, requested, sent_one}
-use Rattle.laws_turns.proofs.Places.{slice_get-last, slice_get-more}
+use Rattle.laws_turns.proofs.Places.{slice_get-last}
 use Rattle.qc_msg.specs.Vocabulary.{envelopes}
 use Rattle.qc_msg.specs.declared.message.Answer.{Answer}
 use Rattle.qc_msg.specs.declared.message.Envelope.{Envelope}
@@ -27,6 +27,7 @@ use Rattle.laws_bounds.proofs.AdminKeeps.{FirstKeeps, admin_keeps, admin_sends_k
 use Rattle.laws_bounds.proofs.AdminProperties.{AdminMoveKeeps, GivenKeeps, Keeping, Properties, ShutCame}
 use Rattle.laws_bounds.proofs.AdminQuestions.{AreLined, first_unnumbered, questions_in}
 use Rattle.laws_bounds.proofs.AdminCases.{given_cases, shut_keeps}
+use Rattle.qc_list.proofs.Places.{slice_get-more}
 
 -- the message of this number is the Ask about a transaction
 abbrev pub AsksAt : List Envelope → TxId → ℕ → Type 0

@@ -28,12 +28,12 @@ use Rattle.laws_bounds.proofs.AdminsAsked.{admin_takes_asked}
 use Rattle.laws_bounds.proofs.ClientsInForm.{ClientInForm, known_form, verdict_form}
 use Rattle.laws_bounds.proofs.Forms.{PromiseInForm}
 use Rattle.laws_bounds.proofs.MailFits.{SaysTurn, SiteSays, site_says, SiteAnswers, unasked_none, unheard_none}
-use Rattle.laws_bounds.proofs.AnswersToAsks.{MessageTold, SendsTold, TurnTold, ActorAsked, ActorTold}
+use Rattle.laws_bounds.proofs.AnswersToAsks.{MessageTold, SendsTold, TurnTold, ActorAsked, ActorTold, AnswerTold}
+use Rattle.laws_bounds.proofs.AnswersToAsks.{VerdictTold}
 use Rattle.std.specs.Prelude.{MatchOption, Option}
 use Rattle.qc_msg.specs.declared.message.Outcome.{Outcome}
-use Rattle.laws_bounds.proofs.AnswersToAsks.{AnswerTold, VerdictTold}
-use Rattle.laws_bounds.proofs.ClientCases.{heard_cases}
 use Rattle.laws_bounds.proofs.Options.{match_weaker}
+use Rattle.qc_client.proofs.HeardCases.{heard_cases}
 
 -- what is said
 

@@ -1,6 +1,5 @@
 -- What an actor has told, and which Asks it is about to send, at first, as it rises, and after an input.
-use Rattle.std.proofs.Common.{◌≡◌, ℕ, Bool, true, false, List, [], ◌∷◌, ◌++◌, map, take, Option, refl, sym, ap, ◌∙◌}
-use Rattle.std.proofs.Common.{subst}
+use Rattle.std.proofs.Common.{◌≡◌, ℕ, Bool, true, false, List, [], ◌∷◌, ◌++◌, map, take, refl, sym, ap, subst}
 use Rattle.std.specs.List.{AllByRecursion as Every}
 use Rattle.qc_core.specs.declared.actor.Actor.{Actor}
 use Rattle.qc_core.specs.declared.actor.Actor.TheVariants as actors_of
@@ -9,7 +8,7 @@ use Rattle.qc_core.specs.Vocabulary.{new_actor, with_record}
 use Rattle.qc_core.specs.Lives as lives
 use Rattle.qc_core.proofs.AdminTurns.{IsSentByAdmin}
 use Rattle.qc_core.proofs.AdminWrites.{admin_written}
-use Rattle.qc_core.proofs.PostsByTurns.{after_takes, called_turn}
+use Rattle.qc_core.proofs.PostsByTurns.{called_turn}
 use Rattle.qc_decl.specs.Vocabulary.{is_client, is_site}
 use Rattle.qc_decl.specs.declared.declaration.Declaration.{Declaration}
 use Rattle.qc_entry.specs.declared.record.Prepared.{Prepared}
@@ -18,7 +17,6 @@ use Rattle.qc_msg.specs.declared.message.Envelope.{Envelope}
 use Rattle.qc_msg.specs.declared.record.Record.{Record}
 use Rattle.qc_msg.specs.declared.step.Input.{Input}
 use Rattle.qc_msg.specs.declared.turn.Turn.{Turn}
-use Rattle.qc_recover.specs.Admins as rulings
 use Rattle.qc_recover.specs.Vocabulary.{inquiry, kept_by, most_inquiries}
 use Rattle.qc_site.specs.Vocabulary.{in_order}
 use Rattle.qc_stamp.specs.declared.stamp.TxId.{TxId}
@@ -27,6 +25,7 @@ use Rattle.laws_bounds.proofs.AdminsAsked.{any_decided_asked, takes_lined}
 use Rattle.laws_bounds.proofs.AnswersToAsks.{ActorTold, SendsTold}
 use Rattle.laws_bounds.proofs.AsksAnswered.{AreReady}
 use Rattle.qc_core.proofs.ByNumber.{new_by, rises_by}
+use Rattle.qc_core.proofs.ActorLaws.{input}
 
 pub new_told : (decl : Declaration) (a : ℕ) → ActorTold [] (moved (new_actor decl a) quiet)
 new_told decl a = by (is_site decl a) (is_client decl a)
@@ -92,7 +91,7 @@ open_ready decl a ds turn life law = by ds true _ life refl law
     by ds b n (lives.takes before g m life may reach) is law =
         ready_as (actor_takes decl (actor_after decl a before).actor g)
         (actor_after decl a (before ++ Takes g ∷ [])) turn
-        (after_takes decl a before g) (called_turn decl a (before ++ Takes g ∷ []) turn law)
+        (input decl a before g) (called_turn decl a (before ++ Takes g ∷ []) turn law)
         (takes_ready decl (actor_after decl a before).actor g)
     by ds b n (lives.posts before t m first life low its) is law = absurd (let never : ⊥ = cc in never)
     by ds b n (lives.crashes before m life up) is law = absurd (let never : ⊥ = cc in never)

@@ -1,7 +1,7 @@
 -- In each run with falls one call with the number of the first message of a turn gives what its messages give one after
 -- another.
-use Rattle.std.proofs.Common.{◌≡◌, ℕ, ◌-◌, Bool, true, false, cond, List, [], ◌∷◌, ◌++◌, fold, Some, slice_get, refl}
-use Rattle.std.proofs.Common.{sym, ap, ◌∙◌}
+use Rattle.std.proofs.Common.{◌≡◌, ℕ, ◌-◌, Bool, true, false, List, [], ◌∷◌, ◌++◌, fold, Some, slice_get, refl, sym, ap}
+use Rattle.std.proofs.Common.{◌∙◌}
 use Rattle.std.proofs.lemmas.List.Sums.{fold-append}
 use Rattle.qc_admin.specs.Vocabulary.{IsNumberedAtOnce}
 use Rattle.qc_admin.proofs.AtOnce.{takes_now}
@@ -11,8 +11,8 @@ use Rattle.qc_client.specs.Vocabulary.{client_takes}
 use Rattle.qc_core.specs.declared.actor.Actor.{Actor}
 use Rattle.qc_core.specs.declared.actor.Actor.TheVariants as actors_of
 use Rattle.qc_core.specs.Vocabulary.{ActorMove, IsLawfulWithFalls, MayTake, actor_after, actor_does, actor_rises}
-use Rattle.qc_core.specs.Vocabulary.{actor_sent, actor_takes, by_client, down_takes, is_running}
-use Rattle.qc_core.proofs.PostsByTurns.{after_takes, called_turn}
+use Rattle.qc_core.specs.Vocabulary.{actor_sent, actor_takes, down_takes, is_running}
+use Rattle.qc_core.proofs.PostsByTurns.{called_turn}
 use Rattle.qc_core.proofs.ClientLands.{lands}
 use Rattle.qc_core.proofs.ClientStands.{Lands}
 use Rattle.qc_core.proofs.LivesOfActors.{rises as after_rises}
@@ -31,6 +31,7 @@ use Rattle.laws_bounds.proofs.Calling.{known_at}
 use Rattle.laws_bounds.proofs.Standing.{IsOpen, IsReady}
 use Rattle.qc_core.proofs.ByNumber.{rises_by}
 use Rattle.laws_bounds.proofs.TurnsPosted.{admin_turn, client_turn, down_turn, site_turn}
+use Rattle.qc_core.proofs.ActorLaws.{input as after_takes}
 
 module _ (decl : Declaration) (a : ℕ) where
   -- an input

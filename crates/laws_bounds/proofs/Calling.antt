@@ -1,6 +1,6 @@
 -- In each run with falls whose rises fit, below the limit of steps, all that an actor's calls ask holds.
-use Rattle.std.proofs.Common.{◌≡◌, ℕ, ◌+◌, ◌-◌, ◌^◌, ◌<◌, ◌≤◌, Bool, true, false, List, [], length, Option, Some, None}
-use Rattle.std.proofs.Common.{slice_get, refl, sym, ap, ◌∙◌, subst, arith}
+use Rattle.std.proofs.Common.{◌≡◌, ℕ, ◌+◌, ◌-◌, ◌^◌, ◌<◌, ◌≤◌, Bool, true, false, List, [], length, Some, slice_get}
+use Rattle.std.proofs.Common.{sym, ap, ◌∙◌, subst, arith}
 use Rattle.qc_list.specs.Vocabulary.{In}
 use Rattle.qc_list.proofs.Members.{every-In, every-weaker}
 use Rattle.qc_admin.specs.Vocabulary.{AdminFits, GivenFits, GoesToActors}
@@ -10,15 +10,12 @@ use Rattle.qc_client.specs.declared.client.Client.{Client}
 use Rattle.qc_epoch.specs.Vocabulary.{Admin, admin_takes, most_asks}
 use Rattle.qc_site.specs.Vocabulary.{site_takes}
 use Rattle.qc_msg.specs.declared.turn.Posting.{Posting}
-use Rattle.qc_client.specs.Vocabulary.{client_takes, promise_in, sent, sent_by}
-use Rattle.qc_commit.specs.declared.desk.Voting.{Voting}
-use Rattle.qc_commit.specs.Conduct as desks
-use Rattle.qc_commit.specs.Fits as votes
+use Rattle.qc_client.specs.Vocabulary.{client_takes, promise_in}
 use Rattle.qc_core.specs.declared.actor.Actor.{Actor}
 use Rattle.qc_core.specs.declared.actor.Actor.TheVariants as actors_of
 use Rattle.qc_core.specs.Vocabulary.{ActorFits, ActorMove, AsksFew, IsFrom, IsLawfulWithFalls, IsShort, MayTake}
 use Rattle.qc_core.specs.Vocabulary.{actor_after, actor_takes, is_running, with_record}
-use Rattle.qc_core.proofs.PostsByTurns.{after_takes, called_turn}
+use Rattle.qc_core.proofs.PostsByTurns.{called_turn}
 use Rattle.qc_core.proofs.ClientLands.{lands}
 use Rattle.qc_core.proofs.ClientReaches.{client_reach}
 use Rattle.qc_core.proofs.ClientStands.{Lands, Stands}
@@ -26,22 +23,17 @@ use Rattle.qc_core.proofs.SiteReaches.{site_reach}
 use Rattle.qc_decl.specs.Vocabulary.{IsAccepted, most_clients, most_sites, most_steps}
 use Rattle.qc_decl.specs.declared.declaration.Declaration.{Declaration}
 use Rattle.qc_fit.specs.Vocabulary.{greatest_clock, most_records}
-use Rattle.qc_front.specs.declared.doing.Doing.{Doing}
-use Rattle.qc_front.specs.declared.doing.Doing.TheVariants.{Idle, Reading, Appending}
-use Rattle.qc_front.specs.Conduct as fronts
 use Rattle.qc_front.specs.Fits as rounds
 use Rattle.qc_front.proofs.Fitting.{front_ends_fit as front_fits}
 use Rattle.qc_link.specs.Vocabulary.{most_actors}
 use Rattle.qc_msg.specs.declared.message.Envelope.{Envelope}
-use Rattle.qc_msg.specs.declared.message.Message.{Message}
 use Rattle.qc_msg.specs.declared.record.Record.{Record}
 use Rattle.qc_msg.specs.declared.step.Input.{Input}
 use Rattle.qc_msg.specs.declared.step.Input.TheVariants as inputs
 use Rattle.qc_msg.specs.declared.turn.Turn.{Turn}
-use Rattle.qc_msg.specs.Vocabulary.{Deed, Entry, deeds, mail, Answered, answer_in}
+use Rattle.qc_msg.specs.Vocabulary.{Deed, Entry, deeds, mail}
 use Rattle.qc_msg.proofs.GrownMail.{length-mail}
-use Rattle.laws_turns.specs.Vocabulary.{MessageWithin, AnswerWithin}
-use Rattle.laws_turns.proofs.DesksWithin.{promised-within}
+use Rattle.laws_turns.specs.Vocabulary.{MessageWithin}
 use Rattle.qc_script.specs.Vocabulary.{RunsWithFalls}
 use Rattle.qc_script.specs.declared.script.Script.{Script}
 use Rattle.laws_bounds.specs.Vocabulary.{AllRiseFit, CountsWithin, IsBoundedWithFalls, IsFailedShort, IsTurnShort}
@@ -52,30 +44,11 @@ use Rattle.laws_bounds.proofs.FitBounds.{rise_few, rise_within}
 use Rattle.laws_bounds.proofs.Needs.{run_bounded}
 use Rattle.laws_bounds.proofs.RunsFit.{known_in, run_fits}
 use Rattle.laws_bounds.proofs.Standing.{IsOpen, IsReady, Known}
-use Rattle.qc_commit.specs.Learning.{promised}
-use Rattle.laws_bounds.proofs.Cases.{answer_cases}
-use Rattle.laws_bounds.proofs.Options.{map_or}
+use Rattle.qc_core.proofs.ActorLaws.{input as after_takes}
+use Rattle.qc_core.proofs.ActorFits.{few_sent}
+use Rattle.laws_turns.proofs.Needs.{message_promise}
 
 -- few sites are asked, before the numbers of a turn's messages are known as after
-
-few_numbered : (d : Doing) (first : ℕ) → rounds.AsksFew (fronts.numbered d first) → rounds.AsksFew d
-few_numbered Idle first few = tt
-few_numbered (Reading object inv calls round) first few = few
-few_numbered (Appending object inv event calls round) first few = few
-
-few_sent : (c : Client) (first : ℕ) → votes.AsksFew (sent c first).desk.voting
-    → rounds.AsksFew (sent c first).front.doing → AsksFew (actors_of.Client c)
-few_sent c first = by c.desk.voting refl
-  where
-    in_desk : (o : Option Voting) → c.desk.voting ≡ o → votes.AsksFew (desks.sent_in c.desk o first).voting
-        → votes.AsksFew c.desk.voting
-    in_desk None is few = subst votes.AsksFew (sym is) tt
-    in_desk (Some v) is few = subst votes.AsksFew (sym is) few
-
-    by : (o : Option Voting) → c.desk.voting ≡ o → votes.AsksFew (sent_by c o first).desk.voting
-        → rounds.AsksFew (sent_by c o first).front.doing → AsksFew (actors_of.Client c)
-    by None is desk front = (desk, few_numbered c.front.doing first front)
-    by (Some v) is desk front = (in_desk c.desk.voting refl desk, front)
 
 module _ (decl : Declaration) (accepted : IsAccepted decl) where
   round_few : (running : Bool) (c : Client) → Stands decl running c → rounds.AsksFew c.front.doing
@@ -137,14 +110,6 @@ module _ (decl : Declaration) (accepted : IsAccepted decl) where
       record { receivers = tt; few = omega arith }
   taken_short actors_of.Down running (inputs.Got e) ready from fits = record { receivers = tt; few = omega arith }
   taken_short actors_of.Down running (inputs.Lost number) ready from fits = record { receivers = tt; few = omega arith }
-
-message_promise : (bound : ℕ) (message : Message) → MessageWithin bound message → promise_in message ≤ bound
-message_promise bound message here =
-    map_or (λ (n : ℕ). n ≤ bound) (λ (a : Answered). AnswerWithin bound a.answer)
-    (λ (a : Answered). promised (Some a.answer)) 0 (answer_in message)
-    (answer_cases (MessageWithin bound) (λ (a : Answered). AnswerWithin bound a.answer) (λ to answer is. is) message
-    here)
-    (omega arith) (λ a is. promised-within bound (Some a.answer) is)
 
 module _ (decl : Declaration) (script : Script) (fits : ℕ → List Record → Type 0) (h : List Entry)
     (open_inputs : List Bool) (run : RunsWithFalls (IsLawfulWithFalls decl) fits decl script h open_inputs) where

@@ -22,8 +22,9 @@ use Rattle.qc_msg.specs.declared.step.Input.{Input}
 use Rattle.qc_msg.specs.declared.step.Input.TheVariants as inputs
 use Rattle.laws_bounds.proofs.FrontCounts.{called_count, takes_count}
 use Rattle.qc_msg.specs.Vocabulary.{Requested, request_in}
-use Rattle.laws_bounds.proofs.ClientCases.{called_cases, heard_cases}
 use Rattle.laws_bounds.proofs.Options.{map_each}
+use Rattle.laws_turns.proofs.ClientCases.{called_cases}
+use Rattle.qc_client.proofs.HeardCases.{heard_cases}
 
 -- a client over one input
 

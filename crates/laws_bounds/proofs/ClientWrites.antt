@@ -31,7 +31,8 @@ use Rattle.qc_stamp.specs.declared.stamp.TxId.{TxId}
 use Rattle.laws_turns.specs.Vocabulary.{ClientWithin, SendsWithin}
 use Rattle.laws_bounds.specs.Vocabulary.{AreWithin}
 use Rattle.laws_bounds.proofs.SiteWrites.{WritesWithin}
-use Rattle.laws_bounds.proofs.ClientCases.{called_cases, heard_cases}
+use Rattle.laws_turns.proofs.ClientCases.{called_cases}
+use Rattle.qc_client.proofs.HeardCases.{heard_cases}
 
 -- what is written is one of the commit records that the client keeps then
 abbrev WritesKept : ClientMove → Type 0

@@ -39,8 +39,9 @@ use Rattle.laws_bounds.proofs.FrontsInForm.{AnswersInForm, DoingInForm, FrontInF
 use Rattle.laws_bounds.proofs.FrontsTake.{FrontMoveInForm, called_form, takes_form}
 use Rattle.laws_bounds.proofs.DesksInForm.{CommitsInForm, DeskInForm, DeskMoveInForm, OwnWriteInForm, numbered_form}
 use Rattle.laws_bounds.proofs.DesksInForm.{prepare_form, vote_form}
-use Rattle.laws_bounds.proofs.ClientCases.{called_cases, heard_cases}
 use Rattle.laws_bounds.proofs.Options.{map_each}
+use Rattle.laws_turns.proofs.ClientCases.{called_cases}
+use Rattle.qc_client.proofs.HeardCases.{heard_cases}
 
 -- how a transaction stands, by the records of commits
 

@@ -44,8 +44,9 @@ use Rattle.qc_msg.specs.Vocabulary.{decisions, quiet, sending, site_called, with
 use Rattle.laws_bounds.proofs.FrontsNamed.{DoingNamed, FrontMoveNamed, FrontNamed, called_named, takes_named}
 use Rattle.laws_bounds.proofs.TransactionsNamed.{BegunNamed}
 use Rattle.laws_bounds.proofs.Names.{CameNamed, CommandNamed, GivenNamed, MessageNamed, OpsNamed, SendsNamed}
-use Rattle.laws_bounds.proofs.ClientCases.{called_cases, heard_cases}
 use Rattle.laws_bounds.proofs.Options.{map_each}
+use Rattle.laws_turns.proofs.ClientCases.{called_cases}
+use Rattle.qc_client.proofs.HeardCases.{heard_cases}
 
 module _ (decl : Declaration) (k : ℕ) where
   -- a begun transaction of the client

@@ -2,10 +2,10 @@
 use Rattle.std.proofs.Common.{◌≡◌, ℕ, zero, suc, ◌+◌, ◌<◌, ◌≤◌, ◌==◌, nat_lt, Bool, true, false, cond, if◌then◌else◌}
 use Rattle.std.proofs.Common.{refl, sym, ap, ◌∙◌, subst, arith}
 use Rattle.std.proofs.lemmas.Bool.{eq-eqb, eqb-true, ltb-true}
-use Rattle.std.proofs.lemmas.Bool.Decides.{nat_tests}
 use Rattle.qc_promise.specs.Vocabulary.{total_below}
 use Rattle.laws_bounds.specs.Vocabulary.{nobody, visits_below, with_visit}
 use Rattle.laws_bounds.proofs.Sums.{total_more, zeros}
+use Rattle.qc_list.proofs.Numbers.{is_last}
 
 pub visit_here : (a : ℕ) (visited : ℕ → Bool) → with_visit visited a a ≡ true
 visit_here a visited = rw (eq-eqb a a refl) refl
@@ -50,9 +50,6 @@ most_visited (suc n) visited = omega (arith, most_visited n visited, one_at_most
 is_one : (t : Bool) (k : ℕ) → cond t 1 0 ≡ k → k ≡ 1 → t ≡ true
 is_one true k is one = refl
 is_one false k is one = absurd (omega (arith, is, one))
-
-is_last : (k n : ℕ) → nat_lt k n ≡ false → k < suc n → k ≡ n
-is_last k n not_below less = grind (arith, nat_tests)
 
 pub all_visited : (n a : ℕ) (visited : ℕ → Bool) → visits_below n visited ≡ n → a < n → visited a ≡ true
 all_visited zero a visited all low = absurd (omega (arith, low))

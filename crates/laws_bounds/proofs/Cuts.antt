@@ -37,7 +37,3 @@ the_one x (b ∷ before) later s is = absurd (none_cut before later s (cc is))
 pub every_at_cut : {X : Type 0} (P : X → Type 0) (before later : List X) (s : X) → Every P (before ++ s ∷ later) → P s
 every_at_cut P [] later s all = all.0
 every_at_cut P (b ∷ before) later s all = every_at_cut P before later s all.1
-
-pub every_front : {X : Type 0} (P : X → Type 0) (before later : List X) → Every P (before ++ later) → Every P before
-every_front P [] later all = tt
-every_front P (b ∷ before) later all = (all.0, every_front P before later all.1)

@@ -1,9 +1,9 @@
 -- What an accepted declaration has is in form: objects, invocations, responses and events stay below their limits; so
 -- do commands of it, and answers of views.
-use Rattle.std.proofs.Common.{◌≡◌, ℕ, zero, suc, ◌<◌, ◌≤◌, ◌-◌, ◌==◌, nat_lt, Bool, true, false, cond, length, Option}
-use Rattle.std.proofs.Common.{Some, None, refl, slice_get, subst, arith}
-use Rattle.std.specs.Prelude.{option_and_then, option_map, position, MatchOption}
-use Rattle.std.proofs.lemmas.Bool.{eqb-false, leb-false}
+use Rattle.std.proofs.Common.{◌≡◌, ℕ, zero, suc, ◌<◌, ◌≤◌, ◌-◌, ◌==◌, Bool, true, false, cond, length, Option, Some}
+use Rattle.std.proofs.Common.{None, refl, slice_get, subst, arith}
+use Rattle.std.specs.Prelude.{option_and_then, option_map, MatchOption}
+use Rattle.std.proofs.lemmas.Bool.{eqb-false}
 use Rattle.std.proofs.lemmas.Option.{slice_get_within}
 use Rattle.qc_decl.specs.Vocabulary.{IsAccepted, plan_in, table_at}
 use Rattle.qc_plan.specs.declared.plan.Plan.{Plan}
@@ -12,34 +12,20 @@ use Rattle.qc_decl.specs.declared.declaration.Declaration.{Declaration}
 use Rattle.qc_fit.specs.Vocabulary.{HasEvent, HasInvocation, HasResponse, HasPlan}
 use Rattle.qc_front.specs.Vocabulary.{resp_of}
 use Rattle.qc_msg.specs.declared.step.Command.{Command}
-use Rattle.qc_table.specs.Vocabulary.{IsSound, Rules, events_of, fault_of, first_repeat, is_unknown, most_events}
-use Rattle.qc_table.specs.Vocabulary.{ranked}
+use Rattle.qc_table.specs.Vocabulary.{IsSound, Rules, events_of}
 use Rattle.qc_table.specs.declared.kind.Kind.{Kind}
 use Rattle.laws_bounds.proofs.EventsNamed.{EventNamed, answer_named}
 use Rattle.laws_bounds.proofs.Names.{CommandNamed}
 use Rattle.laws_bounds.proofs.Forms.{CommandInForm, EventInForm, InvocationInForm}
 use Rattle.laws_bounds.proofs.FrontsInForm.{AnswersInForm}
 use Rattle.qc_msg.specs.Vocabulary.{Invocation, do_in, epoch_in}
+use Rattle.qc_table.proofs.Few.{few_events}
 
 positive : (n : ℕ) → (n ≡ 0 → ⊥) → 1 ≤ n
 positive zero none = absurd (none refl)
 positive (suc n) none = omega arith
 
 -- rows without fault have few events
-
-not_many : (unknown repeat : Option ℕ) (many : Bool) → ranked unknown repeat many ≡ None → many ≡ false
-not_many (Some row) repeat many is = absurd (let never : ⊥ = cc in never)
-not_many None (Some row) many is = absurd (let never : ⊥ = cc in never)
-not_many None None true is = absurd (let never : ⊥ = cc in never)
-not_many None None false is = refl
-
-few_events : (rules : Rules) → fault_of rules ≡ None → length (events_of rules.rows) ≤ most_events
-few_events rules none =
-    let few : length (events_of rules.rows) < 65 =
-    leb-false 65 (length (events_of rules.rows))
-    (not_many (position (is_unknown rules.states rules.invs rules.resps) rules.rows) (first_repeat rules.rows)
-    (nat_lt 64 (length (events_of rules.rows))) none) in
-    omega arith
 
 -- an object that has a type is declared, and its type is sound
 record IsTyped (object : ℕ) (rules : Rules) : Type 0 where

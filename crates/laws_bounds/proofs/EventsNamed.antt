@@ -11,7 +11,6 @@ use Rattle.qc_decl.specs.declared.declaration.KindNames.{KindNames}
 use Rattle.qc_fit.specs.Vocabulary.{HasEvent, HasInvocation, HasPlan, HasResponse}
 use Rattle.qc_front.specs.declared.transaction.Transaction.{Transaction}
 use Rattle.qc_front.specs.Vocabulary.{answer_of, resp_of}
-use Rattle.laws_turns.proofs.Places.{slice_get-within}
 use Rattle.qc_msg.specs.declared.step.Command.{Command}
 use Rattle.qc_msg.specs.declared.step.Command.TheVariants.{Begin, Do, Commit, Abort, Epoch}
 use Rattle.qc_msg.specs.Vocabulary.{first_epoch}
@@ -24,6 +23,7 @@ use Rattle.qc_table.proofs.Numbered.{first_lowest, first_is_an_event}
 use Rattle.qc_view.specs.Vocabulary.{answer_in, state_in}
 use Rattle.qc_view.specs.declared.view.View.{View}
 use Rattle.laws_bounds.proofs.Names.{CommandNamed}
+use Rattle.qc_list.proofs.Places.{some_at}
 
 -- an event that is declared, with its response
 pub record EventNamed (decl : Declaration) (object event : ℕ) : Type 0 where
@@ -99,9 +99,9 @@ module _ (decl : Declaration) (accepted : IsAccepted decl) where
       (position-Some (bytes_eq named.0) decl.object_names object named.0 named.1).0 in
       let many : length decl.object_names ≡ length decl.objects = accepted.object_names.count in
       let number : (number : ℕ) × (slice_get decl.objects object ≡ Some number) =
-      slice_get-within decl.objects object (omega arith) in
+      some_at decl.objects object (omega arith) in
       let kind : (kind : Kind) × (slice_get decl.kinds number.0 ≡ Some kind) =
-      slice_get-within decl.kinds number.0 (accepted.typed object number.0 number.1) in
+      some_at decl.kinds number.0 (accepted.typed object number.0 number.1) in
       record {
         table = kind.0.table;
         declared = table_is object number.0 kind.0 number.1 kind.1;
@@ -115,7 +115,7 @@ module _ (decl : Declaration) (accepted : IsAccepted decl) where
       by : (b : Bool) → (number == 0) ≡ b
           → (plan : Plan) × (cond b None (slice_get decl.plans (number - 1)) ≡ Some plan)
       by true none = absurd (let zero : number ≡ 0 = eqb-true number 0 none in let never : ⊥ = omega arith in never)
-      by false some = slice_get-within decl.plans (number - 1) (omega arith)
+      by false some = some_at decl.plans (number - 1) (omega arith)
 
   pub command_named : (a : ℕ) (c : Command) → IsAskedFor decl a c → CommandNamed decl c
   command_named a Begin is = tt
@@ -168,4 +168,4 @@ module _ (decl : Declaration) (accepted : IsAccepted decl) where
       by (Some rules) table found = views rules (slice_get t.views object) table found
 
   pub first_planned : HasPlan decl first_epoch
-  first_planned = slice_get-within decl.plans 0 accepted.has_epoch
+  first_planned = some_at decl.plans 0 accepted.has_epoch

@@ -16,18 +16,11 @@ use Rattle.qc_msg.specs.declared.reply.Reply.TheVariants as replies
 use Rattle.qc_msg.specs.declared.reply.AbortCause.TheVariants as causes
 use Rattle.qc_msg.specs.declared.step.Command.{Command}
 use Rattle.qc_msg.specs.declared.step.Command.TheVariants as commands
-use Rattle.qc_msg.specs.Vocabulary.{quiet, site_called, telling, without_call, closed_in, granted_in}
+use Rattle.qc_msg.specs.Vocabulary.{quiet, site_called, telling, without_call}
 use Rattle.qc_plan.specs.Vocabulary.{RoundState, note, verdict}
 use Rattle.qc_plan.specs.declared.standing.Verdict.{Verdict}
 use Rattle.qc_plan.specs.declared.standing.Verdict.TheVariants as verdicts
-use Rattle.std.specs.Prelude.{option_and_then}
-use Rattle.laws_bounds.proofs.Options.{map_each}
-
-learns_count : (front : Front) (answer : Option Answer) → (learns front answer).count ≡ front.count
-learns_count front answer =
-    map_each (λ (f : Front). f.count ≡ front.count) _ _ (option_and_then granted_in answer)
-    (map_each (λ (f : Front). f.count ≡ front.count) _ _ (option_and_then closed_in answer) refl (λ epoch. refl))
-    (λ g. refl)
+use Rattle.qc_front.proofs.Clocks.{learned_count}
 
 module _ (decl : Declaration) (front : Front) where
   abbrev Counts : FrontMove → Type 0
@@ -109,7 +102,7 @@ module _ (decl : Declaration) (front : Front) (number : ℕ) (answer : Option An
   reading_count t object inv calls round (Some site) =
       read_count decl (learns front answer) (read_with t site object answer) object inv (without_call calls number)
       (note round site (standing_of answer)) (verdict (note round site (standing_of answer)))
-      ∙ learns_count front answer
+      ∙ learned_count front answer
 
   appending_count : (t : Transaction) (object inv event : ℕ) (calls : List Call) (round : RoundState) (o : Option ℕ)
       → (appending_takes decl front t object inv event calls round number answer o).front.count ≡ front.count
@@ -117,7 +110,7 @@ module _ (decl : Declaration) (front : Front) (number : ℕ) (answer : Option An
   appending_count t object inv event calls round (Some site) =
       append_count decl (learns front answer) (appended_with t site answer) object inv event (without_call calls number)
       (note round site (standing_of answer)) (verdict (note round site (standing_of answer)))
-      ∙ learns_count front answer
+      ∙ learned_count front answer
 
   takes_in_count : (doing : Doing) (t : Option Transaction)
       → (takes_in decl front doing t number answer).front.count ≡ front.count

@@ -1,6 +1,5 @@
 -- What is held and promised in form stays so, and becomes such lines.
-use Rattle.std.proofs.Common.{◌≡◌, ◌==◌, ◌&&◌, Bool, true, false, cond, List, [], ◌∷◌, fold, length, Some, Ordering}
-use Rattle.std.proofs.Common.{refl, subst}
+use Rattle.std.proofs.Common.{◌≡◌, ◌==◌, ◌&&◌, Bool, true, false, cond, List, [], ◌∷◌, fold, length, Some, refl, subst}
 use Rattle.std.specs.Prelude.{unwrap_or}
 use Rattle.std.specs.List.{AllByRecursion as Every}
 use Rattle.qc_entry.specs.declared.line.Line.{Line}
@@ -8,7 +7,6 @@ use Rattle.qc_entry.specs.declared.line.OwnLine.{OwnLine}
 use Rattle.qc_entry.specs.declared.line.ReadLock.{ReadLock}
 use Rattle.qc_entry.specs.declared.record.Prepared.{Prepared}
 use Rattle.qc_entry.proofs.Union.{every-union}
-use Rattle.qc_list.specs.Vocabulary.{inserted}
 use Rattle.qc_lock.specs.declared.held.Held.{Held}
 use Rattle.qc_lock.specs.Vocabulary.{entry_of, held_of, lock_cmp, own_cmp, with_entry, with_held, with_locks, with_owns}
 use Rattle.qc_record.specs.Vocabulary.{IsLock, IsOwn, IsTx}
@@ -17,14 +15,8 @@ use Rattle.qc_stamp.specs.declared.stamp.Stamp.{Stamp}
 use Rattle.qc_stamp.specs.declared.stamp.TxId.{TxId}
 use Rattle.qc_stamp.specs.Vocabulary.{same_tx}
 use Rattle.qc_stamp.proofs.Orders.{same_tx_is}
-use Rattle.laws_bounds.proofs.HeldNamed.{every-inserted}
+use Rattle.laws_bounds.proofs.HeldNamed.{every-all_inserted}
 use Rattle.laws_bounds.proofs.Forms.{LineInForm, PromiseInForm, StampInForm}
-
-pub every-all_inserted : {A : Type 0} (P : A → Type 0) (cmp : A → A → Ordering) (xs others : List A) → Every P xs
-    → Every P others → Every P (fold (inserted cmp) xs others)
-every-all_inserted P cmp xs [] all more = all
-every-all_inserted P cmp xs (y ∷ ys) all more =
-    every-all_inserted P cmp (inserted cmp xs y) ys (every-inserted P cmp xs y all more.0) more.1
 
 pub record HeldInForm (h : Held) : Type 0 where
   pub locks : Every IsLock h.locks

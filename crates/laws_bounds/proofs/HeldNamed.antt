@@ -1,6 +1,6 @@
 -- What is held and promised of declared clients on declared things stays so, and becomes such lines.
 use Rattle.std.proofs.Common.{◌≡◌, ℕ, ◌<◌, ◌==◌, ◌&&◌, Bool, true, false, cond, List, [], ◌∷◌, fold, length, Some}
-use Rattle.std.proofs.Common.{Ordering, Less, Equal, Greater, refl, subst, eqb-true}
+use Rattle.std.proofs.Common.{Ordering, Less, Equal, Greater, refl, subst}
 use Rattle.std.specs.Prelude.{unwrap_or}
 use Rattle.std.specs.List.{AllByRecursion as Every}
 use Rattle.qc_list.specs.Vocabulary.{by_order, inserted}
@@ -18,6 +18,7 @@ use Rattle.qc_stamp.specs.declared.stamp.Stamp.{Stamp}
 use Rattle.qc_stamp.specs.declared.stamp.TxId.{TxId}
 use Rattle.qc_stamp.specs.Vocabulary.{same_tx}
 use Rattle.laws_bounds.proofs.Names.{LineNamed, LinesNamed, LocksNamed, OwnsNamed, PromiseNamed}
+use Rattle.laws_turns.proofs.StampsOwn.{same_client}
 
 -- what is put among items in order
 
@@ -37,14 +38,6 @@ pub every-all_inserted : {A : Type 0} (P : A → Type 0) (cmp : A → A → Orde
 every-all_inserted P cmp xs [] all more = all
 every-all_inserted P cmp xs (y ∷ ys) all more =
     every-all_inserted P cmp (inserted cmp xs y) ys (every-inserted P cmp xs y all more.0) more.1
-
-pub same_client : (x y : TxId) → same_tx x y ≡ true → x.client ≡ y.client
-same_client x y same =
-    eqb-true x.client y.client (first (x.client == y.client) ((x.life == y.life) && (x.number == y.number)) same)
-  where
-    first : (s t : Bool) → (s && t) ≡ true → s ≡ true
-    first true t is = refl
-    first false t is = absurd (let never : ⊥ = cc in never)
 
 module _ (decl : Declaration) where
   pub record HeldNamed (h : Held) : Type 0 where

@@ -4,7 +4,7 @@ use Rattle.std.proofs.Common.{ap, ◌∙◌, subst, arith, eqb-true, append_asso
 use Rattle.std.proofs.lemmas.List.Sums.{fold-append}
 use Rattle.qc_list.proofs.Members.{every-append, every-weaker}
 use Rattle.qc_core.specs.Vocabulary.{IsLawfulWithFalls, actor_after, actor_does, with_record}
-use Rattle.qc_core.proofs.PostsByTurns.{after_takes, called_turn}
+use Rattle.qc_core.proofs.PostsByTurns.{called_turn}
 use Rattle.qc_core.proofs.LivesOfActors.{falls as after_falls, rises as after_rises}
 use Rattle.qc_decl.specs.Vocabulary.{controller}
 use Rattle.qc_decl.specs.declared.declaration.Declaration.{Declaration}
@@ -12,7 +12,7 @@ use Rattle.qc_mailbox.proofs.FallMail.{ready_messages_were_sent_through_falls}
 use Rattle.qc_mailbox.proofs.Keeping.{same_mail}
 use Rattle.laws_turns.proofs.Acted.{deeds-silent}
 use Rattle.laws_turns.proofs.Numbered.{IsSilent, mail-silent, phase_silent}
-use Rattle.laws_turns.proofs.LivedMoves.{deeds-fall, deeds-rise, line_silent}
+use Rattle.laws_turns.proofs.LivedMoves.{deeds-fall, line_silent}
 use Rattle.qc_msg.specs.declared.message.Envelope.{Envelope}
 use Rattle.qc_msg.specs.declared.record.Record.{Record}
 use Rattle.qc_msg.specs.declared.step.Fall.{Fall}
@@ -22,19 +22,18 @@ use Rattle.qc_msg.specs.declared.step.Step.{Step}
 use Rattle.qc_msg.specs.declared.step.Step.TheVariants as steps
 use Rattle.qc_msg.specs.declared.turn.Appended.{Appended}
 use Rattle.qc_msg.specs.declared.turn.Appended.TheVariants.{Done, Failed, Stopped}
-use Rattle.qc_msg.specs.declared.turn.Posting.{Posting}
 use Rattle.qc_msg.specs.declared.turn.Turn.{Turn}
 use Rattle.qc_msg.specs.Vocabulary.{Deed, Entry, WasSentTo, by, deeds, deeds_as, envelopes, mail, marked, posted_as}
 use Rattle.qc_msg.specs.Vocabulary.{sends_as, step_of}
 use Rattle.qc_msg.proofs.GrownMail.{mail-append, mail-taken}
-use Rattle.qc_msg.proofs.DeedsGrow.{deeds-other}
+use Rattle.qc_msg.proofs.DeedsGrow.{deeds-other, deeds-rise}
 use Rattle.qc_msg.proofs.Growth.{deeds-posted_as, deeds-taken, mail-posted_as}
 use Rattle.qc_promise.specs.Vocabulary.{Kept}
 use Rattle.qc_script.specs.Vocabulary.{RunsWithFalls, begins, control, damaged, falls, phase, phase_of, posts, rises}
 use Rattle.qc_script.specs.Vocabulary.{takes, unopened}
 use Rattle.qc_script.specs.declared.script.Script.{Script}
 use Rattle.laws_turns.specs.Vocabulary.{MailWithin, MessageWithin, SendsWithin}
-use Rattle.laws_turns.proofs.Bounding.{given-within}
+use Rattle.laws_turns.proofs.Bounding.{given-within, posted-within}
 use Rattle.laws_turns.proofs.Greater.{mail_le}
 use Rattle.laws_bounds.specs.Vocabulary.{AllRisen, AreWithin, MoveWithin, PutWithin, RecordWithin, RiseWithin}
 use Rattle.laws_bounds.specs.Vocabulary.{TurnWithin, records_at}
@@ -42,6 +41,7 @@ use Rattle.laws_bounds.proofs.ActorsWithin.{deeds_post, down_within, move_le, ne
 use Rattle.laws_bounds.proofs.ActorsWithin.{takes_within}
 use Rattle.laws_bounds.proofs.Putting.{back_has, input_puts, line_puts, post_puts, puts_both, risen_all}
 use Rattle.laws_bounds.proofs.RisenWithin.{rises_within}
+use Rattle.qc_core.proofs.ActorLaws.{input}
 
 -- the clocks of a history
 pub record Held (decl : Declaration) (bound : ℕ) (h : List Entry) : Type 0 where
@@ -53,11 +53,6 @@ put_le : (low high : ℕ) (h : List Entry) → low ≤ high → PutWithin low h 
 put_le low high h le =
     every-weaker (λ (e : Entry). AreWithin low (records_at e.step)) (λ (e : Entry). AreWithin high (records_at e.step))
     (λ e all. records_le low high le (records_at e.step) all) h
-
-envelopes_within : (bound from n : ℕ) (ps : List Posting) → SendsWithin bound ps
-    → MailWithin bound (envelopes from n ps)
-envelopes_within bound from n [] all = tt
-envelopes_within bound from n (p ∷ ps) all = (all.0, envelopes_within bound from (n + 1) ps all.1)
 
 as_within : (bound : ℕ) (end : Appended) (turn : Turn) → TurnWithin bound (with_record turn)
     → SendsWithin bound (sends_as end turn)
@@ -107,7 +102,7 @@ module _ (decl : Declaration) where
       (subst (MailWithin (bound + 1)) (sym (mail-taken h c g))
       (mail_le bound (bound + 1) (omega arith) (mail h) held.messages))
       (subst (MoveWithin (bound + 1))
-      (sym (ap (actor_after decl c) (deeds-taken c h g sent) ∙ after_takes decl c (deeds c [] h) g))
+      (sym (ap (actor_after decl c) (deeds-taken c h g sent) ∙ input decl c (deeds c [] h) g))
       (takes_within bound decl (actor_after decl c (deeds c [] h)).actor g (held.actors c).state
       (given-within bound c (mail h) g held.messages sent)))
       (input_puts (λ a. RecordWithin (bound + 1)) c g)
@@ -123,7 +118,7 @@ module _ (decl : Declaration) where
       (mail-posted_as turn.append c n turn)))
       (every-append (λ (e : Envelope). MessageWithin bound e.message) (mail h)
       (envelopes c n (sends_as turn.append turn)) held.messages
-      (envelopes_within bound c n (sends_as turn.append turn) (as_within bound turn.append turn its))))
+      (posted-within bound c n (sends_as turn.append turn) (as_within bound turn.append turn its))))
       (subst (MoveWithin bound)
       (sym
       (ap (actor_after decl c) (deeds-posted_as turn.append c n h turn) ∙ fold-append (actor_does decl c) _

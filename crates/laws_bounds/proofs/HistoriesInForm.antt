@@ -6,7 +6,7 @@ use Rattle.std.specs.List.{AllByRecursion as Every}
 use Rattle.std.proofs.lemmas.List.Sums.{fold-append}
 use Rattle.qc_list.proofs.Members.{every-append, every-at}
 use Rattle.qc_core.specs.Vocabulary.{IsLawfulWithFalls, actor_after, actor_does, with_record}
-use Rattle.qc_core.proofs.PostsByTurns.{after_takes, called_turn}
+use Rattle.qc_core.proofs.PostsByTurns.{called_turn}
 use Rattle.qc_core.proofs.LivesOfActors.{falls as after_falls, rises as after_rises}
 use Rattle.qc_decl.specs.Vocabulary.{IsAccepted, actors, controller}
 use Rattle.qc_link.specs.Vocabulary.{most_actors}
@@ -15,7 +15,7 @@ use Rattle.qc_mailbox.proofs.FallMail.{ready_messages_were_sent_through_falls}
 use Rattle.qc_mailbox.proofs.Keeping.{same_mail}
 use Rattle.laws_turns.proofs.Acted.{deeds-silent}
 use Rattle.laws_turns.proofs.Numbered.{IsSilent, mail-silent, phase_silent}
-use Rattle.laws_turns.proofs.LivedMoves.{deeds-fall, deeds-rise, line_silent}
+use Rattle.laws_turns.proofs.LivedMoves.{deeds-fall, line_silent}
 use Rattle.laws_turns.proofs.Lived.{actors_live_in_runs_with_falls}
 use Rattle.qc_msg.specs.declared.message.Envelope.{Envelope}
 use Rattle.qc_msg.specs.declared.record.Record.{Record}
@@ -32,7 +32,7 @@ use Rattle.qc_msg.specs.declared.turn.Turn.{Turn}
 use Rattle.qc_msg.specs.Vocabulary.{Deed, Entry, WasSentTo, by, deeds, deeds_as, envelopes, mail, marked, posted_as}
 use Rattle.qc_msg.specs.Vocabulary.{sends_as, step_of}
 use Rattle.qc_msg.proofs.GrownMail.{mail-append, mail-taken}
-use Rattle.qc_msg.proofs.DeedsGrow.{deeds-other}
+use Rattle.qc_msg.proofs.DeedsGrow.{deeds-other, deeds-rise}
 use Rattle.qc_msg.proofs.Growth.{deeds-posted_as, deeds-taken, mail-posted_as}
 use Rattle.qc_script.specs.Vocabulary.{IsScriptFor, RunsWithFalls, begins, control, damaged, falls, phase, phase_of}
 use Rattle.qc_script.specs.Vocabulary.{posts, ready, rises, takes, unopened}
@@ -49,6 +49,7 @@ use Rattle.laws_bounds.proofs.ActorsInForm.{MoveInForm, TurnInForm, down_form, n
 use Rattle.laws_bounds.proofs.ActorsInForm.{takes_form}
 use Rattle.laws_bounds.proofs.Declared.{command_form}
 use Rattle.laws_bounds.proofs.Forms.{MailInForm, MessageInForm, RecordInForm, SendsInForm, TakenInForm}
+use Rattle.qc_core.proofs.ActorLaws.{input}
 
 module _ (decl : Declaration) where
   -- a history
@@ -123,13 +124,13 @@ module _ (decl : Declaration) where
   taken accepted c h g short sent here form =
       rests c h (step_of g ∷ []) form (mail-taken h c g)
       (subst (MoveInForm decl c)
-      (sym (ap (actor_after decl c) (deeds-taken c h g sent) ∙ after_takes decl c (deeds c [] h) g))
+      (sym (ap (actor_after decl c) (deeds-taken c h g sent) ∙ input decl c (deeds c [] h) g))
       (takes_form decl accepted c (length h) (actor_after decl c (deeds c [] h)).actor g (form.actors_are c).state
       (history_counts decl c h) (omega (arith, short)) here
       (given_told (mail h) decl (actor_after decl c (deeds c [] h)).actor c g sent form.told
       (form.actors_told c).asked)))
       (subst (ActorTold (mail h))
-      (sym (ap (actor_after decl c) (deeds-taken c h g sent) ∙ after_takes decl c (deeds c [] h) g))
+      (sym (ap (actor_after decl c) (deeds-taken c h g sent) ∙ input decl c (deeds c [] h) g))
       (takes_told (mail h) decl c (actor_after decl c (deeds c [] h)).actor g (form.actors_are c).state sent
       (form.actors_told c).asked))
 

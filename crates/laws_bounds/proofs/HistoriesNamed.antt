@@ -5,7 +5,7 @@ use Rattle.std.proofs.Common.{◌∙◌, subst, eqb-true, append_assoc}
 use Rattle.std.proofs.lemmas.List.Sums.{fold-append}
 use Rattle.qc_list.proofs.Members.{every-append}
 use Rattle.qc_core.specs.Vocabulary.{IsLawfulWithFalls, actor_after, actor_does, with_record}
-use Rattle.qc_core.proofs.PostsByTurns.{after_takes, called_turn}
+use Rattle.qc_core.proofs.PostsByTurns.{called_turn}
 use Rattle.qc_core.proofs.LivesOfActors.{falls as after_falls, rises as after_rises}
 use Rattle.qc_decl.specs.Vocabulary.{IsAccepted, controller}
 use Rattle.qc_decl.specs.declared.declaration.Declaration.{Declaration}
@@ -13,7 +13,7 @@ use Rattle.qc_mailbox.proofs.FallMail.{ready_messages_were_sent_through_falls}
 use Rattle.qc_mailbox.proofs.Keeping.{same_mail}
 use Rattle.laws_turns.proofs.Acted.{deeds-silent}
 use Rattle.laws_turns.proofs.Numbered.{IsSilent, mail-silent, phase_silent}
-use Rattle.laws_turns.proofs.LivedMoves.{deeds-fall, deeds-rise, line_silent}
+use Rattle.laws_turns.proofs.LivedMoves.{deeds-fall, line_silent}
 use Rattle.qc_msg.specs.declared.message.Envelope.{Envelope}
 use Rattle.qc_msg.specs.declared.record.Record.{Record}
 use Rattle.qc_msg.specs.declared.step.Fall.{Fall}
@@ -29,7 +29,7 @@ use Rattle.qc_fit.specs.Vocabulary.{HasPlan}
 use Rattle.qc_msg.specs.Vocabulary.{Deed, Entry, WasSentTo, by, deeds, deeds_as, envelopes, first_epoch, mail, marked}
 use Rattle.qc_msg.specs.Vocabulary.{posted_as, sends_as, step_of}
 use Rattle.qc_msg.proofs.GrownMail.{mail-append, mail-taken}
-use Rattle.qc_msg.proofs.DeedsGrow.{deeds-other}
+use Rattle.qc_msg.proofs.DeedsGrow.{deeds-other, deeds-rise}
 use Rattle.qc_msg.proofs.Growth.{deeds-posted_as, deeds-taken, mail-posted_as}
 use Rattle.qc_promise.specs.Vocabulary.{Kept}
 use Rattle.qc_script.specs.Vocabulary.{IsScriptFor, RunsWithFalls, begins, control, damaged, falls, phase, phase_of}
@@ -40,10 +40,12 @@ use Rattle.laws_bounds.proofs.ActorsWithin.{deeds_post}
 use Rattle.laws_bounds.proofs.AskedNamed.{given_named}
 use Rattle.laws_bounds.proofs.EventsNamed.{first_planned}
 use Rattle.laws_bounds.proofs.Names.{AreNamed, GivenNamed, MailNamed, MessageNamed, RecordNamed, SendsNamed}
-use Rattle.laws_bounds.proofs.Putting.{back_has, input_puts, kept_part, line_puts, post_puts, puts_both}
+use Rattle.laws_bounds.proofs.Putting.{back_has, input_puts, line_puts, post_puts, puts_both}
 use Rattle.laws_bounds.proofs.Senders.{lawful_actor}
 use Rattle.laws_bounds.proofs.ActorsNamed.{MoveNamed, TurnNamed, down_named, new_named, posts_named, rises_named}
 use Rattle.laws_bounds.proofs.ActorsNamed.{takes_named}
+use Rattle.qc_core.proofs.ActorLaws.{input}
+use Rattle.qc_promise.proofs.Posts.{kept_part}
 
 module _ (decl : Declaration) where
   -- a history
@@ -91,7 +93,7 @@ module _ (decl : Declaration) where
   taken accepted c h g sent here named =
       grows c h (step_of g ∷ []) named (subst (MailNamed decl) (sym (mail-taken h c g)) named.messages)
       (subst (MoveNamed decl c)
-      (sym (ap (actor_after decl c) (deeds-taken c h g sent) ∙ after_takes decl c (deeds c [] h) g))
+      (sym (ap (actor_after decl c) (deeds-taken c h g sent) ∙ input decl c (deeds c [] h) g))
       (takes_named decl accepted c (actor_after decl c (deeds c [] h)).actor g (named.actors_are c).state here))
       (input_puts (RecordNamed decl) c g)
 

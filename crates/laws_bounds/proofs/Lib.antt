@@ -1,7 +1,6 @@
 pub mod Options
 pub mod Cases
 pub mod AdminCases
-pub mod ClientCases
 pub mod StepCases
 pub mod SiteCases
 pub mod SiteKeeps

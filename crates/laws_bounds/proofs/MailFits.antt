@@ -37,9 +37,9 @@ use Rattle.qc_site.proofs.RequestCases.{append_cases, close_rows, fault_is, inst
 use Rattle.qc_site.proofs.RequestCases.{read_cases, request_cases}
 use Rattle.qc_stamp.specs.declared.stamp.TxId.{TxId}
 use Rattle.std.specs.Prelude.{MatchOption}
-use Rattle.laws_bounds.proofs.ClientCases.{heard_cases}
 use Rattle.laws_bounds.proofs.Options.{match_weaker}
 use Rattle.laws_bounds.proofs.SiteCases.{site_cases}
+use Rattle.qc_client.proofs.HeardCases.{heard_cases}
 
 abbrev pub SendsFit : List Posting → Type 0
 SendsFit ps = Every (λ (p : Posting). MessageFits p.message) ps

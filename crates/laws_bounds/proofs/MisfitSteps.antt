@@ -1,22 +1,19 @@
 -- An actor's steps that keep its records but for misfits: they stay such, step by step.
-use Rattle.std.proofs.Common.{◌≡◌, ℕ, List, [], ◌∷◌, ◌++◌, fold, refl, sym, ap, ◌∙◌, subst, append-nil}
+use Rattle.std.proofs.Common.{◌≡◌, ℕ, List, [], ◌∷◌, ◌++◌, fold, sym, ap, ◌∙◌, subst, append-nil}
 use Rattle.std.proofs.lemmas.List.Sums.{fold-append}
 use Rattle.qc_decl.specs.declared.declaration.Declaration.{Declaration}
 use Rattle.qc_msg.specs.Vocabulary.{Entry, by, own}
 use Rattle.qc_msg.specs.declared.step.Step.{Step}
 use Rattle.qc_msg.proofs.DeedsGrow.{own-append, own-more}
 use Rattle.qc_promise.specs.Vocabulary.{AreKept, IsKeptAt, IsOfOthers, Journal, journal_of, journal_with, no_journal}
+use Rattle.qc_promise.specs.Vocabulary.{IsGivenBack}
 use Rattle.laws_bounds.specs.Vocabulary.{AreKeptOrMisfits, IsKeptOrMisfit, NextAreKeptOrMisfits, JournalFits}
 use Rattle.laws_bounds.proofs.Cuts.{CutIn, cut_in, in_first, in_second, none_cut}
-use Rattle.qc_promise.specs.Vocabulary.{IsGivenBack}
 use Rattle.laws_bounds.proofs.StepCases.{kept_cases}
+use Rattle.qc_promise.proofs.Posts.{own_others}
 
 pub no_misfits : (decl : Declaration) (a : ℕ) → AreKeptOrMisfits decl a []
 no_misfits decl a before later s is = absurd (none_cut before later s is)
-
-own_others : (a : ℕ) (more : List Entry) → IsOfOthers a more → own a more ≡ []
-own_others a [] others = refl
-own_others a (e ∷ more) others = rw others.0.0 (own_others a more others.1)
 
 pub others_on : (decl : Declaration) (a : ℕ) (h more : List Entry) → IsOfOthers a more
     → AreKeptOrMisfits decl a (own a h) → AreKeptOrMisfits decl a (own a (h ++ more))

@@ -3,16 +3,16 @@
 use Rattle.std.proofs.Common.{◌≡◌, ◌⊎◌, ℕ, ◌+◌, ◌<◌, ◌≤◌, nat_eq, nat_lt, Bool, true, false, List, [], ◌∷◌, length}
 use Rattle.std.proofs.Common.{Some, None, inl, inr, refl, sym, ap, ◌∙◌, arith}
 use Rattle.std.proofs.lemmas.Bool.Decides.{nat_tests}
-use Rattle.std.specs.Cmp.{nat_cmp_is}
 use Rattle.std.specs.List.{AllByRecursion as Every}
 use Rattle.std.specs.Ordering.{nat_cmp, ordering_then}
 use Rattle.std.specs.declared.cmp.Ordering.{Ordering}
-use Rattle.std.specs.declared.cmp.Ordering.TheVariants.{Equal, Greater, Less}
+use Rattle.std.specs.declared.cmp.Ordering.TheVariants.{Greater, Less}
 use Rattle.qc_entry.specs.declared.line.OwnLine.{OwnLine}
 use Rattle.qc_entry.specs.declared.line.ReadLock.{ReadLock}
 use Rattle.qc_list.specs.Vocabulary.{Ascends, IsBelowAll}
 use Rattle.qc_lock.specs.Vocabulary.{lock_cmp, own_cmp}
 use Rattle.qc_record.specs.Vocabulary.{IsLockBelow, IsOwn, IsOwnBelow, Rises}
+use Rattle.qc_list.proofs.Numbers.{below_from_cmp, cmp_below, cmp_same, cmp_above}
 
 module _ {A : Type 0} (cmp : A → A → Ordering) (Below : A → A → Type 0) where
   -- where the order tells what is below
@@ -50,15 +50,6 @@ module _ {A : Type 0} (cmp : A → A → Ordering) (Below : A → A → Type 0) 
 
 -- numbers
 
-below_is : (a b : ℕ) → a < b → nat_cmp a b ≡ Less
-below_is a b low = sym (nat_cmp_is a b Less low)
-
-equal_is : (a b : ℕ) → a ≡ b → nat_cmp a b ≡ Equal
-equal_is a b same = sym (nat_cmp_is a b Equal same)
-
-greater_is : (a b : ℕ) → b < a → nat_cmp a b ≡ Greater
-greater_is a b high = sym (nat_cmp_is a b Greater high)
-
 -- the first part that differs decides
 first_differs : (a b : ℕ) (o : Ordering) → ordering_then (nat_cmp a b) o ≡ Less
     → (a < b) ⊎ ((a ≡ b) × (o ≡ Less))
@@ -68,24 +59,10 @@ first_differs a b o is = by (nat_lt a b) (nat_eq a b) refl refl
     by true u low tie = (let below : a < b = grind (arith, nat_tests, low) in inl below)
     by false true low tie =
         (let same : a ≡ b = grind (arith, nat_tests, tie) in
-        inr (same, sym (ap (λ (x : Ordering). ordering_then x o) (equal_is a b same)) ∙ is))
+        inr (same, sym (ap (λ (x : Ordering). ordering_then x o) (cmp_same a b same)) ∙ is))
     by false false low tie =
         let over : b < a = grind (arith, nat_tests, low, tie) in
-        let no : Greater ≡ Less = sym (ap (λ (x : Ordering). ordering_then x o) (greater_is a b over)) ∙ is in
-        absurd cc
-
-less_below : (a b : ℕ) → nat_cmp a b ≡ Less → a < b
-less_below a b is = by (nat_lt a b) (nat_eq a b) refl refl
-  where
-    by : (t u : Bool) → nat_lt a b ≡ t → nat_eq a b ≡ u → a < b
-    by true u low tie = grind (arith, nat_tests, low)
-    by false true low tie =
-        let same : a ≡ b = grind (arith, nat_tests, tie) in
-        let no : Equal ≡ Less = sym (equal_is a b same) ∙ is in
-        absurd cc
-    by false false low tie =
-        let over : b < a = grind (arith, nat_tests, low, tie) in
-        let no : Greater ≡ Less = sym (greater_is a b over) ∙ is in
+        let no : Greater ≡ Less = sym (ap (λ (x : Ordering). ordering_then x o) (cmp_above a b over)) ∙ is in
         absurd cc
 
 -- locks
@@ -95,14 +72,14 @@ lock_tells a b is = by (first_differs a.object b.object (nat_cmp a.inv b.inv) is
   where
     by : (a.object < b.object) ⊎ ((a.object ≡ b.object) × (nat_cmp a.inv b.inv ≡ Less)) → IsLockBelow a b
     by (inl low) = inl low
-    by (inr tie) = inr (tie.0, less_below a.inv b.inv tie.1)
+    by (inr tie) = inr (tie.0, below_from_cmp a.inv b.inv tie.1)
 
 lock_told : (a b : ReadLock) → IsLockBelow a b → lock_cmp a b ≡ Less
 lock_told a b (inl low) =
-    ap (λ (o : Ordering). ordering_then o (nat_cmp a.inv b.inv)) (below_is a.object b.object low)
+    ap (λ (o : Ordering). ordering_then o (nat_cmp a.inv b.inv)) (cmp_below a.object b.object low)
 lock_told a b (inr tie) =
-    ap (λ (o : Ordering). ordering_then o (nat_cmp a.inv b.inv)) (equal_is a.object b.object tie.0)
-    ∙ below_is a.inv b.inv tie.1
+    ap (λ (o : Ordering). ordering_then o (nat_cmp a.inv b.inv)) (cmp_same a.object b.object tie.0)
+    ∙ cmp_below a.inv b.inv tie.1
 
 lock_further : (a b c : ReadLock) → IsLockBelow a b → IsLockBelow b c → IsLockBelow a c
 lock_further a b c (inl low) (inl more) = (let below : a.object < c.object = omega (arith, low, more) in inl below)
@@ -124,11 +101,11 @@ locks_ascend locks up = ascends lock_cmp IsLockBelow lock_told lock_further lock
 -- own lines
 
 pub owns_rise : (own : List OwnLine) → Ascends own_cmp own → Rises IsOwnBelow None own
-owns_rise own ascend = rises own_cmp IsOwnBelow (λ a b is. less_below a.op b.op is) own ascend
+owns_rise own ascend = rises own_cmp IsOwnBelow (λ a b is. below_from_cmp a.op b.op is) own ascend
 
 pub owns_ascend : (own : List OwnLine) → Rises IsOwnBelow None own → Ascends own_cmp own
 owns_ascend own up =
-    ascends own_cmp IsOwnBelow (λ a b low. below_is a.op b.op low)
+    ascends own_cmp IsOwnBelow (λ a b low. cmp_below a.op b.op low)
     (λ a b c low more.
     (let first : a.op < b.op = low in let second : b.op < c.op = more in omega (arith, first, second)))
     own up

@@ -9,11 +9,12 @@ use Rattle.qc_msg.specs.declared.step.Step.{Step}
 use Rattle.qc_msg.specs.declared.step.Step.TheVariants as steps
 use Rattle.qc_promise.specs.Vocabulary.{AreKept, Calls, DiskAccount, DiskArm, IsEverInTime, IsKeptAt, disk_account}
 use Rattle.qc_promise.specs.Vocabulary.{disk_account_with, disk_armed, disk_called, disk_fell_by, no_disk_account}
-use Rattle.qc_promise.specs.Vocabulary.{of_fall, of_opening, of_reading, of_record, waiting_after}
+use Rattle.qc_promise.specs.Vocabulary.{of_fall, of_opening, of_reading, of_record, waiting_after, IsGivenBack}
+use Rattle.qc_promise.specs.Vocabulary.{journal_of}
 use Rattle.laws_bounds.specs.Vocabulary.{AreFaultsBelow, IsFaultBelow}
-use Rattle.laws_bounds.proofs.Cuts.{every_at_cut, every_front}
-use Rattle.qc_promise.specs.Vocabulary.{IsGivenBack, journal_of}
+use Rattle.laws_bounds.proofs.Cuts.{every_at_cut}
 use Rattle.laws_bounds.proofs.StepCases.{kept_cases}
+use Rattle.qc_list.proofs.Members.{every-front}
 
 pub at_least : (n a : ℕ) → nat_lt a n ≡ false → n ≤ a
 at_least n a is = grind (arith, nat_tests)
@@ -64,7 +65,7 @@ in_time_of w none v is = absurd (let never : ⊥ = cc in never)
 pub others_in_time : (n a : ℕ) (h : List Entry) → AreFaultsBelow n h → n ≤ a → IsEverInTime a h
 others_in_time n a h below high before later is =
     let fronts : AreFaultsBelow n before =
-    every_front (λ (e : Entry). IsFaultBelow n e.actor e.step) before later (subst (AreFaultsBelow n) (sym is) below) in
+    every-front (λ (e : Entry). IsFaultBelow n e.actor e.step) before later (subst (AreFaultsBelow n) (sym is) below) in
     in_time_of (disk_account a before).waiting (none_ever n a high no_disk_account before fronts refl)
 
 -- it doesn't rise, and finds no damage

@@ -1,7 +1,7 @@
 -- The records that a history puts into journals: those of a post; those that a journal has; and those that rise, where
 -- records are kept.
 use Rattle.std.proofs.Common.{◌≡◌, ℕ, ◌+◌, ◌==◌, eqb-true, Bool, true, false, cond, List, [], ◌∷◌, ◌++◌, filter, map}
-use Rattle.std.proofs.Common.{Option, Some, None, inl, inr, refl, sym, ap, ◌∙◌, subst, append_assoc}
+use Rattle.std.proofs.Common.{Option, Some, None, inl, inr, refl, sym, subst}
 use Rattle.std.specs.Prelude.{fold, option_to_list}
 use Rattle.std.specs.List.{AllByRecursion as Every}
 use Rattle.qc_list.proofs.Members.{every-append}
@@ -18,7 +18,7 @@ use Rattle.qc_msg.specs.declared.turn.Appended.TheVariants.{Done, Failed, Stoppe
 use Rattle.qc_msg.specs.declared.turn.Posting.{Posting}
 use Rattle.qc_msg.specs.declared.turn.Turn.{Turn}
 use Rattle.qc_msg.specs.Vocabulary.{Entry, by, fell, marked, own, posted_as, sents, step_of, told, wrote}
-use Rattle.qc_promise.specs.Vocabulary.{IsGivenBack, Journal, Kept, journal_of, journal_with, no_journal, pending_with}
+use Rattle.qc_promise.specs.Vocabulary.{IsGivenBack, Journal, journal_of, journal_with, no_journal, pending_with}
 use Rattle.qc_script.specs.Vocabulary.{controller_step}
 use Rattle.laws_bounds.specs.Vocabulary.{AllPut, AllRisen, records_at}
 use Rattle.laws_bounds.proofs.StepCases.{line_cases, journal_cases}
@@ -132,8 +132,3 @@ module _ (P : ℕ → Record → Type 0) (a : ℕ) where
       subst (Every (P a)) (sym more)
       (every-append (P a) (journal_of (own a h)).records
       (option_to_list (journal_of (own a h)).pending) its.records its.pending)
-
-pub kept_part : (h k : List Entry) → Kept (h ++ k) → Kept h
-kept_part h k kept =
-    λ before later e is. kept before (later ++ k) e
-    (sym (append_assoc before (e ∷ later) k) ∙ ap (λ (es : List Entry). es ++ k) is)

@@ -1,12 +1,11 @@
 -- Who is armed, falls and rises in a run is an actor of the script's control lines, or one that posts.
-use Rattle.std.proofs.Common.{◌≡◌, ℕ, zero, suc, ◌<◌, ◌≤◌, Bool, true, false, List, [], ◌∷◌, ◌++◌, length, Some, ap}
-use Rattle.std.proofs.Common.{◌∙◌, arith}
+use Rattle.std.proofs.Common.{◌≡◌, ℕ, ◌<◌, ◌≤◌, Bool, true, false, List, [], ◌∷◌, ◌++◌, length, Some, ap, ◌∙◌, arith}
 use Rattle.std.specs.Prelude.{slice_get}
 use Rattle.std.specs.List.{AllByRecursion as Every}
 use Rattle.qc_list.proofs.Members.{every-append, every-weaker}
 use Rattle.qc_decl.specs.Vocabulary.{actors, administrator, controller}
 use Rattle.qc_decl.specs.declared.declaration.Declaration.{Declaration}
-use Rattle.laws_turns.proofs.Places.{length-replicate, length-slice_set}
+use Rattle.laws_turns.proofs.Places.{length-replicate}
 use Rattle.qc_msg.specs.declared.record.Record.{Record}
 use Rattle.qc_msg.specs.declared.step.Control.{Control}
 use Rattle.qc_msg.specs.declared.step.Control.TheVariants as controls
@@ -24,6 +23,7 @@ use Rattle.laws_bounds.specs.Vocabulary.{AreControlsBelow, AreFaultsBelow, IsCon
 use Rattle.laws_bounds.proofs.SettledLines.{next_line}
 use Rattle.laws_bounds.proofs.Posts.{IsActing, every_by, input_acting, posts_acting}
 use Rattle.laws_bounds.proofs.StepCases.{line_cases}
+use Rattle.qc_list.proofs.Places.{place_within, length-slice_set}
 
 -- the lines of a script that is for a declaration
 
@@ -65,11 +65,6 @@ line_below : (n a : ℕ) (line : Control) (step : Step) → IsControlBelow n lin
 line_below n a line step below is =
     line_cases (λ line step. IsControlBelow n line → IsFaultBelow n a step) (λ x y below. tt) (λ x y below. tt)
     (λ actor kind at below. below) line step is below
-
-place_within : (bs : List Bool) (a : ℕ) (t : Bool) → slice_get bs a ≡ Some t → a < length bs
-place_within [] a t is = absurd (let never : ⊥ = cc in never)
-place_within (b ∷ bs) zero t is = omega arith
-place_within (b ∷ bs) (suc a) t is = let further : a < length bs = place_within bs a t is in omega arith
 
 posts_below : (n a k : ℕ) (turn : Turn) → a < n → AreFaultsBelow n (by a (posted_as turn.append k turn))
 posts_below n a k turn low =

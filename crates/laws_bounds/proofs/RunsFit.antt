@@ -1,7 +1,7 @@
 -- In each run with falls whose rises fit, each message tells promises of clients alone; so what an actor is between two
 -- inputs, and after one, is known.
-use Rattle.std.proofs.Common.{◌≡◌, ℕ, ◌+◌, ◌<◌, ◌≤◌, Bool, true, false, List, [], ◌∷◌, ◌++◌, length, Option, Some, None}
-use Rattle.std.proofs.Common.{slice_get, refl, sym, ap, ◌∙◌, subst, arith}
+use Rattle.std.proofs.Common.{◌≡◌, ℕ, ◌+◌, ◌<◌, ◌≤◌, Bool, true, List, [], ◌∷◌, ◌++◌, length, Some, None, slice_get}
+use Rattle.std.proofs.Common.{refl, sym, ap, ◌∙◌, subst, arith}
 use Rattle.std.specs.List.{AllByRecursion as Every}
 use Rattle.qc_list.specs.Vocabulary.{In}
 use Rattle.qc_list.proofs.Members.{every-In, every-append}
@@ -10,12 +10,12 @@ use Rattle.qc_core.specs.declared.actor.Actor.{Actor}
 use Rattle.qc_core.specs.declared.actor.Actor.TheVariants as actors_of
 use Rattle.qc_core.specs.Vocabulary.{ActorMove, IsLawfulWithFalls, actor_after, actor_takes, is_running, with_record}
 use Rattle.qc_core.proofs.Answers.{answers_rising}
-use Rattle.qc_core.proofs.PostsByTurns.{after_takes, called_turn}
+use Rattle.qc_core.proofs.PostsByTurns.{called_turn}
 use Rattle.qc_decl.specs.Vocabulary.{IsAccepted, actors, controller}
 use Rattle.qc_decl.specs.declared.declaration.Declaration.{Declaration}
 use Rattle.qc_mailbox.proofs.Keeping.{same_mail}
 use Rattle.laws_turns.specs.Vocabulary.{LivesIn}
-use Rattle.laws_turns.proofs.LivedMoves.{deeds-rise, line_silent}
+use Rattle.laws_turns.proofs.LivedMoves.{line_silent}
 use Rattle.laws_turns.proofs.Lived.{actors_live_in_runs_with_falls}
 use Rattle.laws_turns.proofs.Numbered.{mail-silent}
 use Rattle.qc_link.specs.Vocabulary.{most_actors}
@@ -29,18 +29,19 @@ use Rattle.qc_msg.specs.declared.turn.Appended.{Appended}
 use Rattle.qc_msg.specs.declared.turn.Appended.TheVariants.{Done, Failed, Stopped}
 use Rattle.qc_msg.specs.declared.turn.Posting.{Posting}
 use Rattle.qc_msg.specs.declared.turn.Turn.{Turn}
-use Rattle.qc_msg.specs.Vocabulary.{Deed, Entry, Rises, by, deeds, envelope_of, envelopes, mail, marked, posted_as}
-use Rattle.qc_msg.specs.Vocabulary.{sends_as}
+use Rattle.qc_msg.specs.Vocabulary.{Deed, Entry, by, deeds, envelope_of, envelopes, mail, marked, posted_as, sends_as}
 use Rattle.qc_msg.proofs.GrownMail.{mail-append, mail-taken}
 use Rattle.qc_msg.proofs.Growth.{mail-posted_as}
 use Rattle.qc_script.specs.Vocabulary.{RunsWithFalls, begins, control, damaged, falls, phase, phase_of, posts, rises}
 use Rattle.qc_script.specs.Vocabulary.{takes, unopened}
 use Rattle.qc_script.specs.declared.script.Script.{Script}
-use Rattle.laws_bounds.specs.Vocabulary.{AllFit, AllRiseFit, IsSound, risen_at}
+use Rattle.laws_bounds.specs.Vocabulary.{AllRiseFit}
 use Rattle.laws_bounds.proofs.FitBounds.{rise_clients}
 use Rattle.laws_bounds.proofs.MailFits.{SendsFit, TurnFits, admin_fits, client_fits, site_fits, unanswering_fit}
-use Rattle.laws_bounds.proofs.Senders.{AreFrom, AreSound, IsSoundMessage, deeds_sound, run_from}
+use Rattle.laws_bounds.proofs.Senders.{AreFrom, AreSound, deeds_sound, run_from}
 use Rattle.laws_bounds.proofs.Standing.{IsOpen, IsReady, Known, known}
+use Rattle.qc_core.proofs.ActorLaws.{input as after_takes}
+use Rattle.qc_msg.proofs.DeedsGrow.{deeds-rise}
 
 abbrev pub MailFit : List Envelope → Type 0
 MailFit ms = Every (λ (e : Envelope). MessageFits e.message) ms

@@ -1,6 +1,6 @@
 -- In each run with falls messages come from actors, and so does what an actor takes.
-use Rattle.std.proofs.Common.{◌≡◌, ℕ, zero, suc, ◌+◌, ◌<◌, ◌==◌, Bool, true, false, cond, List, [], ◌∷◌, ◌++◌, length}
-use Rattle.std.proofs.Common.{Option, Some, None, slice_get, refl, sym, subst, eqb-true, arith}
+use Rattle.std.proofs.Common.{◌≡◌, ℕ, ◌+◌, ◌<◌, ◌==◌, Bool, true, false, cond, List, [], ◌∷◌, ◌++◌, length, Option}
+use Rattle.std.proofs.Common.{Some, None, slice_get, refl, sym, subst, eqb-true, arith}
 use Rattle.std.specs.Prelude.{option_to_list}
 use Rattle.std.specs.List.{AllByRecursion as Every}
 use Rattle.std.proofs.lemmas.Bool.{ltb-true}
@@ -23,7 +23,7 @@ use Rattle.qc_msg.specs.declared.turn.Posting.{Posting}
 use Rattle.qc_msg.specs.declared.turn.Turn.{Turn}
 use Rattle.qc_msg.specs.Vocabulary.{Deed, Entry, by, deed_at, deeds, envelope_of, envelopes, heard, mail, marked}
 use Rattle.qc_msg.specs.Vocabulary.{posted_as, sends_as, Takes, Writes, Sends, Tells, Falls, Rises, got_in, risen_in}
-use Rattle.qc_msg.proofs.GrownMail.{mail-append, mail-taken}
+use Rattle.qc_msg.proofs.GrownMail.{mail-append, mail-taken, mail-cons}
 use Rattle.qc_msg.proofs.Growth.{mail-posted_as}
 use Rattle.qc_script.specs.Vocabulary.{RunsWithFalls, begins, control, damaged, falls, phase, phase_of, posts, rises}
 use Rattle.qc_script.specs.Vocabulary.{takes, unopened}
@@ -55,11 +55,6 @@ lawful_actor decl a ds turn law =
     by false false true site client admin is =
         (let same : a ≡ administrator decl = eqb-true a (administrator decl) admin in omega arith)
     by false false false site client admin is = absurd (let never : ⊥ = cc in never)
-
-pub place_low : (bs : List Bool) (a : ℕ) (t : Bool) → slice_get bs a ≡ Some t → a < length bs
-place_low [] a t is = absurd (let never : ⊥ = cc in never)
-place_low (b ∷ bs) zero t is = omega arith
-place_low (b ∷ bs) (suc a) t is = (let further : a < length bs = place_low bs a t is in omega arith)
 
 module _ (decl : Declaration) (script : Script) (fits : ℕ → List Record → Type 0) where
   abbrev IsRun : List Entry → List Bool → Type 0
@@ -138,18 +133,11 @@ own_sound : (b : Bool) (ds : List Deed) → Every IsSound ds → Every IsSound (
 own_sound true ds all = all
 own_sound false ds all = tt
 
-mail_cons : (e : Entry) (h : List Entry) → mail (e ∷ h) ≡ option_to_list (envelope_of e) ++ mail h
-mail_cons e h = by (envelope_of e) refl
-  where
-    by : (o : Option Envelope) → envelope_of e ≡ o → mail (e ∷ h) ≡ option_to_list o ++ mail h
-    by None is = rw is refl
-    by (Some x) is = rw is refl
-
 pub deeds_sound : (a : ℕ) (ms : List Envelope) (h : List Entry) → AreSound ms → AreSound (mail h)
     → Every (λ (e : Entry). Every IsOfClient (risen_at e.step)) h → Every IsSound (deeds a ms h)
 deeds_sound a ms [] from more risen = tt
 deeds_sound a ms (e ∷ h) from more risen =
-    let both = part_from (option_to_list (envelope_of e)) (mail h) (subst AreSound (mail_cons e h) more) in
+    let both = part_from (option_to_list (envelope_of e)) (mail h) (subst AreSound (mail-cons e h) more) in
     every-append IsSound (cond (e.actor == a) (deed_at ms e.step) []) (deeds a (ms ++ option_to_list (envelope_of e)) h)
     (own_sound (e.actor == a) (deed_at ms e.step) (deed_sound ms e.step from risen.0))
     (deeds_sound a (ms ++ option_to_list (envelope_of e)) h

@@ -15,13 +15,8 @@ use Rattle.qc_script.specs.Vocabulary.{control_acted, controls_left, copy_taken,
 use Rattle.qc_script.specs.Vocabulary.{inbox_at, is_by_line, is_up, loss_taken, opened, phase_begun, reply_told}
 use Rattle.qc_script.specs.declared.script.PhaseLines.{PhaseLines}
 use Rattle.qc_script.specs.declared.script.Script.{Script}
-use Rattle.qc_script.proofs.InboxesSend.{opened_keeps, sends_does}
+use Rattle.qc_script.proofs.InboxesSend.{opened_keeps, sends_does, by_test}
 use Rattle.laws_bounds.specs.Vocabulary.{AreControlsBelow, IsControlBelow}
-
--- which of two inboxes, by a test
-by_test : (P : Inbox → Type 0) (t : Bool) (i j : Inbox) → P i → P j → P (if t then i else j)
-by_test P true i j here there = here
-by_test P false i j here there = there
 
 module _ (P : Control → Type 0) where
   abbrev Has : Inbox → Type 0

@@ -1,6 +1,6 @@
 -- Each run with falls, whose rises fit, has trays that show it: event by event.
-use Rattle.std.proofs.Common.{◌≡◌, ◌<◌, ◌≤◌, ℕ, zero, suc, Bool, true, false, List, [], ◌∷◌, ◌++◌, length, Some, None}
-use Rattle.std.proofs.Common.{slice_get, refl, sym, ap, ◌∙◌, subst, arith}
+use Rattle.std.proofs.Common.{◌≡◌, ◌<◌, ◌≤◌, ℕ, Bool, true, false, List, [], ◌∷◌, ◌++◌, length, Some, None, slice_get}
+use Rattle.std.proofs.Common.{refl, sym, ap, ◌∙◌, subst, arith}
 use Rattle.std.specs.List.{AllByRecursion as Every}
 use Rattle.laws_bounds.proofs.Calling.{turn_failed, turn_short}
 use Rattle.laws_bounds.proofs.Rising.{risen_turn_short}
@@ -16,18 +16,15 @@ use Rattle.qc_mailbox.proofs.FallTrays.{trays_know_who_is_up}
 use Rattle.qc_mailbox.proofs.Keeping.{new_trays_are_kept}
 use Rattle.qc_mailbox.specs.Vocabulary.{Inboxes, IsKept, after_control, after_fall_by_line, after_phase, after_post_as}
 use Rattle.qc_mailbox.specs.Vocabulary.{after_rising_as, after_take, empty_inboxes, with_control_gone}
-use Rattle.laws_turns.proofs.Places.{slice_get-within}
 use Rattle.qc_link.specs.Vocabulary.{most_actors}
-use Rattle.qc_list.proofs.Members.{every-weaker}
+use Rattle.qc_list.proofs.Members.{every-weaker, every-front, every-back}
 use Rattle.laws_turns.proofs.Downs.{who_is_down_only_tells}
 use Rattle.laws_turns.proofs.Lived.{run_long}
-use Rattle.qc_msg.specs.Vocabulary.{Deed, Entry, HasRecord, IsByDisk, Rises, by, deeds, mail, marked, posted_as}
-use Rattle.qc_msg.specs.Vocabulary.{sends_as}
+use Rattle.qc_msg.specs.Vocabulary.{Deed, Entry, HasRecord, Rises, by, deeds, mail, marked, posted_as, sends_as}
 use Rattle.qc_msg.proofs.DeedsGrow.{deeds-append, deeds-rose}
 use Rattle.qc_msg.specs.declared.record.Record.{Record}
 use Rattle.qc_msg.specs.declared.step.Control.{Control}
 use Rattle.qc_msg.specs.declared.step.Control.TheVariants as controls
-use Rattle.qc_msg.specs.declared.step.Fall.{Fall}
 use Rattle.qc_msg.specs.declared.step.Fall.TheVariants as causes
 use Rattle.qc_msg.specs.declared.step.Step.TheVariants as steps
 use Rattle.qc_msg.specs.declared.turn.Appended.{Appended}
@@ -35,30 +32,12 @@ use Rattle.qc_msg.specs.declared.turn.Appended.TheVariants as ends
 use Rattle.qc_msg.specs.declared.turn.Posting.{Posting}
 use Rattle.qc_msg.specs.declared.turn.Turn.{Turn}
 use Rattle.qc_script.specs.Vocabulary.{IsControlFor, IsScriptFor, RunsWithFalls, begins, control, controls_left}
-use Rattle.qc_script.specs.Vocabulary.{damaged, falls, inbox, is_by_line, is_up, phase, phase_of, posts, rises, takes}
-use Rattle.qc_script.specs.Vocabulary.{unopened}
+use Rattle.qc_script.specs.Vocabulary.{damaged, falls, inbox, is_up, phase, phase_of, posts, rises, takes, unopened}
 use Rattle.qc_script.specs.declared.script.PhaseLines.{PhaseLines}
 use Rattle.qc_script.specs.declared.script.Script.{Script}
 use Rattle.laws_bounds.proofs.SettledLines.{lines_left}
-
-got_within : {A : Type 0} (xs : List A) (a : ℕ) (x : A) → slice_get xs a ≡ Some x → a < length xs
-got_within [] a x is = absurd (let never : ⊥ = cc in never)
-got_within (y ∷ ys) zero x is = omega arith
-got_within (y ∷ ys) (suc a) x is = let rest : a < length ys = got_within ys a x is in omega arith
-
-every_left : {A : Type 0} (P : A → Type 0) (xs ys : List A) → Every P (xs ++ ys) → Every P xs
-every_left P [] ys all = tt
-every_left P (x ∷ xs) ys all = (all.0, every_left P xs ys all.1)
-
-every_right : {A : Type 0} (P : A → Type 0) (xs ys : List A) → Every P (xs ++ ys) → Every P ys
-every_right P [] ys all = all
-every_right P (x ∷ xs) ys all = every_right P xs ys all.1
-
-by_disk_down : (up : Bool) (cause : Fall) → up ≡ false → IsByDisk cause → is_by_line up cause ≡ true
-by_disk_down true cause down disk = absurd (let never : ⊥ = cc in never)
-by_disk_down false causes.Script down disk = refl
-by_disk_down false causes.Stop down disk = refl
-by_disk_down false causes.Disk down disk = refl
+use Rattle.qc_list.proofs.Places.{place_within, some_at}
+use Rattle.qc_script.proofs.AllUp.{by_disk_down}
 
 -- what a turn sends goes to actors, for each end of its record
 post_receivers : (end : Appended) (turn : Turn) → Every (λ (p : Posting). p.to < most_actors) turn.sends
@@ -84,7 +63,7 @@ module _ (fits : ℕ → List Record → Type 0) (decl : Declaration) (script : 
   slot_within : (h : List Entry) (inputs : List Bool) → IsRun h inputs → (a : ℕ) (t : Bool)
       → slice_get inputs a ≡ Some t → a < most_actors
   slot_within h inputs run a t slot =
-      let low : a < length inputs = got_within inputs a t slot in
+      let low : a < length inputs = place_within inputs a t slot in
       let long : length inputs ≡ actors decl = run_long decl script fits few h inputs run in
       let most : actors decl ≤ most_actors = few in
       omega arith
@@ -145,38 +124,38 @@ module _ (fits : ℕ → List Record → Type 0) (decl : Declaration) (script : 
       → AreShown h
   runs_with_falls_have_trays h inputs begins fit = (empty_inboxes script, new_trays_are_kept script)
   runs_with_falls_have_trays h inputs (takes a g slots older run free rdy) fit =
-      let old : AreShown older = runs_with_falls_have_trays older slots run (every_left _ older _ fit) in (
+      let old : AreShown older = runs_with_falls_have_trays older slots run (every-front _ older _ fit) in (
         after_take old.0 a,
         inputs_keep_trays decl script older old.0 a g old.1 (slot_within older slots run a false free) rdy,
       )
   runs_with_falls_have_trays h inputs (posts a turn slots older run slot law) fit =
-      taken older slots run (every_left _ older _ fit)
-      (runs_with_falls_have_trays older slots run (every_left _ older _ fit)) a turn slot law
+      taken older slots run (every-front _ older _ fit)
+      (runs_with_falls_have_trays older slots run (every-front _ older _ fit)) a turn slot law
   runs_with_falls_have_trays h inputs (phase slots older run idle done quiet more) fit =
-      let old : AreShown older = runs_with_falls_have_trays older slots run (every_left _ older _ fit) in
+      let old : AreShown older = runs_with_falls_have_trays older slots run (every-front _ older _ fit) in
       let next : (lines : PhaseLines) × (slice_get script.phases (phase_of older) ≡ Some lines) =
-      slice_get-within script.phases (phase_of older) more in (
+      some_at script.phases (phase_of older) more in (
         after_phase old.0 next.0,
         phases_keep_trays script older old.0 (phase_of older) next.0 (controller decl) old.1 next.1,
       )
   runs_with_falls_have_trays h inputs (control line lines step slots older run left acts) fit =
-      let old : AreShown older = runs_with_falls_have_trays older slots run (every_left _ older _ fit) in
+      let old : AreShown older = runs_with_falls_have_trays older slots run (every-front _ older _ fit) in
       (after_control old.0 line, controls_keep_trays script older old.0 line step (controller decl) old.1 acts)
   runs_with_falls_have_trays h inputs (falls a lines slots older run left) fit =
-      let old : AreShown older = runs_with_falls_have_trays older slots run (every_left _ older _ fit) in (
+      let old : AreShown older = runs_with_falls_have_trays older slots run (every-front _ older _ fit) in (
         after_fall_by_line old.0 a,
         falls_by_lines_keep_trays script older old.0 a causes.Script None old.1
             (actor_within a (line_for older (controls.Crash a) lines left)) refl,
       )
   runs_with_falls_have_trays h inputs (rises a rs turn lines slots older run left fit_actor has law) fit =
-      risen older slots run (every_left _ older _ fit)
-      (runs_with_falls_have_trays older slots run (every_left _ older _ fit)) a rs turn lines left has
-      (every_right _ older (by a (steps.Rose rs ∷ posted_as turn.append (length (mail older)) turn)) fit).0 law
+      risen older slots run (every-front _ older _ fit)
+      (runs_with_falls_have_trays older slots run (every-front _ older _ fit)) a rs turn lines left has
+      (every-back _ older (by a (steps.Rose rs ∷ posted_as turn.append (length (mail older)) turn)) fit).0 law
   runs_with_falls_have_trays h inputs (damaged a offset lines slots older run left) fit =
-      let old : AreShown older = runs_with_falls_have_trays older slots run (every_left _ older _ fit) in
+      let old : AreShown older = runs_with_falls_have_trays older slots run (every-front _ older _ fit) in
       (with_control_gone old.0, damaged_journals_keep_trays script older old.0 a offset old.1)
   runs_with_falls_have_trays h inputs (unopened a cause lines slots older run left disk) fit =
-      let old : AreShown older = runs_with_falls_have_trays older slots run (every_left _ older _ fit) in
+      let old : AreShown older = runs_with_falls_have_trays older slots run (every-front _ older _ fit) in
       let down : is_up old.0.up a ≡ false = up_shown older old.0 old.1 a false
       (restarts_down (IsLawfulWithFalls decl) fits decl script older slots few run a lines left) in (
         after_fall_by_line old.0 a,

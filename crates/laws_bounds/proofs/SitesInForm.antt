@@ -36,9 +36,10 @@ use Rattle.qc_stamp.specs.declared.stamp.TxId.{TxId}
 use Rattle.qc_stamp.specs.Vocabulary.{same_tx}
 use Rattle.laws_bounds.proofs.Forms.{AnswerInForm, LineInForm, MessageInForm, OrdinalsInForm, PromiseInForm}
 use Rattle.laws_bounds.proofs.Forms.{SendsInForm, StartInForm, VerdictInForm, WantInForm, WriteInForm}
-use Rattle.laws_bounds.proofs.HeldInForm.{FoundInForm, HeldInForm, every-all_inserted, found_form, has_form, held_form}
-use Rattle.laws_bounds.proofs.HeldInForm.{lines_form, promises_held}
+use Rattle.laws_bounds.proofs.HeldInForm.{FoundInForm, HeldInForm, found_form, has_form, held_form, lines_form}
+use Rattle.laws_bounds.proofs.HeldInForm.{promises_held}
 use Rattle.laws_bounds.proofs.SiteCases.{site_cases}
+use Rattle.laws_bounds.proofs.HeldNamed.{every-all_inserted}
 
 pub record SiteInForm (s : SiteState) : Type 0 where
   pub epoch : IsWithin 1 8 s.epoch

@@ -1,7 +1,7 @@
 -- Through falls and rises a client, and the administrator, stand as their calls rely on, and what a site holds is of
 -- clients.
-use Rattle.std.proofs.Common.{◌≡◌, ◌⊎◌, ℕ, ◌-◌, ◌<◌, Bool, true, false, cond, List, [], ◌∷◌, ◌++◌, fold, Option, Some}
-use Rattle.std.proofs.Common.{None, inl, inr, refl, sym, ap, ◌∙◌, subst, append_assoc}
+use Rattle.std.proofs.Common.{◌≡◌, ◌⊎◌, ℕ, ◌-◌, ◌<◌, Bool, true, false, List, [], ◌∷◌, ◌++◌, fold, Option, Some, None}
+use Rattle.std.proofs.Common.{inl, inr, refl, sym, ap, ◌∙◌, subst, append_assoc}
 use Rattle.std.specs.List.{AllByRecursion as Every}
 use Rattle.std.proofs.lemmas.List.Sums.{fold-append}
 use Rattle.qc_list.specs.Vocabulary.{In}
@@ -18,7 +18,7 @@ use Rattle.qc_core.specs.Vocabulary.{ActorMove, IsFrom, IsLawfulWithFalls, Lives
 use Rattle.qc_core.specs.Vocabulary.{actor_rises, actor_takes, by_admin, by_client, down_takes, is_running, new_actor}
 use Rattle.qc_core.specs.Vocabulary.{runs_at, runs_given, with_record}
 use Rattle.qc_core.specs.Lives as lives
-use Rattle.qc_core.proofs.PostsByTurns.{after_takes, called_turn}
+use Rattle.qc_core.proofs.PostsByTurns.{called_turn}
 use Rattle.qc_core.proofs.ClientLands.{lands}
 use Rattle.qc_core.proofs.ClientReaches.{AskedFit, ClientReach, client_reach, new_asked, no_sites, sent_asked}
 use Rattle.qc_core.proofs.ClientStands.{Lands, Stands, new_stands, runs_told}
@@ -43,7 +43,9 @@ use Rattle.qc_recover.proofs.Promised.{each_promise}
 use Rattle.qc_site.specs.Vocabulary.{AreByClients, site_takes}
 use Rattle.laws_bounds.specs.Vocabulary.{IsOfClient, IsSound}
 use Rattle.qc_core.proofs.ByNumber.{new_by, rises_by}
-use Rattle.laws_bounds.proofs.TurnsPosted.{admin_turn, client_turn, down_turn, runs_event, runs_turn, site_turn}
+use Rattle.laws_bounds.proofs.TurnsPosted.{admin_turn, client_turn, down_turn, runs_event, site_turn}
+use Rattle.qc_core.proofs.ActorLaws.{input as after_takes}
+use Rattle.qc_core.proofs.ActorSent.{runs_turn}
 
 -- what holds of an actor between two inputs
 

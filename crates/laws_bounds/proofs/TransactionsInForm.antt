@@ -2,7 +2,7 @@
 -- told.
 use Rattle.std.proofs.Common.{◌≡◌, ℕ, zero, suc, ◌+◌, ◌≤◌, List, [], ◌∷◌, ◌++◌, length, replicate, Option, Some, None}
 use Rattle.std.proofs.Common.{option_map, refl, arith}
-use Rattle.std.specs.Prelude.{slice_get, slice_set, MatchOption, option_and_then}
+use Rattle.std.specs.Prelude.{slice_get, MatchOption, option_and_then}
 use Rattle.std.specs.List.{AllByRecursion as Every}
 use Rattle.std.specs.Option.{option_map_or}
 use Rattle.std.proofs.lemmas.List.{length-append}
@@ -20,17 +20,13 @@ use Rattle.qc_record.specs.Vocabulary.{IsOp, IsOwn}
 use Rattle.qc_view.specs.Vocabulary.{empty_view, with_log, with_own}
 use Rattle.qc_view.specs.declared.view.View.{View}
 use Rattle.laws_bounds.proofs.Forms.{CameInForm, EventInForm, InvocationInForm, LineInForm, LinesInForm, OrdinalsInForm}
+use Rattle.laws_bounds.proofs.Forms.{PromiseInForm}
 use Rattle.qc_front.specs.Answering.{with_granted}
 use Rattle.qc_msg.specs.Vocabulary.{granted_in, shut_in}
 use Rattle.qc_msg.specs.declared.payload.Snapshot.{Snapshot}
 use Rattle.qc_msg.specs.declared.payload.Grant.{Grant}
-use Rattle.laws_bounds.proofs.Forms.{PromiseInForm}
 use Rattle.laws_bounds.proofs.Options.{map_each, map_on}
-
-every-set : {A : Type 0} (P : A → Type 0) (xs : List A) (i : ℕ) (y : A) → P y → Every P xs → Every P (slice_set xs i y)
-every-set P [] i y here all = tt
-every-set P (x ∷ xs) zero y here all = (here, all.1)
-every-set P (x ∷ xs) (suc i) y here all = (all.0, every-set P xs i y here all.1)
+use Rattle.qc_list.proofs.Places.{every-set}
 
 -- what a commit reads of a client's transaction, of at most n operations
 pub record BegunInForm (client n : ℕ) (b : Begun) : Type 0 where

@@ -1,6 +1,6 @@
 -- A transaction that names declared things does so with what is granted to it, and with what is told.
 use Rattle.std.proofs.Common.{◌≡◌, ℕ, zero, suc, List, [], ◌∷◌, ◌++◌, replicate, Option, Some, None, option_map, refl}
-use Rattle.std.specs.Prelude.{slice_get, slice_set, MatchOption, option_and_then}
+use Rattle.std.specs.Prelude.{slice_get, MatchOption, option_and_then}
 use Rattle.std.specs.List.{AllByRecursion as Every}
 use Rattle.std.specs.Option.{option_map_or}
 use Rattle.qc_list.proofs.Members.{every-append, every-at, every-filter}
@@ -22,11 +22,7 @@ use Rattle.qc_msg.specs.Vocabulary.{granted_in, shut_in}
 use Rattle.qc_msg.specs.declared.payload.Snapshot.{Snapshot}
 use Rattle.qc_msg.specs.declared.payload.Grant.{Grant}
 use Rattle.laws_bounds.proofs.Options.{map_each, map_on}
-
-every-set : {A : Type 0} (P : A → Type 0) (xs : List A) (i : ℕ) (y : A) → P y → Every P xs → Every P (slice_set xs i y)
-every-set P [] i y here all = tt
-every-set P (x ∷ xs) zero y here all = (here, all.1)
-every-set P (x ∷ xs) (suc i) y here all = (all.0, every-set P xs i y here all.1)
+use Rattle.qc_list.proofs.Places.{every-set}
 
 module _ (decl : Declaration) where
   abbrev pub ViewsNamed : List View → Type 0

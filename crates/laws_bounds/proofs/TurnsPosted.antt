@@ -1,12 +1,11 @@
 -- What a turn's deeds leave: whether a command runs, and what an actor is.
 use Rattle.std.proofs.Common.{◌≡◌, ℕ, ◌+◌, Bool, false, List, [], ◌∷◌, ◌++◌, fold, Option, Some, None, refl, ap, ◌∙◌}
 use Rattle.std.proofs.lemmas.List.Sums.{fold-append}
-use Rattle.laws_due.proofs.Standing.{steady_client}
 use Rattle.qc_client.specs.Vocabulary.{ClientMove}
 use Rattle.qc_core.specs.declared.actor.Actor.TheVariants as actors
 use Rattle.qc_core.specs.Vocabulary.{ActorMove, actor_does, by_admin, by_client, by_site, is_running, moved, runs_at}
 use Rattle.qc_core.specs.Vocabulary.{runs_given}
-use Rattle.qc_core.proofs.ActorSent.{does_turn}
+use Rattle.qc_core.proofs.ActorSent.{does_turn, runs_turn}
 use Rattle.qc_core.proofs.ClientStands.{runs_told, sends_all}
 use Rattle.qc_core.proofs.Steady.{turn_steady}
 use Rattle.qc_decl.specs.declared.declaration.Declaration.{Declaration}
@@ -19,28 +18,9 @@ use Rattle.qc_msg.specs.Vocabulary.{Deed, Takes, sends_of, tells_of, turn_deeds,
 use Rattle.qc_admin.specs.Vocabulary.{sent_each}
 use Rattle.qc_epoch.specs.Vocabulary.{AdminMove, sent_one}
 use Rattle.qc_site.specs.Vocabulary.{SiteMove}
+use Rattle.qc_core.proofs.ActorLaws.{clients}
 
 -- whether a command runs, over a turn's deeds
-
-runs_writes : (r : Bool) (write : Option Record) → fold runs_at r (writes_of write) ≡ r
-runs_writes r None = refl
-runs_writes r (Some written) = refl
-
-runs_sends : (r : Bool) (first : ℕ) (ps : List Posting) → fold runs_at r (sends_of first ps) ≡ r
-runs_sends r first [] = refl
-runs_sends r first (p ∷ ps) = runs_sends r (first + 1) ps
-
-runs_tells : (r : Bool) (told : Option Reply) → fold runs_at r (tells_of told) ≡ runs_told r told
-runs_tells r None = refl
-runs_tells r (Some reply) = refl
-
-pub runs_turn : (r : Bool) (first : ℕ) (turn : Turn) → fold runs_at r (turn_deeds first turn) ≡ runs_told r turn.told
-runs_turn r first turn =
-    fold-append runs_at r (writes_of turn.write) (sends_of first turn.sends ++ tells_of turn.told)
-    ∙ ap (λ (v : Bool). fold runs_at v (sends_of first turn.sends ++ tells_of turn.told)) (runs_writes r turn.write)
-    ∙ fold-append runs_at r (sends_of first turn.sends) (tells_of turn.told)
-    ∙ ap (λ (v : Bool). fold runs_at v (tells_of turn.told)) (runs_sends r first turn.sends)
-    ∙ runs_tells r turn.told
 
 pub runs_event : (ds : List Deed) (g : Input) (first : ℕ) (turn : Turn)
     → is_running ((ds ++ Takes g ∷ []) ++ turn_deeds first turn) ≡ runs_told (runs_given (is_running ds) g) turn.told
@@ -109,5 +89,5 @@ module _ (decl : Declaration) (a : ℕ) where
       → Does (by_client m) (turn_deeds first turn) ≡ by_client
       (record m { client = sends_all m.client first turn.sends })
   client_turn m first turn =
-      steady_client decl a m (turn_deeds first turn) (turn_steady first turn)
+      clients decl a m (turn_deeds first turn) (turn_steady first turn)
       ∙ ap (λ (v : ClientMove). by_client v) (does_turn decl m first turn)

@@ -11,7 +11,6 @@ use Rattle.qc_table.specs.declared.kind.Kind.{Kind}
 use Rattle.qc_decl.specs.Vocabulary.{IsAccepted, administrator, is_client, kind_at, object_named, plan_in}
 use Rattle.qc_decl.specs.declared.declaration.Declaration.{Declaration}
 use Rattle.laws_turns.specs.Vocabulary.{AreAskable, AsksDeclared, IsAskable}
-use Rattle.laws_turns.proofs.Places.{slice_get-within}
 use Rattle.qc_msg.specs.declared.step.Command.{Command}
 use Rattle.qc_script.proofs.SoundScripts.{scripts_name_what_is_declared}
 use Rattle.qc_script.specs.Vocabulary.{IsAskedFor, IsCommandFor, IsPhaseFor, IsScriptFor, script_of}
@@ -22,6 +21,7 @@ use Rattle.laws_due.specs.Vocabulary.{AsksEpochs, IsEpoch}
 use Rattle.laws_turns.proofs.ReadingCases.{matched_by}
 use Rattle.qc_msg.specs.Vocabulary.{Invocation, do_in, epoch_in}
 use Rattle.qc_script.specs.Sound.{IsInv, IsObject}
+use Rattle.qc_list.proofs.Places.{some_at}
 
 -- the administrator is no client
 no_client : (decl : Declaration) (actor : ℕ) → actor ≡ administrator decl → is_client decl actor ≡ false
@@ -39,9 +39,9 @@ module _ (decl : Declaration) (accepted : IsAccepted decl) where
       let low : object < length decl.object_names = (position-Some (bytes_eq name) decl.object_names object [] is).0 in
       let many : length decl.object_names ≡ length decl.objects = accepted.object_names.count in
       let number : (number : ℕ) × (slice_get decl.objects object ≡ Some number) =
-      slice_get-within decl.objects object (omega arith) in
+      some_at decl.objects object (omega arith) in
       let kind : (kind : Kind) × (slice_get decl.kinds number.0 ≡ Some kind) =
-      slice_get-within decl.kinds number.0 (accepted.typed object number.0 number.1) in
+      some_at decl.kinds number.0 (accepted.typed object number.0 number.1) in
       ap is_some (ap (option_and_then (slice_get decl.kinds)) number.1 ∙ kind.1)
 
   -- an epoch of a declared number has a plan
@@ -52,7 +52,7 @@ module _ (decl : Declaration) (accepted : IsAccepted decl) where
       by true is = absurd (let none : number ≡ 0 = eqb-true number 0 is in let never : ⊥ = omega arith in never)
       by false is =
           ap (λ (b : Bool). is_some (cond b None (slice_get decl.plans (number - 1)))) is
-          ∙ ap is_some (slice_get-within decl.plans (number - 1) (omega arith)).1
+          ∙ ap is_some (some_at decl.plans (number - 1) (omega arith)).1
 
   askable : (actor : ℕ) (c : Command) → IsAskedFor decl actor c → IsAskable decl actor c
   askable actor c is =

@@ -12,8 +12,8 @@ use Rattle.qc_stamp.proofs.Orders.{other_tx_sym, same_tx_itself}
 use Rattle.qc_msg.specs.declared.message.Answer.{Answer}
 use Rattle.qc_promise.specs.Vocabulary.{AdminRequest, AdminWant, Ask, Promised, is_among, is_ask_of}
 use Rattle.qc_epoch.specs.Vocabulary.{Question, outcome_in}
-use Rattle.laws_due.proofs.AdminQuestions.{AreAbout, AreDistinct, about, asked_of, heard, heard_is, or_parts}
-use Rattle.laws_due.proofs.AdminQuestions.{outcome_of}
+use Rattle.laws_due.proofs.AdminQuestions.{AreAbout, AreDistinct, about, asked_of, heard, heard_is, outcome_of}
+use Rattle.qc_list.proofs.Booleans.{or_parts}
 
 -- each question is answered as the request about its transaction is
 

@@ -5,7 +5,6 @@ use Rattle.std.proofs.Common.{eq-eqb, inl, inr}
 use Rattle.std.specs.Prelude.{is_some, nat_lt, option_and_then}
 use Rattle.std.specs.Option.{option_map_or}
 use Rattle.std.proofs.lemmas.List.{map-append}
-use Rattle.qc_list.specs.Vocabulary.{In}
 use Rattle.qc_decl.specs.declared.declaration.Declaration.{Declaration}
 use Rattle.qc_decl.specs.Vocabulary.{plan_in}
 use Rattle.qc_plan.specs.declared.plan.Plan.{Plan}
@@ -29,11 +28,7 @@ use Rattle.laws_due.proofs.Halves.{drop_last}
 use Rattle.laws_due.proofs.PlainRounds.{ArePlain}
 use Rattle.laws_due.proofs.PlainRounds as rounds
 use Rattle.laws_due.proofs.AnswersDue.{apart_cyclic}
-
-pub in_map : {A B : Type 0} (f : A → B) (x : A) (xs : List A) → In x xs → In (f x) (map f xs)
-in_map f x [] among = absurd among
-in_map f x (y ∷ ys) (inl same) = inl (ap f same)
-in_map f x (y ∷ ys) (inr among) = inr (in_map f x ys among)
+use Rattle.qc_list.proofs.Members.{In-map}
 
 apart_weighing : (weights : List ℕ) → AreApart (weighing weights (cyclic (length weights) 0))
 apart_weighing weights = apart_filter (λ (site : ℕ). nat_lt 0 (weight_at weights site)) (cyclic (length weights) 0)
@@ -121,9 +116,9 @@ noted number site answer (q ∷ cs) sites numbers c = elim c.among [
         → note_in site (standing_for answer) (map close_asked (q ∷ cs)) ≡ map close_asked (takes number answer (q ∷ cs))
     there f more =
         let other_site : q.to ≢ site = λ same. sites.0 f.request.to
-        (in_map (λ (x : AdminRequest). x.to) f.request cs f.among) (same ∙ sym f.to_is) in
+        (In-map (λ (x : AdminRequest). x.to) f.request cs f.among) (same ∙ sym f.to_is) in
         let other_number : q.number ≢ number = λ same. numbers.0 f.request.number
-        (in_map (λ (x : AdminRequest). x.number) f.request cs f.among) (same ∙ sym f.number_is) in
+        (In-map (λ (x : AdminRequest). x.number) f.request cs f.among) (same ∙ sym f.number_is) in
         ap (λ (b : Bool). cond b (record { site = site; standing = Some (standing_for answer) } ∷ map close_asked cs)
         (close_asked q ∷ note_in site (standing_for answer) (map close_asked cs))) (differ q.to site other_site)
         ∙ (λ i. close_asked (sym (other_taken number answer q other_number) i) ∷ more i)

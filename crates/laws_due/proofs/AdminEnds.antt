@@ -18,7 +18,6 @@ use Rattle.qc_decl.specs.declared.declaration.Declaration.{Declaration}
 use Rattle.qc_epoch.specs.Vocabulary.{Admin}
 use Rattle.laws_turns.specs.Vocabulary.{AsksDeclared, IsAtReceiver, IsAwaited, IsQuiet, IsTaken, LivesIn, calls_of}
 use Rattle.laws_turns.proofs.Lived.{actors_live_in_runs_with_falls}
-use Rattle.laws_turns.proofs.SoundClients.{front_part}
 use Rattle.qc_link.specs.Vocabulary.{most_actors}
 use Rattle.qc_msg.specs.Vocabulary.{Deed, Entry, MayEnd, Rises, Takes, by, deeds, deeds_as, mail, posted_as}
 use Rattle.qc_msg.specs.declared.record.Record.{Record}
@@ -45,10 +44,12 @@ use Rattle.laws_due.proofs.AdminRest.{IsAtRest, Stands, account_is, actor_more}
 use Rattle.laws_due.proofs.Administrators.{run_admin_due, some_site}
 use Rattle.laws_due.proofs.AwaitedWithFalls.{his_requests_awaited}
 use Rattle.laws_due.proofs.Calling.{calls_are_asked_with_falls}
-use Rattle.laws_due.proofs.EndsWithFalls.{RestsAtEnds, copies_none, free, idle_of, losts_none, no_members}
+use Rattle.laws_due.proofs.EndsWithFalls.{RestsAtEnds, copies_none, free, idle_of, losts_none}
 use Rattle.laws_due.proofs.Ordered.{run_in_order}
-use Rattle.laws_due.proofs.Places.{apart, few_actors}
 use Rattle.laws_due.proofs.AdminOrders.{no_command, done_ordered, broken_ordered, due_second, command_of, asked_phases}
+use Rattle.qc_list.proofs.Numbers.{numbers_apart}
+use Rattle.qc_list.proofs.Members.{every-front, In-none}
+use Rattle.qc_decl.proofs.Clients.{few_actors}
 
 module _ (decl : Declaration) (script : Script) (accepted : IsAccepted decl) (asks : AsksDeclared decl script)
     (fits : ℕ → List Record → Type 0) (known : AsksKnown fits decl script) (epochs : AsksEpochs decl script) where
@@ -66,7 +67,7 @@ module _ (decl : Declaration) (script : Script) (accepted : IsAccepted decl) (as
   epochs_called : (h : List Entry) (open_inputs : List Bool) → IsRun h open_inputs
       → Every IsEpoch (calls_of (administrator decl) h)
   epochs_called h open_inputs run =
-      front_part IsEpoch (calls_of (administrator decl) h) (inbox script (administrator decl) h).commands
+      every-front IsEpoch (calls_of (administrator decl) h) (inbox script (administrator decl) h).commands
       (subst (Every IsEpoch)
       (sym (calls_are_asked_with_falls (IsLawfulWithFalls decl) fits decl script
       (administrator decl) h open_inputs run))
@@ -104,7 +105,7 @@ module _ (decl : Declaration) (script : Script) (accepted : IsAccepted decl) (as
         → (actor_after decl (administrator decl) (deeds (administrator decl) [] h)).actor ≡ actors.Admin m
         → open_numbers m.doing ≡ []
     none_open m is =
-        no_members (open_numbers m.doing)
+        In-none (open_numbers m.doing)
         (λ k member. not_awaited k (his_requests_awaited decl script fits few h open_inputs run m is k member))
 
     pub none_runs : is_running (deeds (administrator decl) [] h) ≡ false
@@ -212,7 +213,7 @@ module _ (decl : Declaration) (script : Script) (accepted : IsAccepted decl) (as
   his_order h open_inputs run =
       run_in_order decl script fits (administrator decl) (record {
         other =
-            apart (controller decl) (administrator decl)
+            numbers_apart (controller decl) (administrator decl)
             (λ same. (let is : decl.sites + decl.clients + 1 ≡ decl.sites + decl.clients = same in omega arith));
         idle =
             λ older before r line lines left. idle_of decl script accepted asks fits (administrator decl) his_none_runs

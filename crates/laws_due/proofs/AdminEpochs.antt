@@ -33,7 +33,7 @@ use Rattle.qc_recover.specs.Admins.{keeps, kept_by}
 use Rattle.std.specs.Prelude.{◌++◌, fold, MatchOption, is_none}
 use Rattle.laws_turns.proofs.ReadingCases.{mapped, mapped_by}
 use Rattle.laws_turns.proofs.ClientCases.{command_cases}
-use Rattle.laws_turns.proofs.StampsOwn.{by_two}
+use Rattle.qc_list.proofs.Booleans.{if_two}
 
 -- what he is asked for
 
@@ -249,7 +249,7 @@ module _ (decl : Declaration) (m : Admin) (w : AdminPlanned decl m) where
 
   pub sent_planned : (number to : ℕ) (message : Message) → AdminPlanned decl (admins.sent_one m number to message)
   sent_planned number to message =
-      by_two (AdminPlanned decl) (wants_answer message && is_none (request_in message))
+      if_two (AdminPlanned decl) (wants_answer message && is_none (request_in message))
       (admins.doing m (admins.requested m.doing number to)) m
       (record { decided = w.decided; doing = requested_planned m.doing number to w.doing }) w
 

@@ -22,12 +22,13 @@ use Rattle.qc_promise.specs.Vocabulary.{AdminAccount, AreAdminDeedsDue, IsAdminR
 use Rattle.qc_promise.specs.Vocabulary.{admin_account_at, admin_due, admin_taken, decided_for, epoch_row, pending_next}
 use Rattle.qc_epoch.specs.Vocabulary.{admin_takes}
 use Rattle.qc_admin.specs.Vocabulary.{sent_each}
-use Rattle.laws_due.proofs.Standing.{no_act, none_follows, steady_up}
+use Rattle.laws_due.proofs.Standing.{no_act, none_follows}
 use Rattle.laws_due.proofs.AdminStages.{Ties}
 use Rattle.laws_due.proofs.AdminGoes.{Fails, Goes}
 use Rattle.laws_due.proofs.AdminCommands.{takes_go}
 use Rattle.laws_due.proofs.AdminRest.{IsAtRest, IsFallen, IsTied, account_is, account_more, actor_more, event_due}
 use Rattle.laws_due.proofs.AdminRest.{input_due, turn_actor, up_more}
+use Rattle.qc_core.proofs.LivesOfActors.{steady_from}
 
 module _ (decl : Declaration) (some : (decl.sites == 0) ≡ false) where
   -- an input while he is up
@@ -53,7 +54,7 @@ module _ (decl : Declaration) (some : (decl.sites == 0) ≡ false) where
       up = true;
       is =
           up_more decl (ds ++ Takes g ∷ []) (turn_deeds first (admin_takes decl s.state g).turn)
-          ∙ steady_up (is_up (ds ++ Takes g ∷ [])) (turn_deeds first (admin_takes decl s.state g).turn)
+          ∙ steady_from (is_up (ds ++ Takes g ∷ [])) (turn_deeds first (admin_takes decl s.state g).turn)
           (turn_steady first (admin_takes decl s.state g).turn)
           ∙ up_more decl ds (Takes g ∷ []) ∙ r.is ∙ same;
       due =

@@ -9,7 +9,8 @@ use Rattle.qc_promise.specs.Vocabulary.{AdminRequest, answer_to, site_set}
 use Rattle.qc_epoch.specs.Vocabulary.{with_installed}
 use Rattle.laws_due.specs.Vocabulary.{AreApart}
 use Rattle.laws_due.proofs.AdminRequests.{IsCalled, numbers_of, others_taken, other_taken, takes, this_taken, took}
-use Rattle.laws_due.proofs.AdminCloses.{in_map}
+use Rattle.qc_list.proofs.Numbers.{zero_first}
+use Rattle.qc_list.proofs.Members.{In-map}
 
 abbrev pub has : AdminRequest → Bool
 has q = option_map_or has_installed (answer_to q) false
@@ -62,9 +63,6 @@ has_took : (q : AdminRequest) (answer : Option Answer) → has (took q answer) �
 has_took q None = refl
 has_took q (Some x) = refl
 
-zero_first : (b : ℕ) → 0 + b ≡ b
-zero_first b = omega arith
-
 set_first : (q : AdminRequest) (is : List AdminRequest)
     → site_set (installed_of (q ∷ is)) ≡ weight_if (has q) q.to + site_set (installed_of is)
 set_first q is = by (has q)
@@ -115,7 +113,7 @@ installed_taken number site answer (q ∷ is) numbers c = elim c.among [
         (told answer) site
     there f more =
         let other_number : q.number ≢ number = λ same. numbers.0 f.request.number
-        (in_map (λ (v : AdminRequest). v.number) f.request is f.among) (same ∙ sym f.number_is) in
+        (In-map (λ (v : AdminRequest). v.number) f.request is f.among) (same ∙ sym f.number_is) in
         ap (λ (v : AdminRequest). site_set (installed_of (v ∷ takes number answer is)))
         (other_taken number answer q other_number)
         ∙ set_first q (takes number answer is)

@@ -7,7 +7,6 @@ use Rattle.std.proofs.lemmas.Bool.{eqb-true}
 use Rattle.qc_decl.specs.Vocabulary.{administrator}
 use Rattle.qc_decl.specs.declared.declaration.Declaration.{Declaration}
 use Rattle.laws_turns.specs.Vocabulary.{asked_in_all, call_in}
-use Rattle.laws_turns.proofs.Mailed.{both_all}
 use Rattle.qc_msg.specs.Vocabulary.{Deed, Falls, Rises, Sends, Takes, Tells, Writes, by, deeds_as, epoch_in, sends_of}
 use Rattle.qc_msg.specs.Vocabulary.{tells_of, writes_of}
 use Rattle.qc_msg.specs.declared.record.Record.{Record}
@@ -25,6 +24,7 @@ use Rattle.qc_script.specs.declared.script.PhaseLines.{PhaseLines}
 use Rattle.laws_due.specs.Vocabulary.{AreInOrder, IsEpoch}
 use Rattle.laws_due.proofs.AdminRunning.{heard_command, sent_command, written_command}
 use Rattle.laws_due.proofs.Ordered.{sends_ordered}
+use Rattle.qc_list.proofs.Members.{every-append}
 
 -- his commands are epochs
 
@@ -82,7 +82,7 @@ module _ (decl : Declaration) where
   asked_phases [] (suc k) all = tt
   asked_phases (p ∷ phases) zero all = tt
   asked_phases (p ∷ phases) (suc k) all =
-      both_all IsEpoch (commands_for (administrator decl) p.commands)
+      every-append IsEpoch (commands_for (administrator decl) p.commands)
       (asked_in_all (administrator decl) (take k phases)) (asked_line p.commands all.0) (asked_phases phases k all.1)
 
 -- replies that are due are told while a command runs

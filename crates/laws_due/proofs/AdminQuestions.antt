@@ -21,6 +21,7 @@ use Rattle.qc_epoch.specs.Vocabulary.{Question, is_questioned, numbered_first, o
 use Rattle.qc_epoch.specs.Vocabulary.{stamp_of, taken_for, with_question, with_questions}
 use Rattle.laws_due.proofs.AdminRequests.{took, takes, wanting}
 use Rattle.laws_due.proofs.AdminShuts.{to_shut}
+use Rattle.qc_list.proofs.Booleans.{or_parts}
 
 -- those that these Closes told of, each once
 abbrev pub promised_of : List AdminRequest → List Promised
@@ -88,10 +89,6 @@ questions_are cs = all_questions (filter_map told_shut cs) [] ∙ sym (none_aske
 abbrev pub AreDistinct : List Promised → Type 0
 AreDistinct [] = Unit {0}
 AreDistinct (p ∷ ps) = (is_among ps p.tx ≡ false) × AreDistinct ps
-
-pub or_parts : (a b : Bool) → (a || b) ≡ false → (a ≡ false) × (b ≡ false)
-or_parts true b is = absurd (let never : ⊥ = cc in never)
-or_parts false b is = (refl, is)
 
 among_more : (ps : List Promised) (p : Promised) (tx : TxId) → is_among ps tx ≡ false → same_tx p.tx tx ≡ false
     → is_among (ps ++ p ∷ []) tx ≡ false

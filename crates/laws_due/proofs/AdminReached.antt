@@ -33,12 +33,13 @@ use Rattle.qc_site.specs.Vocabulary.{SiteMove, SiteState, passed, site_at}
 use Rattle.laws_due.specs.Vocabulary.{AsksKnown, IsKnown}
 use Rattle.laws_due.proofs.AdminSends.{GoesHis, post_goes, rise_goes, run_goes}
 use Rattle.laws_due.proofs.AdminSited.{GoWell, GoesWell}
-use Rattle.laws_due.proofs.Places.{apart, few_actors}
 use Rattle.laws_due.proofs.Taken.{AreReplied, IsReplied, RepliesTo}
 use Rattle.laws_due.proofs.Reached.{unanswered_at_receiver}
 use Rattle.laws_due.proofs.SiteTurns.{IsSomeClient, IsSomeSite, client_up, site_up}
 use Rattle.laws_due.proofs.Somewhere.{AreToOthers, IsOther}
 use Rattle.laws_due.proofs.AskingCases.{asking_cases}
+use Rattle.qc_list.proofs.Numbers.{numbers_apart}
+use Rattle.qc_decl.proofs.Clients.{few_actors}
 
 known_posts : (decl : Declaration) (b n : ℕ) (ps : List Posting)
     → Every (λ (e : Envelope). IsKnown decl e.message) (envelopes b n ps)
@@ -64,7 +65,7 @@ module _ (decl : Declaration) (script : Script) (accepted : IsAccepted decl) (fi
   to_site : (to : ℕ) → to < decl.sites → IsOther (administrator decl) to
   to_site to is = (
     (let all : decl.sites + decl.clients + 1 ≤ most_actors = few in omega arith),
-    apart to (administrator decl) (λ same. (let less : to < decl.sites = is in
+    numbers_apart to (administrator decl) (λ same. (let less : to < decl.sites = is in
         let equal : to ≡ decl.sites + decl.clients = same in omega arith)),
   )
 
@@ -72,7 +73,7 @@ module _ (decl : Declaration) (script : Script) (accepted : IsAccepted decl) (fi
   to_client to client is less = (
     (let all : decl.sites + decl.clients + 1 ≤ most_actors = few in let at : to ≡ decl.sites + client = is in
         omega arith),
-    apart to (administrator decl) (λ same. (let at : to ≡ decl.sites + client = is in
+    numbers_apart to (administrator decl) (λ same. (let at : to ≡ decl.sites + client = is in
         let equal : to ≡ decl.sites + decl.clients = same in omega arith)),
   )
 

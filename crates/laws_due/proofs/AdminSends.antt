@@ -13,7 +13,6 @@ use Rattle.qc_core.specs.Vocabulary.{moved, new_actor, with_record}
 use Rattle.qc_decl.specs.Vocabulary.{IsAccepted, administrator, controller}
 use Rattle.qc_decl.specs.declared.declaration.Declaration.{Declaration}
 use Rattle.qc_epoch.specs.Vocabulary.{admin_takes}
-use Rattle.laws_turns.proofs.Mailed.{both_all}
 use Rattle.qc_msg.specs.Vocabulary.{Deed, Entry, Falls, Rises, Sends, Takes, Tells, Writes, by, deeds, envelopes, mail}
 use Rattle.qc_msg.specs.Vocabulary.{marked, posted_as, quiet, sends_as}
 use Rattle.qc_msg.specs.declared.message.Envelope.{Envelope}
@@ -36,6 +35,7 @@ use Rattle.qc_script.specs.Vocabulary.{posts, rises, takes, unopened}
 use Rattle.qc_script.specs.declared.script.Script.{Script}
 use Rattle.laws_due.proofs.AdminSited.{GoWell, GoesWell, IsSited, Sited, sent_sited, takes_sited}
 use Rattle.laws_turns.proofs.StepCases.{controller_cases}
+use Rattle.qc_list.proofs.Members.{every-append}
 
 module _ (decl : Declaration) (accepted : IsAccepted decl) where
   -- over his deeds
@@ -134,7 +134,7 @@ module _ (decl : Declaration) (accepted : IsAccepted decl) where
   posted_goes b n (p ∷ ps) are = ((λ is. (are is).0), posted_goes b (n + 1) ps (λ is. (are is).1))
 
   more_goes : (h k : List Entry) → GoHis (mail h) → GoHis (mail k) → GoHis (mail (h ++ k))
-  more_goes h k one two = subst GoHis (sym (mail-append h k)) (both_all GoesHis (mail h) (mail k) one two)
+  more_goes h k one two = subst GoHis (sym (mail-append h k)) (every-append GoesHis (mail h) (mail k) one two)
 
   module _ (script : Script) (fits : ℕ → List Record → Type 0) where
     line_goes : (b : ℕ) (line : Control) (step : Step) → controller_step line ≡ Some step

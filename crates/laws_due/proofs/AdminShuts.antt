@@ -17,7 +17,7 @@ use Rattle.qc_epoch.specs.Vocabulary.{ShutSite, in_asked_order, shut_at, shut_li
 use Rattle.laws_due.specs.Vocabulary.{AreApart}
 use Rattle.laws_due.proofs.AdminRequests.{IsCalled, differ, numbers_of, others_taken, other_taken, sites_of, takes}
 use Rattle.laws_due.proofs.AdminRequests.{this_taken, took}
-use Rattle.laws_due.proofs.AdminCloses.{in_map}
+use Rattle.qc_list.proofs.Members.{In-map}
 
 abbrev pub to_shut : ToldShut → ShutSite
 to_shut t = record { site = t.site; clock = t.told.clock; log = t.told.log; prepared = t.told.prepared }
@@ -141,7 +141,7 @@ each_told (p ∷ cs) apart q among =
           ∙ subst (λ (x : AdminRequest). shut_at (shut_list (shut_by x)) q.to ≡ shut_by q) same (itself q)
       | inr later ↦
           ap (λ (o : Option ShutSite). option_or o (shut_at (shuts_of cs) q.to))
-          (other_site p q.to (λ same. apart.0 q.to (in_map (λ (x : AdminRequest). x.to) q cs later) (sym same)))
+          (other_site p q.to (λ same. apart.0 q.to (In-map (λ (x : AdminRequest). x.to) q cs later) (sym same)))
           ∙ each_told cs apart.1 q later
     ]
 
@@ -225,7 +225,7 @@ told_more number site answer (q ∷ cs) sites numbers c x = elim c.among [
         (shut_at (shut_list (shut_from site answer)) x)
     there f more =
         let other_number : q.number ≢ number = λ same. numbers.0 f.request.number
-        (in_map (λ (v : AdminRequest). v.number) f.request cs f.among) (same ∙ sym f.number_is) in
+        (In-map (λ (v : AdminRequest). v.number) f.request cs f.among) (same ∙ sym f.number_is) in
         ap (λ (v : List ShutSite). shut_at v x)
         (ap (λ (v : AdminRequest). shuts_of (v ∷ takes number answer cs)) (other_taken number answer q other_number)
         ∙ shuts_first q (takes number answer cs))

@@ -30,8 +30,8 @@ use Rattle.qc_plan.specs.declared.plan.Plan.{Plan}
 use Rattle.qc_plan.specs.declared.standing.Verdict.{Verdict}
 use Rattle.qc_plan.specs.declared.standing.Verdict.TheVariants as verdicts
 use Rattle.laws_turns.proofs.ReadingCases.{mapped}
-use Rattle.laws_turns.proofs.StampsOwn.{by_two}
 use Rattle.qc_stamp.specs.declared.stamp.TxId.{TxId}
+use Rattle.qc_list.proofs.Booleans.{if_two}
 
 -- where a message of his goes
 
@@ -202,5 +202,5 @@ module _ (decl : Declaration) (accepted : IsAccepted decl) where
     pub sent_sited : (n to : ℕ) (message : Message) → IsSited decl m.doing
         → IsSited decl (sent_one m n to message).doing
     sent_sited n to message state =
-        by_two (λ (x : Admin). IsSited decl x.doing) (wants_answer message && is_none (request_in message))
+        if_two (λ (x : Admin). IsSited decl x.doing) (wants_answer message && is_none (request_in message))
         (doing m (requested m.doing n to)) m (requested_sited m.doing n to state) state

@@ -4,7 +4,6 @@ use Rattle.std.proofs.Common.{subst, eqb-true, arith}
 use Rattle.qc_core.specs.Vocabulary.{IsLawfulWithFalls, Lives}
 use Rattle.qc_decl.specs.Vocabulary.{actors, administrator}
 use Rattle.qc_decl.specs.declared.declaration.Declaration.{Declaration}
-use Rattle.laws_turns.proofs.Places.{slice_get-within}
 use Rattle.qc_link.specs.Vocabulary.{most_actors}
 use Rattle.laws_turns.specs.Vocabulary.{LivesIn}
 use Rattle.laws_turns.proofs.Lived.{actors_live_in_runs_with_falls, run_long}
@@ -14,6 +13,7 @@ use Rattle.qc_promise.specs.Vocabulary.{IsAdminDue}
 use Rattle.qc_script.specs.Vocabulary.{RunsWithFalls}
 use Rattle.qc_script.specs.declared.script.Script.{Script}
 use Rattle.laws_due.proofs.AdminLives.{admin_due_in}
+use Rattle.qc_list.proofs.Places.{some_at}
 
 -- there is a site to install
 pub some_site : (decl : Declaration) → 0 < decl.sites → (decl.sites == 0) ≡ false
@@ -32,7 +32,7 @@ pub run_admin_due : (decl : Declaration) (script : Script) (fits : ℕ → List 
     → RunsWithFalls (IsLawfulWithFalls decl) fits decl script h open_inputs
     → IsAdminDue decl (deeds (administrator decl) [] h)
 run_admin_due decl script fits some few h open_inputs run =
-    on (slice_get-within open_inputs (administrator decl) placed)
+    on (some_at open_inputs (administrator decl) placed)
   where
     placed : administrator decl < length open_inputs
     placed = subst (λ (n : ℕ). administrator decl < n) (sym (run_long decl script fits few h open_inputs run))

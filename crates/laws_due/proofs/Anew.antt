@@ -30,7 +30,7 @@ heard_client d m =
     mapped (λ (e : Account). e.client ≡ d.client) (λ (a : Answered). counted d a.to (Some a.answer)) d (answer_in m)
     (λ a. counted_client d a.to (Some a.answer)) refl
 
-written_client : (d : Account) (w : Record) → (account_written d w).client ≡ d.client
+pub written_client : (d : Account) (w : Record) → (account_written d w).client ≡ d.client
 written_client d w = written_cases d (λ (e : Account). e.client ≡ d.client) refl refl (λ commit. refl) w
 
 module _ (decl : Declaration) where

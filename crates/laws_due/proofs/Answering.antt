@@ -2,7 +2,6 @@
 use Rattle.std.proofs.Common.{◌≡◌, ℕ, ◌+◌, ◌-◌, ◌==◌, ◌⊎◌, ◌&&◌, not, Bool, true, false, if◌then◌else◌, inl, inr, List}
 use Rattle.std.proofs.Common.{[], ◌∷◌, ◌++◌, slice_get, refl, sym, subst}
 use Rattle.std.specs.Prelude.{set, MatchOption}
-use Rattle.std.proofs.lemmas.Bool.{eq-eqb, eqb-true}
 use Rattle.qc_list.specs.Vocabulary.{In}
 use Rattle.qc_list.proofs.Members.{In-more, In-passes, In-second, In-unfiltered}
 use Rattle.laws_turns.proofs.Answering.{copies_stay, cuts_copies, cuts_unanswered, own_fate, phase_copies}
@@ -25,10 +24,8 @@ use Rattle.qc_msg.specs.Vocabulary.{received_in}
 use Rattle.laws_turns.proofs.ReadingCases.{mapped}
 use Rattle.qc_msg.specs.declared.step.Command.{Command}
 use Rattle.laws_due.proofs.InboxCases.{inbox_cases}
-
-which : {A : Type 0} (P : A → Type 0) (t : Bool) (x y : A) → P x → P y → P (if t then x else y)
-which P true x y here there = here
-which P false x y here there = there
+use Rattle.qc_list.proofs.Booleans.{if_two}
+use Rattle.qc_list.proofs.Numbers.{test_turned}
 
 -- no more is unanswered, as a message comes
 
@@ -36,7 +33,7 @@ abbrev Fewer : Inbox → Inbox → Type 0
 Fewer i j = (r : SentRequest) → In r j.unanswered → In r i.unanswered
 
 answered_fewer : (i : Inbox) (to : ℕ) (f : Fate) → Fewer i (request_answered i to f)
-answered_fewer i to f = which (Fewer i) (has_request i.unanswered to) _ i
+answered_fewer i to f = if_two (Fewer i) (has_request i.unanswered to) _ i
     (λ r member. In-unfiltered (λ (x : SentRequest). not (x.number == to)) r i.unanswered member) (λ r member. member)
 
 message_fewer : (i : Inbox) (m : Message) (f : Fate) → Fewer i (answers_by i m f)
@@ -47,7 +44,7 @@ message_fewer i m f =
 module _ (script : Script) (a : ℕ) (i : Inbox) (e : Envelope) where
   comes_fewer : Fewer i (comes script.links a i e)
   comes_fewer =
-      which (Fewer i) (e.to == a) _ i
+      if_two (Fewer i) (e.to == a) _ i
       (message_fewer (with_copies (is_up i.up a) i e
       (fate script.links i.cuts e.from e.to (count_of i.from_each e.from + 1))) e.message
       (fate script.links i.cuts e.from e.to (count_of i.from_each e.from + 1)))
@@ -136,7 +133,7 @@ module _ (script : Script) (a : ℕ) (i : Inbox) (e : Envelope) where
       kept : (m : Message) → In e (answers_by j m f).copies
       kept m =
           mapped (λ (k : Inbox). In e k.copies) (λ (a : Answered). request_answered j a.to f) j (answer_in m)
-          (λ a. which (λ (k : Inbox). In e k.copies) (has_request j.unanswered a.to) _ j ready ready) ready
+          (λ a. if_two (λ (k : Inbox). In e k.copies) (has_request j.unanswered a.to) _ j ready ready) ready
 
 -- falls
 
@@ -169,7 +166,7 @@ acted_copies a i x member = cuts_copies a i i.cuts x member
 pub after_fall : (script : Script) (a : ℕ) (i : Inbox) (b : ℕ) (cause pending : _) (r : SentRequest)
     → In r (inbox_at script a i b (steps.Fell cause pending)).unanswered → In r i.unanswered × ((r.to == b) ≡ false)
 after_fall script a i b cause pending r =
-    which (λ (j : Inbox). In r j.unanswered → In r i.unanswered × ((r.to == b) ≡ false))
+    if_two (λ (j : Inbox). In r j.unanswered → In r i.unanswered × ((r.to == b) ≡ false))
     (is_by_line (is_up i.up b) cause) (control_acted a (actor_fell a i b)) (actor_fell a i b)
     (λ member. fell_spared a i b r (subst (In r) (acted_same a (actor_fell a i b)) member)) (fell_spared a i b r)
 
@@ -192,7 +189,7 @@ IsSpared s b step =
     MatchOption (received_in step) (MatchOption (fell_in step) (Unit {0}) (λ (f : Fallen). (s == b) ≡ false))
     (λ (n : ℕ). (s == b) ≡ false)
 
-same_if : (t : Bool) (i j : Inbox) (rs : List SentRequest) → i.unanswered ≡ rs → j.unanswered ≡ rs
+pub same_if : (t : Bool) (i j : Inbox) (rs : List SentRequest) → i.unanswered ≡ rs → j.unanswered ≡ rs
     → (if t then i else j).unanswered ≡ rs
 same_if true i j rs here there = here
 same_if false i j rs here there = there
@@ -223,30 +220,23 @@ still_left script a i b (steps.Damaged offset) is r member = (subst (In r) (acte
 
 -- copies stay
 
-flip : (x y : ℕ) → (x == y) ≡ false → (y == x) ≡ false
-flip x y other = at (y == x) refl
-  where
-    at : (t : Bool) → (y == x) ≡ t → t ≡ false
-    at true same = absurd (let yes : (x == y) ≡ true = eq-eqb x y (sym (eqb-true y x same)) in let never : ⊥ = cc in
-        never)
-    at false is = refl
-
 pub copies_left : (script : Script) (s : ℕ) (i : Inbox) (b : ℕ) (step : Step) → IsSpared s b step → (x : Envelope)
     → In x i.copies → In x (inbox_at script s i b step).copies
 copies_left script s i b step is x member =
     inbox_cases script s i b (λ (p : Step) (j : Inbox). IsSpared s b p → In x j.copies)
     (λ k spared. phase_copies s i (slice_get script.phases (k - 1)) x member)
     (λ p cuts spared. cuts_copies s i cuts x member)
-    (λ command spared. which (λ (j : Inbox). In x j.copies) (b == s) (command_called i) i member member)
-    (λ n spared. subst (λ (t : Bool). In x (if t then copy_taken i else i).copies) (sym (flip s b spared)) member)
-    (λ n spared. which (λ (j : Inbox). In x j.copies) (b == s) (loss_taken i) i member member)
-    (λ written spared. which (λ (j : Inbox). In x j.copies) (is_up i.up b) i
+    (λ command spared. if_two (λ (j : Inbox). In x j.copies) (b == s) (command_called i) i member member)
+    (λ n spared.
+    subst (λ (t : Bool). In x (if t then copy_taken i else i).copies) (sym (test_turned s b spared)) member)
+    (λ n spared. if_two (λ (j : Inbox). In x j.copies) (b == s) (loss_taken i) i member member)
+    (λ written spared. if_two (λ (j : Inbox). In x j.copies) (is_up i.up b) i
     (control_acted s (record i { up = set i.up b true })) member
     (acted_copies s (record i { up = set i.up b true }) x member))
     (λ n to message spared.
     copies_stay script s i (record { number = n; from = b; to = to; message = message }) x member)
-    (λ reply spared. which (λ (j : Inbox). In x j.copies) (b == s) (reply_told i) i member member)
-    (λ cause pending spared. which (λ (j : Inbox). In x j.copies) (is_by_line (is_up i.up b) cause)
+    (λ reply spared. if_two (λ (j : Inbox). In x j.copies) (b == s) (reply_told i) i member member)
+    (λ cause pending spared. if_two (λ (j : Inbox). In x j.copies) (is_by_line (is_up i.up b) cause)
     (control_acted s (actor_fell s i b)) (actor_fell s i b)
     (acted_copies s (actor_fell s i b) x (fell spared)) (fell spared))
     (λ records spared. member) step is
@@ -257,4 +247,4 @@ copies_left script s i b step is x member =
           up = set i.up b false;
           unanswered = requests_to_others b i.unanswered;
           lost = with_lost (requests_to b i.unanswered) i.lost;
-        })).copies) (sym (flip s b spared)) member
+        })).copies) (sym (test_turned s b spared)) member

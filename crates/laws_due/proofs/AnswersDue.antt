@@ -12,34 +12,22 @@ use Rattle.qc_msg.specs.declared.message.Answer.{Answer}
 use Rattle.qc_promise.specs.Vocabulary.{Account, ClientRequest, asked_by, counted}
 use Rattle.laws_due.specs.Vocabulary.{AreApart, Goes, Holds}
 use Rattle.laws_due.proofs.OpenRequests.{sites_in}
+use Rattle.qc_front.proofs.Apart.{in_range}
+use Rattle.qc_list.proofs.Members.{In-either}
 
 -- the sites in a client's order are apart
-
-in_split : (x : ℕ) (xs ys : List ℕ) → In x (xs ++ ys) → In x xs ⊎ In x ys
-in_split x [] ys among = inr among
-in_split x (z ∷ zs) ys (inl same) = inl (inl same)
-in_split x (z ∷ zs) ys (inr among) =
-    elim (in_split x zs ys among) [ inl first ↦ inl (inr first) | inr second ↦ inr second ]
 
 both_apart : (xs ys : List ℕ) → AreApart xs → AreApart ys → ((x y : ℕ) → In x xs → In y ys → x ≢ y)
     → AreApart (xs ++ ys)
 both_apart [] ys first second across = second
 both_apart (x ∷ xs) ys first second across = (
-  λ y among. by y (in_split y xs ys among),
+  λ y among. by y (In-either y xs ys among),
   both_apart xs ys first.1 second (λ z w in_xs in_ys. across z w (inr in_xs) in_ys),
 )
   where
     by : (y : ℕ) → In y xs ⊎ In y ys → x ≢ y
     by y (inl among) = first.0 y among
     by y (inr among) = across x y (inl refl) among
-
-in_range : (first count x : ℕ) → In x (range_with_len first count) → (first ≤ x) × (x < first + count)
-in_range first zero x among = absurd among
-in_range first (suc count) x (inl same) =
-    (let is : x ≡ first = same in omega arith, let is : x ≡ first = same in omega arith)
-in_range first (suc count) x (inr among) =
-    let more : (first + 1 ≤ x) × (x < (first + 1) + count) = in_range (first + 1) count x among in
-    (let low : first + 1 ≤ x = more.0 in omega arith, let high : x < (first + 1) + count = more.1 in omega arith)
 
 apart_range : (first count : ℕ) → AreApart (range_with_len first count)
 apart_range first zero = tt

@@ -7,7 +7,6 @@ use Rattle.qc_link.specs.declared.rule.Fate.{Fate}
 use Rattle.std.specs.Option.{option_map_or}
 use Rattle.std.specs.List.{AllByRecursion as Every}
 use Rattle.qc_decl.specs.declared.declaration.Declaration.{Declaration}
-use Rattle.laws_turns.proofs.Mailed.{both_all}
 use Rattle.qc_msg.specs.declared.message.Envelope.{Envelope}
 use Rattle.qc_msg.specs.declared.message.Message.{Message}
 use Rattle.qc_msg.specs.declared.step.Command.{Command}
@@ -26,6 +25,7 @@ use Rattle.qc_script.specs.declared.script.PhaseLines.{PhaseLines}
 use Rattle.qc_script.specs.declared.script.Script.{Script}
 use Rattle.laws_turns.proofs.ReadingCases.{mapped}
 use Rattle.laws_due.proofs.InboxCases.{inbox_cases}
+use Rattle.qc_list.proofs.Members.{every-append}
 
 -- what is asked stands in an inbox: a step takes from it, and a phase adds what it asks
 
@@ -93,7 +93,7 @@ module _ (P : Command → Type 0) where
         late = [];
         controls = p.controls;
         commands = i.commands ++ commands_for a p.commands;
-      }) (both_all P i.commands (commands_for a p.commands) all (new p refl))
+      }) (every-append P i.commands (commands_for a p.commands) all (new p refl))
 
   asks_step : (script : Script) (a : ℕ)
       → ((n : ℕ) (p : PhaseLines) → slice_get script.phases n ≡ Some p → Every P (commands_for a p.commands))

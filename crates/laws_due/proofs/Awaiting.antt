@@ -17,11 +17,14 @@ use Rattle.qc_script.specs.Vocabulary.{control_acted, copy_taken, count_of, empt
 use Rattle.qc_script.specs.Vocabulary.{is_up, loss_taken, opened, opened_by, phase_begun, reply_told, request_numbers}
 use Rattle.qc_script.specs.Vocabulary.{requests_to, requests_to_others, with_lost}
 use Rattle.qc_script.proofs.InboxesSend.{sends_does}
-use Rattle.laws_due.proofs.AwaitedMessages.{lost_stays, parted, answer_second, awaited_if, awaited_more}
-use Rattle.laws_due.proofs.AwaitedMessages.{awaited_comes_with, awaited_goes_with, up_apart, opened_up, up_if, fell_up}
-use Rattle.laws_due.proofs.AwaitedMessages.{KeepsUp}
+use Rattle.laws_due.proofs.AwaitedMessages.{lost_stays, parted, up_if, KeepsUp}
 use Rattle.qc_msg.specs.Vocabulary.{Fallen, fell_in, lost_in, received_in}
 use Rattle.laws_due.proofs.InboxCases.{inbox_cases}
+use Rattle.qc_script.proofs.AllUp.{opened_up}
+use Rattle.qc_mailbox.proofs.Downs.{up_other}
+use Rattle.qc_mailbox.proofs.Emptied.{fell_up}
+use Rattle.laws_turns.proofs.AwaitedCopies.{answer_second, awaited_if, awaited_more, awaited_comes_with}
+use Rattle.laws_turns.proofs.AwaitedCopies.{awaited_goes_with}
 
 module _ (script : Script) (a : ℕ) where
   -- a step that leaves whether the actor is up
@@ -59,7 +62,7 @@ module _ (script : Script) (a : ℕ) where
       at true = refl
       at false =
           ap (λ (v : List Bool). is_up v a)
-          (opened_up a (record i { up = set i.up b true; controls = drop 1 i.controls })) ∙ up_apart i.up b a true other
+          (opened_up a (record i { up = set i.up b true; controls = drop 1 i.controls })) ∙ up_other i.up b a true other
   keeps_up i b (steps.Sent n to message) other =
       ap (λ (v : List Bool). is_up v a)
       (sends_does script.links a i (record { number = n; from = b; to = to; message = message })).up
@@ -68,7 +71,7 @@ module _ (script : Script) (a : ℕ) where
   keeps_up i b (steps.Fell cause pending) other = at (is_by_line (is_up i.up b) cause)
     where
       gone : is_up (actor_fell a i b).up a ≡ is_up i.up a
-      gone = ap (λ (v : List Bool). is_up v a) (fell_up a i b) ∙ up_apart i.up b a false other
+      gone = ap (λ (v : List Bool). is_up v a) (fell_up a i b) ∙ up_other i.up b a false other
 
       at : (t : Bool) → is_up (if t then control_acted a (actor_fell a i b) else actor_fell a i b).up a ≡ is_up i.up a
       at true =

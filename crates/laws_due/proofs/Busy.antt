@@ -1,60 +1,33 @@
 -- The inbox of a client knows whether a command of it runs, where it falls and rises only while none does.
-use Rattle.std.proofs.Common.{◌≡◌, ℕ, ◌==◌, Bool, true, false, cond, if◌then◌else◌, List, [], ◌∷◌, ◌++◌, drop, Option}
-use Rattle.std.proofs.Common.{Some, None, option_to_list, slice_get, refl, sym, ap, ◌∙◌}
-use Rattle.std.specs.Prelude.{fold, set}
+use Rattle.std.proofs.Common.{◌≡◌, ℕ, ◌==◌, Bool, true, false, cond, if◌then◌else◌, List, [], ◌∷◌, ◌++◌, Option}
+use Rattle.std.proofs.Common.{option_to_list, slice_get, refl, sym, ap, ◌∙◌}
+use Rattle.std.specs.Prelude.{fold}
 use Rattle.std.proofs.lemmas.List.Sums.{fold-append}
 use Rattle.qc_core.specs.Vocabulary.{AreSteady, is_running, runs_at}
-use Rattle.laws_turns.proofs.Running.{busy_step}
+use Rattle.laws_turns.proofs.Running.{busy_step, busy_acted, busy_fallen}
 use Rattle.qc_msg.specs.declared.message.Envelope.{Envelope}
 use Rattle.qc_msg.specs.declared.record.Record.{Record}
-use Rattle.qc_msg.specs.declared.step.Control.{Control}
 use Rattle.qc_msg.specs.declared.step.Fall.{Fall}
 use Rattle.qc_msg.specs.declared.step.Step.{Step}
 use Rattle.qc_msg.specs.declared.step.Step.TheVariants as steps
-use Rattle.qc_msg.specs.Vocabulary.{Deed, Entry, Falls, Rises, deed_at, deeds, envelope_of, heard}
-use Rattle.qc_script.specs.Vocabulary.{Inbox, acting, actor_fell, control_acted, emptied, empty_inbox, inbox, inbox_at}
-use Rattle.qc_script.specs.Vocabulary.{is_by_line, is_up, opened_by, requests_to, requests_to_others, with_lost}
+use Rattle.qc_msg.specs.Vocabulary.{Deed, Entry, Falls, Rises, deed_at, deeds, envelope_of}
+use Rattle.qc_script.specs.Vocabulary.{Inbox, actor_fell, control_acted, empty_inbox, inbox, inbox_at, is_by_line}
+use Rattle.qc_script.specs.Vocabulary.{is_up}
 use Rattle.qc_script.specs.declared.script.Script.{Script}
 use Rattle.laws_due.specs.Vocabulary.{AreInOrder}
 use Rattle.laws_due.proofs.Ordered.{order_first, order_second}
-
-mine_up : (mine : Bool) (ds : List Deed) → AreSteady ds → AreSteady (cond mine ds [])
-mine_up true ds up = up
-mine_up false ds up = tt
-
-heard_up : (o : Option Envelope) → AreSteady (heard o)
-heard_up None = tt
-heard_up (Some e) = (tt, tt)
+use Rattle.laws_turns.proofs.Up.{heard_up}
+use Rattle.laws_turns.proofs.Commands.{mine_up}
 
 -- a fall leaves it
-
-opened_by_busy : (a : ℕ) (lines : List Control) (i : Inbox) → (opened_by a lines i).busy ≡ i.busy
-opened_by_busy a [] i = refl
-opened_by_busy a (line ∷ lines) i = refl
-
-acted_busy : (a : ℕ) (i : Inbox) → (control_acted a i).busy ≡ i.busy
-acted_busy a i = opened_by_busy a (acting i.up (drop 1 i.controls))
-    (record i { controls = acting i.up (drop 1 i.controls) })
-
-gone_busy : (a : ℕ) (i : Inbox) (b : ℕ) → (actor_fell a i b).busy ≡ i.busy
-gone_busy a i b = at (b == a)
-  where
-    at : (t : Bool)
-        → (emptied t (record i {
-          up = set i.up b false;
-          unanswered = requests_to_others b i.unanswered;
-          lost = with_lost (requests_to b i.unanswered) i.lost;
-        })).busy ≡ i.busy
-    at true = refl
-    at false = refl
 
 fell_busy : (script : Script) (a : ℕ) (i : Inbox) (b : ℕ) (cause : Fall) (pending : Option Record)
     → (inbox_at script a i b (steps.Fell cause pending)).busy ≡ i.busy
 fell_busy script a i b cause pending = at (is_by_line (is_up i.up b) cause)
   where
     at : (t : Bool) → (if t then control_acted a (actor_fell a i b) else actor_fell a i b).busy ≡ i.busy
-    at true = acted_busy a (actor_fell a i b) ∙ gone_busy a i b
-    at false = gone_busy a i b
+    at true = busy_acted a (actor_fell a i b) ∙ busy_fallen a i b
+    at false = busy_fallen a i b
 
 ends_none : (mine r : Bool) (d : Deed) → runs_at r d ≡ false → (AreInOrder r (d ∷ []) → r ≡ false)
     → AreInOrder r (cond mine (d ∷ []) []) → r ≡ fold runs_at r (cond mine (d ∷ []) [])

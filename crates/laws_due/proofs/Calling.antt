@@ -1,8 +1,8 @@
 -- In each run with falls what an actor called, and then what is left to it, is what the phases so far ask it; no more
 -- phases begin than the script has.
-use Rattle.std.proofs.Common.{◌≡◌, ℕ, zero, suc, ◌+◌, ◌-◌, ◌<◌, ◌≤◌, ◌==◌, ◌&&◌, not, Bool, true, false, cond}
-use Rattle.std.proofs.Common.{if◌then◌else◌, List, [], ◌∷◌, ◌++◌, drop, take, length, Option, Some, None, slice_get}
-use Rattle.std.proofs.Common.{refl, sym, ap, ◌∙◌, subst, arith, append_assoc, eqb-true, eq-eqb}
+use Rattle.std.proofs.Common.{◌≡◌, ℕ, zero, suc, ◌+◌, ◌-◌, ◌<◌, ◌≤◌, ◌==◌, Bool, true, false, if◌then◌else◌, List, []}
+use Rattle.std.proofs.Common.{◌∷◌, ◌++◌, drop, take, length, Option, Some, None, slice_get, refl, sym, ap, ◌∙◌, subst}
+use Rattle.std.proofs.Common.{arith, append_assoc, eqb-true, eq-eqb}
 use Rattle.std.specs.List.{filter_map}
 use Rattle.std.specs.Option.{option_map_or}
 use Rattle.std.proofs.lemmas.List.{append-nil}
@@ -11,12 +11,9 @@ use Rattle.qc_decl.specs.declared.declaration.Declaration.{Declaration}
 use Rattle.qc_decl.specs.Vocabulary.{controller}
 use Rattle.laws_turns.specs.Vocabulary.{asked_in_all, asked_until, call_in, calls_of}
 use Rattle.laws_turns.proofs.Acted.{deeds-silent}
-use Rattle.laws_turns.proofs.PhaseCalls.{phase_taken}
 use Rattle.laws_turns.proofs.Numbered.{phase_silent}
-use Rattle.qc_msg.specs.declared.message.Envelope.{Envelope}
 use Rattle.qc_msg.specs.declared.record.Record.{Record}
 use Rattle.qc_msg.specs.declared.step.Command.{Command}
-use Rattle.qc_msg.specs.declared.step.Control.{Control}
 use Rattle.qc_msg.specs.declared.step.Input.{Input}
 use Rattle.qc_msg.specs.declared.step.Input.TheVariants as inputs
 use Rattle.qc_msg.specs.declared.step.Step.TheVariants as steps
@@ -24,42 +21,17 @@ use Rattle.qc_msg.specs.declared.turn.Turn.{Turn}
 use Rattle.qc_msg.specs.Vocabulary.{Deed, Entry, Takes, by, deeds, mail, marked, posted_as, step_of}
 use Rattle.qc_msg.proofs.DeedsGrow.{deeds-other}
 use Rattle.qc_msg.proofs.Growth.{deeds-taken}
-use Rattle.qc_script.specs.Vocabulary.{Inbox, RunsWithFalls, after_controls, begins, command_called, command_in}
-use Rattle.qc_script.specs.Vocabulary.{commands_for, control, damaged, falls, first_command, first_copy, first_lost}
-use Rattle.qc_script.specs.Vocabulary.{inbox, phase, phase_begun, phase_of, posts, ready, ready_in, rises, takes}
-use Rattle.qc_script.specs.Vocabulary.{takes_commands, unopened}
+use Rattle.qc_script.specs.Vocabulary.{Inbox, RunsWithFalls, begins, command_called, commands_for, control, damaged}
+use Rattle.qc_script.specs.Vocabulary.{falls, inbox, phase, phase_begun, phase_of, posts, ready, rises, takes, unopened}
 use Rattle.qc_script.specs.declared.script.PhaseLines.{PhaseLines}
 use Rattle.qc_script.specs.declared.script.Script.{Script}
-use Rattle.laws_due.proofs.PlainSteps.{ArePlain, inbox_then, line_plain, opened_left, post_plain}
+use Rattle.laws_due.proofs.PlainSteps.{ArePlain, line_plain, opened_left, post_plain}
 use Rattle.laws_due.proofs.Plain.{entries_calls, entries_left, entries_phase, phase_then}
+use Rattle.qc_mailbox.proofs.Keeping.{inbox_after}
+use Rattle.laws_turns.proofs.Calling.{ready_command}
+use Rattle.qc_script.proofs.Lasts.{phase_taken}
 
 -- the command that is ready is the next one
-
-next_command : (t : Bool) (commands : List Command) (c : Command)
-    → cond t (first_command commands) None ≡ Some (inputs.Called c) → commands ≡ c ∷ drop 1 commands
-next_command true [] c is = absurd (let never : ⊥ = cc in never)
-next_command true (x ∷ commands) c is = let same : x ≡ c = cc in ap (λ (v : Command). v ∷ commands) same
-next_command false commands c is = absurd (let never : ⊥ = cc in never)
-
-next_lost : (losts : List ℕ) (other : Option Input) (c : Command) → first_lost losts other ≡ Some (inputs.Called c)
-    → other ≡ Some (inputs.Called c)
-next_lost [] other c is = is
-next_lost (n ∷ losts) other c is = absurd (let never : ⊥ = cc in never)
-
-next_copy : (es : List Envelope) (other : Option Input) (c : Command) → first_copy es other ≡ Some (inputs.Called c)
-    → other ≡ Some (inputs.Called c)
-next_copy [] other c is = is
-next_copy (e ∷ es) other c is = absurd (let never : ⊥ = cc in never)
-
-ready_command : (decl : Declaration) (a : ℕ) (i : Inbox) (c : Command) → ready_in decl a i ≡ Some (inputs.Called c)
-    → i.commands ≡ c ∷ drop 1 i.commands
-ready_command decl a i c is = at i.controls is
-  where
-    at : (lines : List Control) → after_controls lines (first_copy i.copies (first_lost i.lost (command_in decl a i)))
-        ≡ Some (inputs.Called c) → i.commands ≡ c ∷ drop 1 i.commands
-    at [] e = next_command (takes_commands decl a && not i.busy) i.commands c
-        (next_lost i.lost (command_in decl a i) c (next_copy i.copies (first_lost i.lost (command_in decl a i)) c e))
-    at (line ∷ lines) e = absurd (let never : ⊥ = cc in never)
 
 -- the commands of one phase more
 
@@ -116,7 +88,7 @@ module _ (lawful : ℕ → List Deed → Turn → Type 0) (fits : ℕ → List R
     called_elsewhere h b c other asked =
         asked_same h (h ++ marked b (steps.Called c) ∷ [])
         (ap (filter_map call_in) (deeds-other b a [] h (steps.Called c ∷ []) other))
-        (ap (λ (i : Inbox). i.commands) (inbox_then script a h (marked b (steps.Called c)))
+        (ap (λ (i : Inbox). i.commands) (inbox_after script a h (marked b (steps.Called c)))
         ∙ ap (λ (t : Bool). (if t then command_called (inbox script a h) else inbox script a h).commands) other)
         (phase_taken h b (inputs.Called c)) asked
 
@@ -125,7 +97,7 @@ module _ (lawful : ℕ → List Deed → Turn → Type 0) (fits : ℕ → List R
     called_here h c rdy asked =
         (λ i. (ap (filter_map call_in) (deeds-taken a h (inputs.Called c) tt)
         ∙ filter_map-append call_in (deeds a [] h) (Takes (inputs.Called c) ∷ [])) i
-        ++ (ap (λ (i : Inbox). i.commands) (inbox_then script a h (marked a (steps.Called c)))
+        ++ (ap (λ (i : Inbox). i.commands) (inbox_after script a h (marked a (steps.Called c)))
         ∙ ap (λ (t : Bool). (if t then command_called (inbox script a h) else inbox script a h).commands)
         (eq-eqb a a refl)) i)
         ∙ append_assoc (calls_of a h) (c ∷ []) (drop 1 (inbox script a h).commands)
@@ -151,7 +123,7 @@ module _ (lawful : ℕ → List Deed → Turn → Type 0) (fits : ℕ → List R
         let e : Entry = marked (controller decl) (steps.Phase (phase_of h + 1)) in
         (λ i. ap (filter_map call_in) (deeds-silent a (controller decl) h (steps.Phase (phase_of h + 1))
         (phase_silent (phase_of h + 1))) i
-        ++ (ap (λ (i : Inbox). i.commands) (inbox_then script a h e)
+        ++ (ap (λ (i : Inbox). i.commands) (inbox_after script a h e)
         ∙ left_phase a (inbox script a h) (slice_get script.phases ((phase_of h + 1) - 1))) i)
         ∙ sym (append_assoc (calls_of a h) (inbox script a h).commands
         (asked_in a (slice_get script.phases ((phase_of h + 1) - 1))))

@@ -30,13 +30,13 @@ use Rattle.qc_front.proofs.Sending.{called_sent, takes_sent}
 use Rattle.qc_client.specs.declared.client.Client.{Client}
 use Rattle.qc_client.specs.Vocabulary.{ClientMove, answered, answered_by, by_desk, by_front, called, client_does}
 use Rattle.qc_client.specs.Vocabulary.{client_takes, commits, heard}
-use Rattle.laws_turns.proofs.StampsOwn.{by_two}
 use Rattle.laws_due.proofs.Epochs.{TellPlanned, TellsPlanned}
 use Rattle.laws_turns.proofs.ClientCases.{called_cases, heard_cases}
 use Rattle.laws_turns.proofs.MessageCases.{message_cases}
 use Rattle.laws_due.proofs.AskingCases.{prepare_cases}
 use Rattle.std.specs.Prelude.{MatchOption}
 use Rattle.qc_front.specs.Requests.{IsRequestOf, IsVerdictOf}
+use Rattle.qc_list.proofs.Booleans.{if_two}
 
 sent_planned : (decl : Declaration) (front next : Front) (to : ℕ) (m : Message) → IsSent decl front next to m
     → TellsPlanned decl m
@@ -83,7 +83,7 @@ commits_planned : (decl : Declaration) (c : Client) (o : Option Transaction)
 commits_planned decl c None = front_planned decl c.front (fronts.called decl c.front commands.Commit)
     (called_sent decl c.front commands.Commit)
 commits_planned decl c (Some t) =
-    by_two (λ (m : ClientMove). TellPlanned decl m.turn.sends) t.begun.doomed
+    if_two (λ (m : ClientMove). TellPlanned decl m.turn.sends) t.begun.doomed
     (by_front c (fronts.called decl c.front commands.Commit))
     (by_desk c (desks.prepare decl c.desk t.begun c.front.clock.value))
     (front_planned decl c.front (fronts.called decl c.front commands.Commit) (called_sent decl c.front commands.Commit))

@@ -23,13 +23,15 @@ use Rattle.qc_msg.specs.Vocabulary.{Deed, Entry, mail, sends_as}
 use Rattle.qc_script.specs.declared.script.Script.{Script}
 use Rattle.qc_script.specs.Vocabulary.{RunsWithFalls, inbox, is_request, request_numbers}
 use Rattle.qc_site.specs.Vocabulary.{SiteState, passed, site_at}
-use Rattle.laws_due.proofs.Places.{apart, client_past, client_within, few_actors}
+use Rattle.laws_due.proofs.Places.{client_past, client_within}
 use Rattle.laws_due.proofs.Proper.{IsOwnProper, post_sends, rise_sends, run_proper}
 use Rattle.laws_due.proofs.Somewhere.{AreToOthers, IsOther}
 use Rattle.laws_due.proofs.SiteTurns.{IsDeclared, declared_request, site_up}
 use Rattle.laws_due.proofs.Taken.{AreReplied, IsReplied, RepliesTo}
 use Rattle.laws_due.proofs.Reached.{unanswered_at_receiver}
 use Rattle.laws_due.proofs.AskingCases.{asking_cases}
+use Rattle.qc_list.proofs.Numbers.{numbers_apart}
+use Rattle.qc_decl.proofs.Clients.{few_actors}
 
 module _ (decl : Declaration) (script : Script) (accepted : IsAccepted decl) (asks : AsksDeclared decl script)
     (fits : ℕ → List Record → Type 0) (a : ℕ) (client : is_client decl a ≡ true) where
@@ -46,7 +48,7 @@ module _ (decl : Declaration) (script : Script) (accepted : IsAccepted decl) (as
   site_other : (to : ℕ) → to < decl.sites → IsOther a to
   site_other to low = (
     (let high : decl.sites ≤ a = past in let lower : a < most_actors = a_low in omega arith),
-    apart to a (λ same. (let less : to < decl.sites = low in let high : decl.sites ≤ a = past in
+    numbers_apart to a (λ same. (let less : to < decl.sites = low in let high : decl.sites ≤ a = past in
         let is : to ≡ a = same in omega arith)),
   )
 

@@ -4,7 +4,6 @@ use Rattle.std.proofs.Common.{le-leb, lt-ltb, arith}
 use Rattle.qc_core.specs.Vocabulary.{IsLawfulWithFalls}
 use Rattle.qc_decl.specs.Vocabulary.{actors, administrator, client_actor, is_client}
 use Rattle.qc_decl.specs.declared.declaration.Declaration.{Declaration}
-use Rattle.laws_turns.proofs.Places.{slice_get-within}
 use Rattle.qc_link.specs.Vocabulary.{most_actors}
 use Rattle.laws_turns.specs.Vocabulary.{LivesIn}
 use Rattle.laws_turns.proofs.Lived.{actors_live_in_runs_with_falls, run_long}
@@ -15,6 +14,7 @@ use Rattle.qc_script.specs.Vocabulary.{RunsWithFalls}
 use Rattle.qc_script.specs.declared.script.Script.{Script}
 use Rattle.laws_due.specs.Vocabulary.{Declares}
 use Rattle.laws_due.proofs.Lifelong.{lives_of_clients_are_due}
+use Rattle.qc_list.proofs.Places.{some_at}
 
 module _ (decl : Declaration) (script : Script) (fits : ℕ → List Record → Type 0) (few : actors decl ≤ most_actors)
     (h : List Entry) (open_inputs : List Bool)
@@ -23,7 +23,7 @@ module _ (decl : Declaration) (script : Script) (fits : ℕ → List Record → 
       → Declares decl (deeds (client_actor decl client) [] h)
       → AreRepliesDue decl client (deeds (client_actor decl client) [] h)
   clients_of_runs_with_falls_are_due client within are =
-      on (slice_get-within open_inputs (client_actor decl client) placed)
+      on (some_at open_inputs (client_actor decl client) placed)
     where
       low : client_actor decl client < actors decl
       low = omega arith

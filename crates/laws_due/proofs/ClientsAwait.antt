@@ -26,7 +26,7 @@ use Rattle.laws_turns.specs.Vocabulary.{IsAwaited, open_calls}
 use Rattle.laws_turns.proofs.Acted.{deeds-silent}
 use Rattle.qc_link.specs.Vocabulary.{most_actors}
 use Rattle.laws_turns.proofs.Downs.{who_is_down_only_tells, up_is}
-use Rattle.laws_turns.proofs.LivedMoves.{deeds-fall, deeds-rise}
+use Rattle.laws_turns.proofs.LivedMoves.{deeds-fall}
 use Rattle.qc_msg.specs.declared.call.Call.{Call}
 use Rattle.qc_msg.specs.declared.record.Record.{Record}
 use Rattle.qc_msg.specs.declared.record.Record.TheVariants as records
@@ -38,15 +38,16 @@ use Rattle.qc_msg.specs.declared.turn.Appended.TheVariants.{Done, Failed, Stoppe
 use Rattle.qc_msg.specs.declared.turn.Turn.{Turn}
 use Rattle.qc_msg.specs.Vocabulary.{Deed, Entry, Rises, Takes, Writes, by, deeds, deeds_as, mail, marked, posted}
 use Rattle.qc_msg.specs.Vocabulary.{posted_as, quiet, step_of, turn_deeds}
-use Rattle.qc_msg.proofs.DeedsGrow.{deeds-other}
+use Rattle.qc_msg.proofs.DeedsGrow.{deeds-other, deeds-rise}
 use Rattle.qc_msg.proofs.Growth.{deeds-posted_as, deeds-taken}
 use Rattle.qc_script.proofs.AllUp.{is_up-everybody}
 use Rattle.qc_script.specs.declared.script.Script.{Script}
 use Rattle.qc_script.specs.Vocabulary.{Inbox, RunsWithFalls, begins, control, damaged, empty_inbox, everybody, falls}
 use Rattle.qc_script.specs.Vocabulary.{inbox, is_up, phase, phase_of, posts, ready, rises, takes, unopened}
-use Rattle.laws_due.proofs.Places.{apart, rose_split}
+use Rattle.laws_due.proofs.Places.{rose_split}
 use Rattle.laws_due.proofs.Telling.{broken_down}
 use Rattle.laws_due.proofs.Covered.{Awaits, one_step, others_steps, own_take, own_turn, step_in}
+use Rattle.qc_list.proofs.Numbers.{numbers_apart}
 
 module _ (decl : Declaration) (script : Script) (a : ℕ) where
   abbrev pub AwaitsIn : List Entry → Type 0
@@ -98,7 +99,7 @@ module _ (decl : Declaration) (script : Script) (a : ℕ) where
 
     not_controller : (controller decl == a) ≡ false
     not_controller =
-        apart (controller decl) a
+        numbers_apart (controller decl) a
         (λ same. (let low : a < decl.sites + decl.clients + 1 = within in
         let is : decl.sites + decl.clients + 1 ≡ a = same in omega arith))
 

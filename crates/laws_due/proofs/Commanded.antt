@@ -1,13 +1,12 @@
 -- In a run with falls each command that is called is one that the script asks of that client.
-use Rattle.std.proofs.Common.{[], ◌≡◌, ℕ, ◌+◌, ◌-◌, ◌==◌, Bool, true, false, cond, List, ◌∷◌, ◌++◌, filter, map, length}
-use Rattle.std.proofs.Common.{Option, Some, None, slice_get, refl, subst, eqb-true}
+use Rattle.std.proofs.Common.{[], ◌≡◌, ℕ, ◌+◌, ◌-◌, ◌==◌, Bool, true, false, cond, List, ◌∷◌, ◌++◌, length, Option}
+use Rattle.std.proofs.Common.{Some, None, slice_get, refl, subst, eqb-true}
 use Rattle.std.specs.Prelude.{option_to_list, MatchOption}
 use Rattle.std.specs.List.{AllByRecursion as Every}
 use Rattle.qc_decl.specs.Vocabulary.{controller}
 use Rattle.qc_decl.specs.declared.declaration.Declaration.{Declaration}
 use Rattle.laws_turns.specs.Vocabulary.{AreAskable, AsksDeclared, IsAskable}
-use Rattle.laws_turns.proofs.Mailed.{all_at, both_all}
-use Rattle.laws_turns.proofs.SoundClients.{IsAskableDeed}
+use Rattle.laws_turns.proofs.SoundClients.{IsAskableDeed, asked_line}
 use Rattle.qc_msg.specs.declared.message.Envelope.{Envelope}
 use Rattle.qc_msg.specs.declared.record.Record.{Record}
 use Rattle.qc_msg.specs.declared.reply.Reply.{Reply}
@@ -22,28 +21,15 @@ use Rattle.qc_msg.specs.declared.turn.Posting.{Posting}
 use Rattle.qc_msg.specs.declared.turn.Turn.{Turn}
 use Rattle.qc_msg.specs.Vocabulary.{Deed, Entry, by, deed_at, deeds, envelope_of, fell, heard, mail, posted_as, sents}
 use Rattle.qc_msg.specs.Vocabulary.{step_of, told, wrote, commanded_in}
-use Rattle.qc_script.specs.Vocabulary.{RunsWithFalls, begins, commands_for, control, controller_step, damaged}
-use Rattle.qc_script.specs.Vocabulary.{empty_inbox, falls, inbox, phase, posts, ready, rises, takes, unopened}
-use Rattle.qc_script.specs.declared.script.CommandLine.{CommandLine}
+use Rattle.qc_script.specs.Vocabulary.{RunsWithFalls, begins, control, controller_step, damaged, empty_inbox, falls}
+use Rattle.qc_script.specs.Vocabulary.{inbox, phase, posts, ready, rises, takes, unopened}
 use Rattle.qc_script.specs.declared.script.PhaseLines.{PhaseLines}
 use Rattle.qc_script.specs.declared.script.Script.{Script}
 use Rattle.laws_due.proofs.AskedCommands.{asks_all, ready_command}
 use Rattle.laws_turns.proofs.StepCases.{controller_cases, deed_cases}
+use Rattle.qc_list.proofs.Members.{every-append, every-at}
 
 -- a script that asks for what is declared
-
-asked_line : (decl : Declaration) (a : ℕ) (lines : List CommandLine) → AreAskable decl lines
-    → Every (IsAskable decl a) (commands_for a lines)
-asked_line decl a [] all = tt
-asked_line decl a (l ∷ lines) all = at (l.actor == a) refl (asked_line decl a lines all.1)
-  where
-    at : (t : Bool) → (l.actor == a) ≡ t → Every (IsAskable decl a) (commands_for a lines)
-        → Every (IsAskable decl a)
-        (map (λ (x : CommandLine). x.command)
-        (cond t (l ∷ filter (λ (x : CommandLine). x.actor == a) lines)
-        (filter (λ (x : CommandLine). x.actor == a) lines)))
-    at true same rest = (subst (λ (k : ℕ). IsAskable decl k l.command) (eqb-true l.actor a same) all.0, rest)
-    at false other rest = rest
 
 ready_askable : (decl : Declaration) (script : Script) → AsksDeclared decl script
     → (a : ℕ) (h : List Entry) (c : Command) → ready decl script a h ≡ Some (inputs.Called c) → IsAskable decl a c
@@ -51,7 +37,7 @@ ready_askable decl script asks a h c is =
     ready_command (IsAskable decl a) decl a (inbox script a h) c is
     (asks_all (IsAskable decl a) script a
     (λ n p place. asked_line decl a p.commands
-    (all_at (λ (p : PhaseLines). AreAskable decl p.commands) script.phases n p asks place)) h empty_inbox tt)
+    (every-at (λ (p : PhaseLines). AreAskable decl p.commands) script.phases n p asks place)) h empty_inbox tt)
 
 -- the steps of a run
 
@@ -95,7 +81,7 @@ line_askable decl a line step is =
 module _ (lawful : ℕ → List Deed → Turn → Type 0) (fits : ℕ → List Record → Type 0) (decl : Declaration)
     (script : Script) (asks : AsksDeclared decl script) where
   more : (h k : List Entry) → AreStepsAskable decl h → AreStepsAskable decl k → AreStepsAskable decl (h ++ k)
-  more h k first second = both_all (λ (e : Entry). StepAskable decl e.actor e.step) h k first second
+  more h k first second = every-append (λ (e : Entry). StepAskable decl e.actor e.step) h k first second
 
   input_askable : (a : ℕ) (h : List Entry) (g : Input) → ready decl script a h ≡ Some g → StepAskable decl a (step_of g)
   input_askable a h (inputs.Called c) is = ready_askable decl script asks a h c is
@@ -140,7 +126,7 @@ deeds_askable : (decl : Declaration) (a : ℕ) (ms : List Envelope) (h : List En
     → Every (IsAskableDeed decl a) (deeds a ms h)
 deeds_askable decl a ms [] all = tt
 deeds_askable decl a ms (e ∷ h) all =
-    both_all (IsAskableDeed decl a) (cond (e.actor == a) (deed_at ms e.step) [])
+    every-append (IsAskableDeed decl a) (cond (e.actor == a) (deed_at ms e.step) [])
     (deeds a (ms ++ option_to_list (envelope_of e)) h) (at (e.actor == a) refl)
     (deeds_askable decl a (ms ++ option_to_list (envelope_of e)) h all.1)
   where

@@ -1,6 +1,6 @@
 -- A command runs by the account just where it runs by the deeds.
-use Rattle.std.proofs.Common.{◌≡◌, ℕ, ◌-◌, ◌<◌, ◌≤◌, nat_lt, ◌&&◌, Bool, true, false, cond, List, [], ◌∷◌, Option, Some}
-use Rattle.std.proofs.Common.{None, is_some, refl, sym, ap, ◌∙◌, arith}
+use Rattle.std.proofs.Common.{◌≡◌, ℕ, ◌-◌, ◌<◌, ◌≤◌, nat_lt, Bool, true, false, cond, List, [], ◌∷◌, Option, Some, None}
+use Rattle.std.proofs.Common.{is_some, refl, sym, ap, ◌∙◌, arith}
 use Rattle.std.specs.Prelude.{fold}
 use Rattle.std.specs.List.{find}
 use Rattle.std.proofs.lemmas.Bool.{ltb-true}
@@ -23,7 +23,7 @@ use Rattle.qc_site.specs.Vocabulary.{site_after}
 use Rattle.laws_turns.proofs.ReadingCases.{mapped}
 use Rattle.laws_due.proofs.AccountCases.{sent_cases, told_cases, written_cases}
 
-counted_command : (d : Account) (n : ℕ) (answer : Option Answer) → (counted d n answer).command ≡ d.command
+pub counted_command : (d : Account) (n : ℕ) (answer : Option Answer) → (counted d n answer).command ≡ d.command
 counted_command d n answer = by (find (is_open n) d.requests)
   where
     by : (o : Option ClientRequest) → (counted_for d n answer o).command ≡ d.command
@@ -32,7 +32,7 @@ counted_command d n answer = by (find (is_open n) d.requests)
         told_cases (record d { requests = taken_for n answer d.requests }) q answer
         (λ (e : Account). e.command ≡ d.command) refl (λ clock. refl) (λ clock change same. refl) (λ epoch is. refl)
 
-heard_command : (d : Account) (m : Message) → (account_heard d m).command ≡ d.command
+pub heard_command : (d : Account) (m : Message) → (account_heard d m).command ≡ d.command
 heard_command d m =
     mapped (λ (e : Account). e.command ≡ d.command) (λ (a : Answered). counted d a.to (Some a.answer)) d (answer_in m)
     (λ a. counted_command d a.to (Some a.answer)) refl
@@ -83,10 +83,6 @@ pub may_give : (decl : Declaration) (client : ℕ) (ds : List Deed) → AreStead
 may_give decl client ds up g may = free_for decl client ds g may
 
 -- a client's lawful turn is its conduct's
-
-first_true : (x y : Bool) → (x && y) ≡ true → x ≡ true
-first_true true y is = refl
-first_true false y is = absurd (let never : ⊥ = cc in never)
 
 pub no_site : (decl : Declaration) (a : ℕ) → is_client decl a ≡ true → is_site decl a ≡ false
 no_site decl a is = by (nat_lt a decl.sites) refl

@@ -16,7 +16,7 @@ use Rattle.laws_due.proofs.Commands.{lawful_turn, may_give}
 use Rattle.laws_due.proofs.Fits.{takes_fit}
 use Rattle.laws_due.proofs.Nothing.{tied_none}
 use Rattle.laws_due.proofs.Step.{inputs_are_answered_as_is_due}
-use Rattle.laws_turns.proofs.Up.{acts_up}
+use Rattle.qc_core.proofs.Steady.{acts_steady}
 
 module _ (decl : Declaration) (a : ℕ) (client : is_client decl a ≡ true) where
   abbrev pub account_of : List Deed → Account
@@ -109,7 +109,7 @@ module _ (decl : Declaration) (a : ℕ) (client : is_client decl a ≡ true) whe
         given = g;
         is = refl;
         rest = client_acts older false m acts;
-        up = acts_up decl a older false m acts;
+        up = acts_steady decl a older false m acts;
         may = may;
       }
   client_acts ds b n (posts older turn m first acts low law) = by (client_acts older true m acts)

@@ -16,17 +16,17 @@ use Rattle.qc_core.specs.Vocabulary.{IsLawful}
 use Rattle.qc_script.specs.Vocabulary.{Runs}
 use Rattle.qc_script.specs.declared.script.Script.{Script}
 use Rattle.laws_turns.specs.Vocabulary.{AsksDeclared, IsAskable}
-use Rattle.laws_turns.proofs.Places.{slice_get-within}
 use Rattle.laws_turns.proofs.SoundClients.{IsAskableDeed, run_askable}
 use Rattle.laws_due.proofs.Epochs.{DeedPlanned, TellsPlanned}
 use Rattle.laws_due.proofs.PlannedMail.{deeds_planned, run_planned}
 use Rattle.laws_due.specs.Vocabulary.{ArePlanned, Declares, IsDeclaredCommand, IsDeclaredDeed, IsPlanned, epoch_told}
 use Rattle.laws_turns.proofs.ReadingCases.{matched_by}
+use Rattle.qc_list.proofs.Places.{some_at}
 
 module _ (decl : Declaration) (accepted : IsAccepted decl) where
   pub first_planned : IsPlanned decl first_epoch
   first_planned = let p : (plan : Plan) × (slice_get decl.plans 0 ≡ Some plan) =
-      slice_get-within decl.plans 0 accepted.has_epoch in ap (λ (o : Option Plan). is_some o) p.1
+      some_at decl.plans 0 accepted.has_epoch in ap (λ (o : Option Plan). is_some o) p.1
 
   -- an answer's epoch, where it says that another one is closed
   told_planned : (m : Message) → TellsPlanned decl m → ArePlanned decl (epoch_told m)

@@ -20,7 +20,6 @@ use Rattle.laws_turns.proofs.Acted.{has_entry, actors_take_and_post_by_turns}
 use Rattle.laws_turns.proofs.Busy.{clients_wait_while_commands_run}
 use Rattle.laws_turns.proofs.Ends.{no_request_is_open_at_the_end}
 use Rattle.laws_turns.proofs.Ordered.{calls_are_replied}
-use Rattle.laws_turns.proofs.Places.{replicate_at}
 use Rattle.laws_turns.proofs.WholeLaw.{runs_without_commands_are_whole}
 use Rattle.qc_msg.specs.declared.message.Answer.{Answer}
 use Rattle.qc_msg.specs.Vocabulary.{Deed, Entry, deeds}
@@ -29,6 +28,7 @@ use Rattle.qc_script.specs.declared.script.Script.{Script}
 use Rattle.qc_script.specs.Vocabulary.{controls_left, phase_of}
 use Rattle.laws_due.specs.Vocabulary.{Holds, Ties, appends, call_of, calls_in, reads, rests, votes}
 use Rattle.laws_due.proofs.Courses.{clients_hold, accounts_are_their_clients}
+use Rattle.qc_list.proofs.Places.{replicate_at}
 
 -- while a commit waits for votes, one of its requests is open
 

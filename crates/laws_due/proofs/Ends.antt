@@ -1,7 +1,6 @@
 -- Commands, which come where nothing runs.
-use Rattle.std.proofs.Common.{◌≡◌, ◌≤◌, ℕ, zero, suc, ◌+◌, ◌==◌, ◌&&◌, nat_le, Bool, true, false, cond, List, []}
-use Rattle.std.proofs.Common.{length, map, max, replicate, Option, Some, None, refl, sym, ap, ◌∙◌, subst, arith}
-use Rattle.std.specs.Prelude.{slice_get}
+use Rattle.std.proofs.Common.{◌≡◌, ◌≤◌, ℕ, ◌+◌, ◌==◌, ◌&&◌, nat_le, Bool, true, false, cond, List, [], length, map, max}
+use Rattle.std.proofs.Common.{Option, Some, None, refl, sym, ap, ◌∙◌, subst, arith}
 use Rattle.qc_stamp.specs.declared.stamp.TxId.{TxId}
 use Rattle.qc_decl.specs.declared.declaration.Declaration.{Declaration}
 use Rattle.qc_decl.specs.Vocabulary.{most_transaction_operations, read_need_of}
@@ -36,15 +35,11 @@ use Rattle.laws_due.proofs.DoReads.{reads_go}
 use Rattle.laws_due.proofs.Halves.{round_at}
 use Rattle.laws_due.proofs.Turns.{client_at, ends_goes, none_ties, rest_ties, still_goes, tells_goes}
 use Rattle.laws_due.proofs.Views.{LogsAre}
+use Rattle.qc_list.proofs.Places.{replicate_at}
 
 -- the account once a command is called
 abbrev pub called_at : Account → Option Current → Command → Account
 called_at d t command = record d { command = Some command; requests = []; written = None; current = t }
-
-get_replicate : {A : Type 0} (n i : ℕ) (x y : A) → slice_get (replicate n x) i ≡ Some y → y ≡ x
-get_replicate zero i x y is = let never : ⊥ = cc in absurd never
-get_replicate (suc n) zero x y is = cc
-get_replicate (suc n) (suc i) x y is = get_replicate n i x y is
 
 module _ (decl : Declaration) (number : ℕ) (d : Account) (desk : Desk) (k : IsIdleDesk d desk) where
   abbrev free : Client
@@ -61,7 +56,7 @@ module _ (decl : Declaration) (number : ℕ) (d : Account) (desk : Desk) (k : Is
       (record {
         is = refl;
         logs = λ object v at. ap (λ (w : View). w.log)
-            (get_replicate (length decl.objects) object empty_view v at);
+            (replicate_at (length decl.objects) object empty_view v at);
       }))
     where
       next : TxId

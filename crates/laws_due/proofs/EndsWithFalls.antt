@@ -1,8 +1,7 @@
 -- Where nothing is ready for anybody, no input is open and each control line has acted, no client waits for a request
 -- and none runs a command. So none does while a control line is left.
-use Rattle.std.proofs.Common.{◌≡◌, ℕ, zero, suc, ◌+◌, ◌<◌, ◌≤◌, ◌==◌, if◌then◌else◌, ◌⊎◌, Bool, true, false, inl, inr}
-use Rattle.std.proofs.Common.{List, [], ◌∷◌, ◌++◌, length, Option, Some, None, refl, sym, ap, ◌∙◌, subst, arith}
-use Rattle.std.proofs.Common.{slice_get}
+use Rattle.std.proofs.Common.{◌≡◌, ℕ, ◌+◌, ◌<◌, ◌≤◌, ◌==◌, if◌then◌else◌, ◌⊎◌, Bool, true, false, inl, inr, List, []}
+use Rattle.std.proofs.Common.{◌∷◌, ◌++◌, length, Some, None, refl, sym, ap, ◌∙◌, subst, arith, slice_get}
 use Rattle.qc_list.specs.Vocabulary.{In}
 use Rattle.qc_client.specs.declared.client.Client.{Client}
 use Rattle.qc_core.specs.declared.actor.Actor.TheVariants as actors
@@ -14,10 +13,8 @@ use Rattle.qc_mailbox.proofs.FallLaws.{no_input_is_open_while_a_line_is_left}
 use Rattle.laws_turns.specs.Vocabulary.{AsksDeclared, IsAtReceiver, IsAwaited, IsQuiet, IsTaken, open_calls}
 use Rattle.laws_turns.proofs.Acted.{deeds-silent}
 use Rattle.laws_turns.proofs.Numbered.{phase_silent}
-use Rattle.laws_turns.proofs.Places.{slice_get-within}
 use Rattle.qc_link.specs.Vocabulary.{most_actors}
 use Rattle.laws_turns.proofs.Lived.{run_long}
-use Rattle.qc_msg.specs.declared.message.Envelope.{Envelope}
 use Rattle.qc_msg.specs.declared.record.Record.{Record}
 use Rattle.qc_msg.specs.declared.step.Control.{Control}
 use Rattle.qc_msg.specs.declared.step.Input.{Input}
@@ -32,32 +29,18 @@ use Rattle.qc_script.specs.Vocabulary.{inbox, inbox_at, loss_taken, phase, phase
 use Rattle.qc_script.specs.Vocabulary.{unopened}
 use Rattle.qc_script.specs.declared.script.Script.{Script}
 use Rattle.laws_due.proofs.ClientsAwait.{open_requests_are_awaited_with_falls}
-use Rattle.laws_due.proofs.Places.{client_within, few_actors}
-use Rattle.laws_due.proofs.PlainSteps.{ArePlain, inbox_then, line_plain, post_plain}
+use Rattle.laws_due.proofs.Places.{client_within}
+use Rattle.laws_due.proofs.PlainSteps.{ArePlain, line_plain, post_plain}
 use Rattle.laws_due.proofs.Plain.{entries_idle, entries_left}
 use Rattle.laws_due.proofs.ClientReached.{receiver_is_site, unanswered_requests_are_at_their_sites_with_falls}
 use Rattle.laws_due.proofs.LifelongWithFalls.{none_runs_down}
 use Rattle.laws_due.proofs.Tied.{IsAtRest, Stands}
 use Rattle.laws_due.proofs.Resting.{free_rests, run_waits, tied_rests}
-
-no_copies : (es : List Envelope) (other : Option Input) → first_copy es other ≡ None → es ≡ []
-no_copies [] other is = refl
-no_copies (e ∷ es) other is = absurd (let never : ⊥ = cc in never)
-
-no_losts : (es : List Envelope) (ns : List ℕ) (other : Option Input) → first_copy es (first_lost ns other) ≡ None
-    → ns ≡ []
-no_losts [] [] other is = refl
-no_losts [] (n ∷ ns) other is = absurd (let never : ⊥ = cc in never)
-no_losts (e ∷ es) ns other is = absurd (let never : ⊥ = cc in never)
-
-place_within : (bs : List Bool) (a : ℕ) (t : Bool) → slice_get bs a ≡ Some t → a < length bs
-place_within [] a t is = absurd (let never : ⊥ = cc in never)
-place_within (b ∷ bs) zero t is = omega arith
-place_within (b ∷ bs) (suc a) t is = let further : a < length bs = place_within bs a t is in omega arith
-
-pub no_members : {X : Type 0} (xs : List X) → ((x : X) → In x xs → ⊥) → xs ≡ []
-no_members [] none = refl
-no_members (x ∷ xs) none = absurd (none x (inl refl))
+use Rattle.qc_mailbox.proofs.Keeping.{inbox_after}
+use Rattle.laws_turns.proofs.Ends.{no_copies, no_losts}
+use Rattle.qc_list.proofs.Places.{place_within, some_at}
+use Rattle.qc_list.proofs.Members.{In-none}
+use Rattle.qc_decl.proofs.Clients.{few_actors}
 
 module _ (decl : Declaration) (script : Script) (accepted : IsAccepted decl) (asks : AsksDeclared decl script)
     (fits : ℕ → List Record → Type 0) where
@@ -93,7 +76,7 @@ module _ (decl : Declaration) (script : Script) (accepted : IsAccepted decl) (as
     pub free : (a : ℕ) → a < numbers.actors decl → slice_get open_inputs a ≡ Some false
     free a within =
         let long : length open_inputs ≡ numbers.actors decl = run_long decl script fits few h open_inputs run in
-        let place : (t : Bool) × (slice_get open_inputs a ≡ Some t) = slice_get-within open_inputs a (omega arith) in
+        let place : (t : Bool) × (slice_get open_inputs a ≡ Some t) = some_at open_inputs a (omega arith) in
         by place.0 place.1
       where
         by : (t : Bool) → slice_get open_inputs a ≡ Some t → slice_get open_inputs a ≡ Some false
@@ -123,7 +106,7 @@ module _ (decl : Declaration) (script : Script) (accepted : IsAccepted decl) (as
       not_awaited n (inr (inr has)) = subst (In has.envelope) (copies_none a (client_within decl a client)) has.member
 
       pub none_open : (c : Client) → (actor_after decl a (deeds a [] h)).actor ≡ actors.Client c → open_calls c ≡ []
-      none_open c is = no_members (open_calls c)
+      none_open c is = In-none (open_calls c)
           (λ q member. not_awaited q.number (open_requests_are_awaited_with_falls decl script a fits few client h
           open_inputs run c is
           q member))
@@ -148,7 +131,7 @@ module _ (decl : Declaration) (script : Script) (accepted : IsAccepted decl) (as
 
   taken_left : (h : List Entry) (b : ℕ) (g : Input)
       → controls_left script (h ++ marked b (step_of g) ∷ []) ≡ controls_left script h
-  taken_left h b g = ap (λ (i : Inbox). i.controls) (inbox_then script 0 h (marked b (step_of g))) ∙ by g
+  taken_left h b g = ap (λ (i : Inbox). i.controls) (inbox_after script 0 h (marked b (step_of g))) ∙ by g
     where
       same : (t : Bool) (i j : Inbox) → j.controls ≡ i.controls → (if t then j else i).controls ≡ i.controls
       same true i j is = is

@@ -32,10 +32,10 @@ use Rattle.qc_site.specs.Vocabulary.{prepares, promise_of, promises, reads_by, r
 use Rattle.qc_site.specs.Vocabulary.{shut_answer, site_at, site_does, site_on, site_takes}
 use Rattle.qc_site.proofs.RequestCases.{close_rows, install_rows}
 use Rattle.qc_site.proofs.Cases.{state_cases}
-use Rattle.laws_turns.proofs.StampsOwn.{by_two}
 use Rattle.laws_due.specs.Vocabulary.{ArePlanned, IsPlanned, IsRecordPlanned}
 use Rattle.laws_turns.proofs.SiteCases.{site_cases}
 use Rattle.qc_msg.specs.declared.payload.EpochStart.{EpochStart}
+use Rattle.qc_list.proofs.Booleans.{if_two}
 
 -- an epoch that is told has a plan, and so has one that is to be closed for or installed
 
@@ -102,13 +102,13 @@ FaultPlanned decl (Some a) = ArePlanned decl (closed_in a)
 pub fault_planned : (decl : Declaration) (s : SiteState) (epoch life : ℕ) → SitePlanned decl s
     → FaultPlanned decl (fault_of s epoch life)
 fault_planned decl s epoch life w =
-    by_two (FaultPlanned decl) (nat_lt s.epoch epoch) (Some (answers.Behind s.epoch)) _ tt
-    (by_two (FaultPlanned decl) (nat_lt epoch s.epoch) (Some (answers.Closed s.epoch))
+    if_two (FaultPlanned decl) (nat_lt s.epoch epoch) (Some (answers.Behind s.epoch)) _ tt
+    (if_two (FaultPlanned decl) (nat_lt epoch s.epoch) (Some (answers.Closed s.epoch))
     (closed_fault s life s.closed_for) w.epoch (by s.closed_for w.closed))
   where
     by : (o : Option ℕ) → ArePlanned decl o → FaultPlanned decl (closed_fault s life o)
-    by None planned = by_two (FaultPlanned decl) (life == 0) None _ tt
-        (by_two (FaultPlanned decl) (life == s.life) None (Some (answers.Restarted s.life)) tt tt)
+    by None planned = if_two (FaultPlanned decl) (life == 0) None _ tt
+        (if_two (FaultPlanned decl) (life == s.life) None (Some (answers.Restarted s.life)) tt tt)
     by (Some k) planned = planned
 
 abbrev Answers : Declaration → SiteMove → Type 0
@@ -116,14 +116,14 @@ Answers decl m = TurnPlanned decl m.turn
 
 promises_planned : (decl : Declaration) (s : SiteState) (from number : ℕ) (p : Prepared)
     → Answers decl (promises s from number p)
-promises_planned decl s from number p = by_two (Answers decl) (nat_le (prepare_length p) most_record_bytes) _ _
+promises_planned decl s from number p = if_two (Answers decl) (nat_le (prepare_length p) most_record_bytes) _ _
     (records_so decl from number (records.Prepare p) (answers.Yes s.clock) tt tt) (says decl _ (tt, tt))
 
 prepares_planned : (decl : Declaration) (s : SiteState) (from number : ℕ) (tx : TxId)
     → Answers decl (prepares s from number tx)
 prepares_planned decl s from number tx =
-    by_two (Answers decl) (not (is_held s.held tx)) _ _ (says decl _ (tt, tt))
-    (by_two (Answers decl) (is_prepared s.prepared tx) _ (promises s from number (promise_of s tx))
+    if_two (Answers decl) (not (is_held s.held tx)) _ _ (says decl _ (tt, tt))
+    (if_two (Answers decl) (is_prepared s.prepared tx) _ (promises s from number (promise_of s tx))
     (says decl _ (tt, tt)) (promises_planned decl s from number (promise_of s tx)))
 
 reads_planned : (decl : Declaration) (s : SiteState) (from number : ℕ) (tx : TxId) (object inv : ℕ)
@@ -165,7 +165,7 @@ site_planned : (decl : Declaration) (s : SiteState) (from number : ℕ) (m : Mes
 site_planned decl s from number m told w =
     site_cases decl s from number (λ (x : Message) (move : SiteMove). TellsPlanned decl x → Answers decl move)
     (λ x planned. says_nothing decl)
-    (λ q planned. by_two (Answers decl) (names_declared decl q.tx q.want)
+    (λ q planned. if_two (Answers decl) (names_declared decl q.tx q.want)
     (requested decl s from number q.tx q.want (fault_of s q.epoch q.life)) (moved s quiet)
     (requested_planned decl s from number q.tx q.want (fault_of s q.epoch q.life)
     (fault_planned decl s q.epoch q.life w)) (says_nothing decl))

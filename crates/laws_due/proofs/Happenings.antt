@@ -13,7 +13,6 @@ use Rattle.qc_client.specs.Vocabulary.{ClientMove, client_does, client_takes}
 use Rattle.qc_decl.specs.declared.declaration.Declaration.{Declaration}
 use Rattle.qc_decl.specs.Vocabulary.{is_client}
 use Rattle.qc_entry.specs.declared.record.Commit.{Commit}
-use Rattle.laws_turns.proofs.Up.{turn_up}
 use Rattle.qc_msg.specs.declared.record.Record.{Record}
 use Rattle.qc_msg.specs.declared.record.Record.TheVariants as records
 use Rattle.qc_msg.specs.declared.reply.Reply.{Reply}
@@ -39,11 +38,13 @@ use Rattle.laws_due.proofs.Dues.{due_then, within_all, within_at}
 use Rattle.laws_due.proofs.Fits.{takes_fit}
 use Rattle.laws_due.proofs.Rising.{risen_account, risen_holds, risen_ties}
 use Rattle.laws_due.proofs.Standing.{IsAtRest, IsFallen, IsTied, account_is, account_more, actor_more, event_due}
-use Rattle.laws_due.proofs.Standing.{no_act, none_follows, steady_client, steady_up, turn_declared, turn_is, up_more}
+use Rattle.laws_due.proofs.Standing.{no_act, none_follows, turn_declared, turn_is, up_more}
 use Rattle.laws_due.proofs.Step.{inputs_are_answered_as_is_due}
 use Rattle.laws_due.proofs.Unwritten.{unwritten_commits_are_unknown}
 use Rattle.laws_due.proofs.Writing.{IsClientTurn, IsCommitTurn, takes_turn}
 use Rattle.laws_due.proofs.Fallings.{as_record, input_free, fallen_still}
+use Rattle.qc_core.proofs.ActorLaws.{clients}
+use Rattle.qc_core.proofs.LivesOfActors.{steady_from}
 
 module _ (decl : Declaration) (a : ℕ) (client : is_client decl a ≡ true) where
   -- a rise, whatever its records
@@ -152,27 +153,27 @@ module _ (decl : Declaration) (a : ℕ) (client : is_client decl a ≡ true) whe
       up = true;
       is =
           up_more decl a (ds ++ Takes g ∷ []) (turn_deeds first move.turn)
-          ∙ steady_up (is_up (ds ++ Takes g ∷ [])) (turn_deeds first move.turn) (turn_steady first move.turn)
+          ∙ steady_from (is_up (ds ++ Takes g ∷ [])) (turn_deeds first move.turn) (turn_steady first move.turn)
           ∙ up_more decl a ds (Takes g ∷ []) ∙ r.is ∙ same;
       due =
           λ ys behind. event_due decl a ds r (Takes g) (turn_deeds first move.turn) ys
           (no_act (Takes g ∷ (turn_deeds first move.turn ++ ys)) refl r.up)
           (λ dues. (
             input_free decl a client ds r g may,
-            due_then decl (turn_deeds first move.turn) ys taken (turn_up first move.turn)
+            due_then decl (turn_deeds first move.turn) ys taken (turn_steady first move.turn)
                 (turn_declared decl first move.turn) (none_follows true ys behind) taken_within (goes first).due dues,
           ));
       stands = record {
         state = (fold (client_does decl) move (turn_deeds first move.turn)).client;
         actor = ap (λ (m : ActorMove). m.actor) (actor_more decl a (ds ++ Takes g ∷ []) (turn_deeds first move.turn)
             ∙ ap (λ (m : ActorMove). fold (actor_does decl a) m (turn_deeds first move.turn)) takes_to
-            ∙ steady_client decl a move (turn_deeds first move.turn) (turn_steady first move.turn));
+            ∙ clients decl a move (turn_deeds first move.turn) (turn_steady first move.turn));
         ties =
             subst (λ (d : Account). Ties decl d (fold (client_does decl) move (turn_deeds first move.turn)).client)
             (sym (posted_account (turn_deeds first move.turn))) (goes first).ties;
         holds = takes_fit decl first s.state g s.holds;
         within = subst (IsWithin decl) (sym (posted_account (turn_deeds first move.turn)))
-            (within_all decl (turn_deeds first move.turn) taken (turn_up first move.turn)
+            (within_all decl (turn_deeds first move.turn) taken (turn_steady first move.turn)
             (turn_declared decl first move.turn) taken_within);
       };
     }

@@ -43,7 +43,7 @@ other_half (Read read) is = let never : ⊥ = cc in absurd never
 other_half (Append object view own) is = refl
 other_half Prepare is = let never : ⊥ = cc in absurd never
 
-reads_kept : (n : ℕ) (answer : Option Answer) (qs : List ClientRequest) → Every (IsOpenIn is_append) qs
+pub reads_kept : (n : ℕ) (answer : Option Answer) (qs : List ClientRequest) → Every (IsOpenIn is_append) qs
     → filter (λ (q : ClientRequest). is_read q.want) (taken_for n answer qs)
     ≡ filter (λ (q : ClientRequest). is_read q.want) qs
 reads_kept n answer [] all = refl

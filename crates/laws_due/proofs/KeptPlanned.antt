@@ -1,16 +1,15 @@
 -- Where records are kept, each record that rises names epochs with plans: nobody wrote another.
 use Rattle.std.proofs.Common.{◌≡◌, ◌≤◌, ℕ, ◌+◌, ◌==◌, Bool, true, false, cond, List, [], ◌∷◌, ◌++◌, filter, map, length}
-use Rattle.std.proofs.Common.{Option, Some, None, inl, inr, refl, sym, ap, ◌∙◌, subst, append_assoc}
+use Rattle.std.proofs.Common.{Option, Some, None, inl, inr, refl, sym, subst}
 use Rattle.std.specs.Prelude.{fold, option_to_list, MatchOption}
 use Rattle.std.specs.List.{AllByRecursion as Every}
 use Rattle.laws_turns.proofs.SoundClients.{IsAskableDeed}
 use Rattle.laws_due.proofs.Commanded.{run_askable}
-use Rattle.qc_list.proofs.Members.{every-weaker}
+use Rattle.qc_list.proofs.Members.{every-weaker, every-append}
 use Rattle.qc_core.specs.Vocabulary.{IsLawfulWithFalls}
 use Rattle.qc_decl.specs.Vocabulary.{IsAccepted, actors}
 use Rattle.qc_decl.specs.declared.declaration.Declaration.{Declaration}
 use Rattle.laws_turns.specs.Vocabulary.{AsksDeclared}
-use Rattle.laws_turns.proofs.Mailed.{both_all}
 use Rattle.qc_link.specs.Vocabulary.{most_actors}
 use Rattle.laws_turns.proofs.FallKept.{clients_rise_with_own_stamps_where_records_are_kept}
 use Rattle.qc_msg.specs.declared.record.Record.{Record}
@@ -41,6 +40,7 @@ use Rattle.laws_due.proofs.ActorsPlanned.{lawful_writes}
 use Rattle.laws_due.proofs.MailPlanned.{deeds_risen, rise_askable, run_planned}
 use Rattle.laws_turns.proofs.StepCases.{controller_cases, deed_cases}
 use Rattle.std.specs.Option.{option_map_or}
+use Rattle.qc_promise.proofs.Posts.{kept_part}
 
 module _ (decl : Declaration) where
   -- steps that put records of epochs with plans alone into a journal
@@ -93,7 +93,7 @@ module _ (decl : Declaration) where
       by None None (Some kept) all = record { records = all; pending = tt }
       by None (Some f) r all = record { records = its.records; pending = at f.pending all }
       by (Some written) f r all = record {
-        records = both_all (IsRecordPlanned decl) j.records (written ∷ []) its.records (all, tt);
+        records = every-append (IsRecordPlanned decl) j.records (written ∷ []) its.records (all, tt);
         pending = its.pending;
       }
 
@@ -116,7 +116,7 @@ module _ (decl : Declaration) where
       → Every (IsRecordPlanned decl) kept
   back_planned j kept its (inl same) = subst (Every (IsRecordPlanned decl)) (sym same) its.records
   back_planned j kept its (inr more) = subst (Every (IsRecordPlanned decl)) (sym more)
-      (both_all (IsRecordPlanned decl) j.records (option_to_list j.pending) its.records its.pending)
+      (every-append (IsRecordPlanned decl) j.records (option_to_list j.pending) its.records its.pending)
 
   given_planned : (a : ℕ) (h : List Entry) (kept : List Record) → AllPutPlanned h
       → IsGivenBack (journal_of (own a h)) kept → Every (IsRecordPlanned decl) kept
@@ -161,17 +161,13 @@ module _ (decl : Declaration) where
   line_puts : (line : Control) (step : Step) → controller_step line ≡ Some step → PutsPlanned step
   line_puts line step is = controller_cases PutsPlanned (λ x y. tt) (λ x y. tt) (λ x. tt) line step is
 
-part_kept : (h k : List Entry) → Kept (h ++ k) → Kept h
-part_kept h k kept = λ before later e is. kept before (later ++ k) e
-    (sym (append_assoc before (e ∷ later) k) ∙ ap (λ (es : List Entry). es ++ k) is)
-
 module _ (decl : Declaration) (script : Script) (fits : ℕ → List Record → Type 0) (accepted : IsAccepted decl)
     (asks : AsksDeclared decl script) where
   abbrev IsRun : List Entry → List Bool → Type 0
   IsRun h open_inputs = RunsWithFalls (IsLawfulWithFalls decl) fits decl script h open_inputs
 
   more : (h k : List Entry) → AllPutPlanned decl h → AllPutPlanned decl k → AllPutPlanned decl (h ++ k)
-  more h k first second = both_all (λ (e : Entry). PutsPlanned decl e.step) h k first second
+  more h k first second = every-append (λ (e : Entry). PutsPlanned decl e.step) h k first second
 
   turn_puts : (a n : ℕ) (h : List Entry) (turn : Turn) → IsLawfulWithFalls decl a (deeds a [] h) turn
       → IsMailPlanned decl (mail h) → AllPutPlanned decl h → Every (IsAskableDeed decl a) (deeds a [] h)
@@ -189,22 +185,22 @@ module _ (decl : Declaration) (script : Script) (fits : ℕ → List Record → 
   run_puts : (h : List Entry) (open_inputs : List Bool) → IsRun h open_inputs → Kept h → AllPutPlanned decl h
   run_puts h open_inputs begins kept = tt
   run_puts h open_inputs (takes a g before older run free rdy) kept =
-      more older _ (run_puts older before run (part_kept older _ kept)) (input_puts decl g, tt)
+      more older _ (run_puts older before run (kept_part older _ kept)) (input_puts decl g, tt)
   run_puts h open_inputs (posts a turn before older run taken law) kept =
-      let puts : AllPutPlanned decl older = run_puts older before run (part_kept older _ kept) in
+      let puts : AllPutPlanned decl older = run_puts older before run (kept_part older _ kept) in
       more older (by a (posted_as turn.append (length (mail older)) turn)) puts
       (turn_puts a (length (mail older)) older turn law (mail_planned older before run puts) puts
       (run_askable (IsLawfulWithFalls decl) fits decl script asks older before run a))
   run_puts h open_inputs (phase before older run none done quiet further) kept =
-      more older _ (run_puts older before run (part_kept older _ kept)) (tt, tt)
+      more older _ (run_puts older before run (kept_part older _ kept)) (tt, tt)
   run_puts h open_inputs (control line lines step before older run left is) kept =
-      more older _ (run_puts older before run (part_kept older _ kept)) (line_puts decl line step is, tt)
+      more older _ (run_puts older before run (kept_part older _ kept)) (line_puts decl line step is, tt)
   run_puts h open_inputs (falls a lines before older run left) kept =
-      more older _ (run_puts older before run (part_kept older _ kept)) (tt, tt)
+      more older _ (run_puts older before run (kept_part older _ kept)) (tt, tt)
   run_puts h open_inputs (rises a records turn lines before older run left fit has law) kept =
       let post : List Entry = by a (posted_as turn.append (length (mail older)) turn) in
       let puts : AllPutPlanned decl older = run_puts older before run
-      (part_kept older (marked a (steps.Rose records) ∷ post) kept) in
+      (kept_part older (marked a (steps.Rose records) ∷ post) kept) in
       let risen : Every (IsRecordPlanned decl) records =
       given_planned decl a older records puts (kept older post (marked a (steps.Rose records)) refl) in
       more older (marked a (steps.Rose records) ∷ post) puts (
@@ -216,9 +212,9 @@ module _ (decl : Declaration) (script : Script) (fits : ℕ → List Record → 
             (IsLawfulWithFalls decl) fits decl script asks older before run a)),
       )
   run_puts h open_inputs (damaged a offset lines before older run left) kept =
-      more older _ (run_puts older before run (part_kept older _ kept)) (tt, tt)
+      more older _ (run_puts older before run (kept_part older _ kept)) (tt, tt)
   run_puts h open_inputs (unopened a cause lines before older run left disk) kept =
-      more older _ (run_puts older before run (part_kept older _ kept)) (tt, tt)
+      more older _ (run_puts older before run (kept_part older _ kept)) (tt, tt)
 
   pub what_rises_is_planned_where_records_are_kept : (h : List Entry) (open_inputs : List Bool) → IsRun h open_inputs
       → Kept h → AllRisePlanned decl h

@@ -23,14 +23,7 @@ use Rattle.laws_due.proofs.Fallings.{as_record, crashes_rest, input_free, unopen
 use Rattle.laws_due.proofs.Happenings.{down_as, posted_as, rises_rest, takes_to}
 use Rattle.laws_due.proofs.Standing.{AreDue, IsAt, IsAtInput, IsAtRest, IsFallen, IsTied, Stands, actor_more, no_act}
 use Rattle.laws_due.proofs.Standing.{turn_is}
-
-first_all : (P : Deed → Type 0) (xs ys : List Deed) → Every P (xs ++ ys) → Every P xs
-first_all P [] ys all = tt
-first_all P (x ∷ xs) ys all = (all.0, first_all P xs ys all.1)
-
-rest_all : (P : Deed → Type 0) (xs ys : List Deed) → Every P (xs ++ ys) → Every P ys
-rest_all P [] ys all = all
-rest_all P (x ∷ xs) ys all = rest_all P xs ys all.1
+use Rattle.laws_due.proofs.Telling.{first_all, rest_all}
 
 module _ (decl : Declaration) (a : ℕ) (client : is_client decl a ≡ true) (planned : IsPlanned decl first_epoch) where
   first_rest : IsAtRest decl a []

@@ -4,14 +4,12 @@ use Rattle.std.proofs.Common.{Some, None, slice_get, refl, sym, subst, append_as
 use Rattle.std.specs.Prelude.{option_to_list}
 use Rattle.std.specs.List.{AllByRecursion as Every}
 use Rattle.qc_core.specs.Vocabulary.{IsLawfulWithFalls}
-use Rattle.laws_turns.proofs.LivedMoves.{deeds-rise}
 use Rattle.laws_turns.specs.Vocabulary.{AsksDeclared}
 use Rattle.laws_turns.proofs.SoundClients.{IsAskableDeed}
 use Rattle.laws_due.proofs.Commanded.{run_askable}
 use Rattle.qc_decl.specs.Vocabulary.{controller}
 use Rattle.qc_decl.specs.declared.declaration.Declaration.{Declaration}
 use Rattle.qc_mailbox.proofs.Keeping.{same_mail}
-use Rattle.laws_turns.proofs.Mailed.{both_all}
 use Rattle.qc_msg.specs.declared.message.Envelope.{Envelope}
 use Rattle.qc_msg.specs.declared.record.Record.{Record}
 use Rattle.qc_msg.specs.declared.step.Control.{Control}
@@ -31,6 +29,8 @@ use Rattle.laws_due.proofs.Epochs.{TellPlanned, TellsPlanned}
 use Rattle.laws_due.proofs.PlannedMail.{IsMailPlanned, deeds_planned, envelopes_planned}
 use Rattle.laws_due.proofs.ActorsPlanned.{RisesOfPlanned, lawful_sends}
 use Rattle.laws_turns.proofs.StepCases.{controller_cases, deed_cases}
+use Rattle.qc_list.proofs.Members.{every-append}
+use Rattle.qc_msg.proofs.DeedsGrow.{deeds-rise}
 
 -- the deeds of a history in which nobody rises with an epoch without a plan
 
@@ -55,7 +55,7 @@ pub deeds_risen : (decl : Declaration) (a : ℕ) (ms : List Envelope) (h : List 
     → Every (RisesOfPlanned decl) (deeds a ms h)
 deeds_risen decl a ms [] all = tt
 deeds_risen decl a ms (e ∷ h) all =
-    both_all (RisesOfPlanned decl) (cond (e.actor == a) (deed_at ms e.step) [])
+    every-append (RisesOfPlanned decl) (cond (e.actor == a) (deed_at ms e.step) [])
     (deeds a (ms ++ option_to_list (envelope_of e)) h) (mine_risen decl (e.actor == a) ms e.step all.0)
     (deeds_risen decl a (ms ++ option_to_list (envelope_of e)) h all.1)
 
@@ -69,7 +69,7 @@ pub rise_askable : (decl : Declaration) (a : ℕ) (h : List Entry) (kept : List 
     → Every (IsAskableDeed decl a) (deeds a [] (h ++ marked a (steps.Rose kept) ∷ []))
 rise_askable decl a h kept all =
     subst (Every (IsAskableDeed decl a)) (sym (deeds-rise a h kept))
-    (both_all (IsAskableDeed decl a) (deeds a [] h) (Rises kept ∷ []) all (tt, tt))
+    (every-append (IsAskableDeed decl a) (deeds a [] h) (Rises kept ∷ []) all (tt, tt))
 
 -- each run
 
@@ -93,7 +93,7 @@ module _ (decl : Declaration) (first : IsPlanned decl first_epoch) (script : Scr
   posted_mail : (a n : ℕ) (turn : Turn) (h : List Entry) → TellPlanned decl (sends_as turn.append turn)
       → IsMailPlanned decl (mail h) → IsMailPlanned decl (mail h ++ mail (by a (posted_as turn.append n turn)))
   posted_mail a n turn h sends planned =
-      both_all (λ (e : Envelope). TellsPlanned decl e.message) (mail h) (mail (by a (posted_as turn.append n turn)))
+      every-append (λ (e : Envelope). TellsPlanned decl e.message) (mail h) (mail (by a (posted_as turn.append n turn)))
       planned
       (subst (IsMailPlanned decl) (sym (mail-posted_as turn.append a n turn))
       (envelopes_planned decl a n (sends_as turn.append turn) sends))

@@ -16,8 +16,6 @@ use Rattle.qc_decl.specs.Vocabulary.{IsAccepted, actors, administrator, is_site}
 use Rattle.qc_decl.specs.declared.declaration.Declaration.{Declaration}
 use Rattle.laws_turns.specs.Vocabulary.{AsksDeclared, LivesIn, calls_of, replies_of}
 use Rattle.laws_turns.proofs.Commanded.{uncommanded}
-use Rattle.laws_turns.proofs.Mailed.{both_all}
-use Rattle.laws_turns.proofs.Places.{slice_get-within}
 use Rattle.qc_link.specs.Vocabulary.{most_actors}
 use Rattle.laws_turns.proofs.ByMailWithFalls.{run_delivered}
 use Rattle.laws_turns.proofs.Lived.{actors_live_in_runs_with_falls, run_long}
@@ -36,8 +34,10 @@ use Rattle.qc_script.specs.Vocabulary.{RunsWithFalls}
 use Rattle.qc_script.specs.declared.script.Script.{Script}
 use Rattle.laws_due.specs.Vocabulary.{AreInOrder}
 use Rattle.laws_due.proofs.Ordered.{all_counted, open_commands, run_ordered}
-use Rattle.laws_due.proofs.Places.{few_actors}
 use Rattle.laws_due.proofs.Telling.{first_all}
+use Rattle.qc_list.proofs.Members.{every-append}
+use Rattle.qc_list.proofs.Places.{some_at}
+use Rattle.qc_decl.proofs.Clients.{few_actors}
 
 -- deeds that tell nothing
 
@@ -152,25 +152,25 @@ module _ (decl : Declaration) (a : ℕ) (site : is_site decl a ≡ true) where
   site_mute : (ds : List Deed) (b : Bool) (n : ℕ) → Lives decl a ds b n → AreUncommanded ds → AreMute ds
   site_mute ds b n lives.starts calls = tt
   site_mute ds b n (lives.takes older g m life may reach) calls =
-      both_all IsMute older (Takes g ∷ []) (site_mute older false m life (first_all _ older (Takes g ∷ []) calls))
+      every-append IsMute older (Takes g ∷ []) (site_mute older false m life (first_all _ older (Takes g ∷ []) calls))
       (tt, tt)
   site_mute ds b n (lives.posts older turn m first life low law) calls =
-      both_all IsMute older (deeds_as turn.append first turn)
+      every-append IsMute older (deeds_as turn.append first turn)
       (site_mute older true m life (first_all _ older (deeds_as turn.append first turn) calls))
       (post_mute first turn turn.append (lawful_says older turn
       (first_all _ older (deeds_as turn.append first turn) calls) law))
   site_mute ds b n (lives.crashes older m life up) calls =
-      both_all IsMute older (Falls causes.Script None ∷ [])
+      every-append IsMute older (Falls causes.Script None ∷ [])
       (site_mute older false m life (first_all _ older (Falls causes.Script None ∷ []) calls)) (tt, tt)
   site_mute ds b n (lives.rises older kept turn m first life down low law) calls =
       let front : AreUncommanded (older ++ Rises kept ∷ []) =
       first_all _ (older ++ Rises kept ∷ []) (deeds_as turn.append first turn) calls in
-      both_all IsMute (older ++ Rises kept ∷ []) (deeds_as turn.append first turn)
-      (both_all IsMute older (Rises kept ∷ [])
+      every-append IsMute (older ++ Rises kept ∷ []) (deeds_as turn.append first turn)
+      (every-append IsMute older (Rises kept ∷ [])
       (site_mute older false m life (first_all _ older (Rises kept ∷ []) front)) (tt, tt))
       (post_mute first turn turn.append (lawful_says (older ++ Rises kept ∷ []) turn front law))
   site_mute ds b n (lives.unopened older cause m life down by_disk) calls =
-      both_all IsMute older (Falls cause None ∷ [])
+      every-append IsMute older (Falls cause None ∷ [])
       (site_mute older false m life (first_all _ older (Falls cause None ∷ []) calls)) (tt, tt)
 
 module _ (decl : Declaration) (script : Script) (accepted : IsAccepted decl) (asks : AsksDeclared decl script)
@@ -181,7 +181,7 @@ module _ (decl : Declaration) (script : Script) (accepted : IsAccepted decl) (as
   few = few_actors decl accepted
 
   site_ordered : is_site decl a ≡ true → AreInOrder false (deeds a [] h)
-  site_ordered site = at (slice_get-within open_inputs a
+  site_ordered site = at (some_at open_inputs a
       (let long : length open_inputs ≡ actors decl = run_long decl script fits few h open_inputs run in omega arith))
     where
       calls : AreUncommanded (deeds a [] h)

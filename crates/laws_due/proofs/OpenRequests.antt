@@ -10,6 +10,7 @@ use Rattle.qc_msg.specs.declared.message.Want.{Want}
 use Rattle.qc_msg.specs.Vocabulary.{site_called, without_call}
 use Rattle.qc_promise.specs.Vocabulary.{ClientRequest, is_open, taken_for}
 use Rattle.laws_due.specs.Vocabulary.{call_of, calls_in}
+use Rattle.qc_list.proofs.Booleans.{and_parts}
 
 abbrev pub sites_in : List ClientRequest → List ℕ
 sites_in qs = map (λ (q : ClientRequest). q.site) qs
@@ -19,10 +20,6 @@ numbers_open qs = map (λ (c : Call). c.number) (calls_in qs)
 
 abbrev pub took : ClientRequest → Option Answer → ClientRequest
 took q answer = record q { taken = Some answer }
-
-pub and_false : (a : Bool) → (a && false) ≡ false
-and_false true = refl
-and_false false = refl
 
 -- the open request of a number is the call of that number
 pub find_call : (number : ℕ) (qs : List ClientRequest)
@@ -122,11 +119,6 @@ every_taken P number answer keeps (q ∷ qs) all = (by (is_open number q), every
 
 -- the open request that is found
 
-pub open_parts : (a b : Bool) → (a && b) ≡ true → (a ≡ true) × (b ≡ true)
-open_parts true true e = (refl, refl)
-open_parts true false e = absurd (let never : ⊥ = cc in never)
-open_parts false b e = absurd (let never : ⊥ = cc in never)
-
 pub record IsFound (number : ℕ) (qs : List ClientRequest) (q : ClientRequest) : Type 0 where
   pub among : In q qs
   pub number_is : q.number ≡ number
@@ -142,7 +134,7 @@ found number (p ∷ qs) q e = by (is_open number p) refl e (found number qs q)
     by true is e more =
         let same : p ≡ q = cc in
         let parts : ((p.number == number) ≡ true) × (is_none p.taken ≡ true) =
-        open_parts (p.number == number) (is_none p.taken) is in
+        and_parts (p.number == number) (is_none p.taken) is in
         subst (λ (x : ClientRequest). IsFound number (p ∷ qs) x) same
         (record { among = inl refl; number_is = eqb-true p.number number parts.0; open_still = parts.1 })
     by false is e more =

@@ -14,7 +14,7 @@ use Rattle.qc_mailbox.proofs.FallMail.{ready_messages_were_sent_through_falls}
 use Rattle.laws_turns.specs.Vocabulary.{AsksDeclared, LivesIn, call_in, reply_in}
 use Rattle.laws_turns.proofs.Acted.{deeds-silent}
 use Rattle.laws_turns.proofs.Commands.{may_take}
-use Rattle.laws_turns.proofs.LivedMoves.{deeds-fall, deeds-rise}
+use Rattle.laws_turns.proofs.LivedMoves.{deeds-fall}
 use Rattle.laws_turns.proofs.Lived.{actors_live_in_runs_with_falls}
 use Rattle.qc_msg.specs.declared.record.Record.{Record}
 use Rattle.qc_msg.specs.declared.reply.Reply.{Reply}
@@ -32,7 +32,7 @@ use Rattle.qc_msg.specs.declared.turn.Posting.{Posting}
 use Rattle.qc_msg.specs.declared.turn.Turn.{Turn}
 use Rattle.qc_msg.specs.Vocabulary.{Deed, Entry, Falls, MayEnd, Rises, Sends, Takes, Tells, Writes, by, deeds, deeds_as}
 use Rattle.qc_msg.specs.Vocabulary.{mail, marked, posted_as, sends_of, step_of, tells_of, writes_of}
-use Rattle.qc_msg.proofs.DeedsGrow.{deeds-other}
+use Rattle.qc_msg.proofs.DeedsGrow.{deeds-other, deeds-rise}
 use Rattle.qc_msg.proofs.Growth.{deeds-posted_as, deeds-taken}
 use Rattle.qc_recover.specs.Vocabulary.{rising}
 use Rattle.qc_script.specs.Vocabulary.{RunsWithFalls, begins, control, controls_left, damaged, falls, phase, phase_of}
@@ -40,10 +40,11 @@ use Rattle.qc_script.specs.Vocabulary.{posts, ready, rises, takes, unopened}
 use Rattle.qc_script.specs.declared.script.Script.{Script}
 use Rattle.laws_due.specs.Vocabulary.{AreInOrder, MayBeGiven}
 use Rattle.laws_due.proofs.EndsWithFalls.{no_command_runs_while_a_line_is_left}
-use Rattle.laws_due.proofs.Places.{apart_from_controller, few_actors, rose_split}
+use Rattle.laws_due.proofs.Places.{apart_from_controller, rose_split}
 use Rattle.laws_due.proofs.Telling.{Replies}
 use Rattle.laws_due.proofs.LifelongWithFalls.{client_lives, rising_turn, turn_replies}
 use Rattle.laws_due.proofs.Tied.{IsAtInput}
+use Rattle.qc_decl.proofs.Clients.{few_actors}
 
 -- deeds behind others
 

@@ -1,33 +1,20 @@
 -- The numbers of actors, and the deeds of an actor that rises.
-use Rattle.std.proofs.Common.{◌≡◌, ℕ, ◌+◌, ◌<◌, ◌≤◌, ◌==◌, Bool, true, false, List, [], ◌∷◌, ◌++◌, refl, sym, ap, ◌∙◌}
-use Rattle.std.proofs.Common.{arith, append_assoc, eqb-true}
+use Rattle.std.proofs.Common.{◌≡◌, ℕ, ◌+◌, ◌<◌, ◌==◌, true, false, List, [], ◌∷◌, ◌++◌, sym, ap, ◌∙◌, arith}
+use Rattle.std.proofs.Common.{append_assoc}
 pub use Rattle.qc_decl.proofs.Clients.{client_below, client_past, client_within}
 use Rattle.qc_decl.specs.declared.declaration.Declaration.{Declaration}
-use Rattle.qc_decl.specs.Vocabulary.{IsAccepted, actors, controller, is_client}
-use Rattle.qc_link.specs.Vocabulary.{most_actors}
-use Rattle.laws_turns.proofs.LivedMoves.{deeds-rise}
+use Rattle.qc_decl.specs.Vocabulary.{controller, is_client}
 use Rattle.qc_msg.specs.declared.record.Record.{Record}
 use Rattle.qc_msg.specs.declared.step.Step.TheVariants as steps
 use Rattle.qc_msg.specs.declared.turn.Appended.{Appended}
 use Rattle.qc_msg.specs.declared.turn.Turn.{Turn}
 use Rattle.qc_msg.specs.Vocabulary.{Deed, Entry, Rises, by, deeds, deeds_as, marked, posted_as}
 use Rattle.qc_msg.proofs.Growth.{deeds-posted_as}
-
-pub few_actors : (decl : Declaration) → IsAccepted decl → actors decl ≤ most_actors
-few_actors decl accepted =
-    let sites : decl.sites ≤ 16 = accepted.sites in
-    let clients : decl.clients ≤ 16 = accepted.clients in
-    omega arith
-
-pub apart : (x y : ℕ) → (x ≡ y → ⊥) → (x == y) ≡ false
-apart x y differs = at (x == y) refl
-  where
-    at : (t : Bool) → (x == y) ≡ t → t ≡ false
-    at true same = absurd (differs (eqb-true x y same))
-    at false other = refl
+use Rattle.qc_list.proofs.Numbers.{numbers_apart}
+use Rattle.qc_msg.proofs.DeedsGrow.{deeds-rise}
 
 pub apart_from_controller : (decl : Declaration) (a : ℕ) → is_client decl a ≡ true → (controller decl == a) ≡ false
-apart_from_controller decl a client = apart (controller decl) a
+apart_from_controller decl a client = numbers_apart (controller decl) a
     (λ same. (let within : a < decl.sites + decl.clients = client_below decl a client in
     let is : decl.sites + decl.clients + 1 ≡ a = same in omega arith))
 

@@ -15,8 +15,9 @@ use Rattle.qc_msg.specs.Vocabulary.{Entry, deed_at, deeds, heard, mail, Deed, co
 use Rattle.qc_msg.proofs.DeedsGrow.{deeds-append}
 use Rattle.qc_script.specs.Vocabulary.{inbox, phase_at, phase_of}
 use Rattle.qc_script.specs.declared.script.Script.{Script}
-use Rattle.laws_due.proofs.PlainSteps.{IsPlain, ArePlain, Leaves, same_left, left_then, step_left, inbox_then}
+use Rattle.laws_due.proofs.PlainSteps.{IsPlain, ArePlain, Leaves, same_left, left_then, step_left}
 use Rattle.laws_turns.proofs.StepCases.{deed_cases}
+use Rattle.qc_mailbox.proofs.Keeping.{inbox_after}
 
 -- entry by entry
 pub entries : (P : List Entry → Type 0) (Q : Entry → Type 0)
@@ -29,7 +30,7 @@ pub entries_left : (script : Script) (a : ℕ) (h k : List Entry) → ArePlain k
     → Leaves (inbox script a h) (inbox script a (h ++ k))
 entries_left script a h k plain =
     entries (λ (v : List Entry). Leaves (inbox script a h) (inbox script a v)) (λ (e : Entry). IsPlain e.step)
-    (λ v e is left. subst (Leaves (inbox script a h)) (sym (inbox_then script a v e))
+    (λ v e is left. subst (Leaves (inbox script a h)) (sym (inbox_after script a v e))
     (left_then (inbox script a h) (inbox script a v) _ left
     (step_left script a (inbox script a v) e.actor e.step is)))
     h k plain (same_left (inbox script a h) (inbox script a h) refl refl)

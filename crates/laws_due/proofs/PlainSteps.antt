@@ -3,7 +3,6 @@ use Rattle.std.proofs.Common.{[], ◌≡◌, ℕ, ◌+◌, ◌==◌, ◌&&◌, B
 use Rattle.std.proofs.Common.{Option, Some, None, refl, ap, ◌∙◌}
 use Rattle.std.specs.Prelude.{set}
 use Rattle.std.specs.List.{AllByRecursion as Every}
-use Rattle.std.proofs.lemmas.List.Sums.{fold-append}
 use Rattle.qc_link.specs.declared.rule.Fate.{Fate}
 use Rattle.qc_msg.specs.declared.message.Envelope.{Envelope}
 use Rattle.qc_msg.specs.declared.message.Message.{Message}
@@ -18,10 +17,9 @@ use Rattle.qc_msg.specs.declared.turn.Posting.{Posting}
 use Rattle.qc_msg.specs.declared.turn.Turn.{Turn}
 use Rattle.qc_msg.specs.Vocabulary.{Entry, by, fell, posted_as, sents, told, wrote, Answered, answer_in}
 use Rattle.qc_script.specs.Vocabulary.{Inbox, acting, actor_fell, answers_by, comes, comes_at_once, control_acted}
-use Rattle.qc_script.specs.Vocabulary.{controller_step, copy_taken, emptied, empty_inbox, goes, goes_with, has_request}
-use Rattle.qc_script.specs.Vocabulary.{inbox, inbox_at, is_by_line, is_request, is_up, loss_taken, opened, opened_by}
-use Rattle.qc_script.specs.Vocabulary.{reply_told, requests_to, requests_to_others, with_copies, with_lost}
-use Rattle.qc_script.specs.Vocabulary.{request_answered}
+use Rattle.qc_script.specs.Vocabulary.{controller_step, copy_taken, emptied, goes, goes_with, has_request, inbox_at}
+use Rattle.qc_script.specs.Vocabulary.{is_by_line, is_request, is_up, loss_taken, opened, opened_by, reply_told}
+use Rattle.qc_script.specs.Vocabulary.{requests_to, requests_to_others, with_copies, with_lost, request_answered}
 use Rattle.qc_script.specs.declared.script.Script.{Script}
 use Rattle.laws_turns.proofs.StepCases.{controller_cases}
 use Rattle.laws_turns.proofs.ReadingCases.{mapped}
@@ -168,8 +166,3 @@ step_left script a i b step is =
     (left_then i (actor_fell a i b) (control_acted a (actor_fell a i b)) (fell_left a i b)
     (acted_left a (actor_fell a i b))) (fell_left a i b))
     (λ records plain. same_left i i refl refl) step is
-
-pub inbox_then : (script : Script) (a : ℕ) (h : List Entry) (e : Entry)
-    → inbox script a (h ++ e ∷ []) ≡ inbox_at script a (inbox script a h) e.actor e.step
-inbox_then script a h e =
-    fold-append (λ (i : Inbox) (e : Entry). inbox_at script a i e.actor e.step) empty_inbox h (e ∷ [])

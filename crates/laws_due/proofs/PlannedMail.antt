@@ -2,7 +2,7 @@
 use Rattle.std.proofs.Common.{◌≡◌, ℕ, ◌+◌, ◌-◌, ◌==◌, Bool, true, false, cond, if◌then◌else◌, List, [], ◌∷◌, ◌++◌}
 use Rattle.std.proofs.Common.{length, Option, Some, None, slice_get, refl, sym, ap, ◌∙◌, subst}
 use Rattle.std.specs.Prelude.{option_to_list}
-use Rattle.std.specs.List.{AllByRecursion as Every, cons_option}
+use Rattle.std.specs.List.{AllByRecursion as Every}
 use Rattle.qc_decl.specs.declared.declaration.Declaration.{Declaration}
 use Rattle.qc_decl.specs.Vocabulary.{controller, is_client, is_site}
 use Rattle.qc_msg.specs.declared.message.Envelope.{Envelope}
@@ -19,12 +19,13 @@ use Rattle.qc_script.specs.Vocabulary.{Runs, phase_of}
 use Rattle.qc_script.specs.Runs.{begins, takes, posts, phase, control}
 use Rattle.qc_script.specs.declared.script.Script.{Script}
 use Rattle.qc_site.specs.Vocabulary.{moved, new_site, site_after}
-use Rattle.laws_turns.proofs.Mailed.{all_at, both_all}
+use Rattle.laws_turns.proofs.Mailed.{first_all, rest_all}
 use Rattle.laws_turns.proofs.Numbered.{control_silent, mail-silent, phase_silent}
 use Rattle.laws_due.proofs.Epochs.{DeedPlanned, TellPlanned, TellsPlanned, folded_planned, says_nothing}
 use Rattle.laws_due.proofs.ClientEpochs.{client_planned}
 use Rattle.laws_due.specs.Vocabulary.{IsPlanned}
 use Rattle.laws_turns.proofs.StepCases.{deed_cases}
+use Rattle.qc_list.proofs.Members.{every-append, every-at}
 
 -- the mail, and what an actor takes of it
 
@@ -39,7 +40,7 @@ envelopes_planned decl a n (p ∷ ps) are = (are.0, envelopes_planned decl a (n 
 got_planned : (decl : Declaration) (ms : List Envelope) (n : ℕ) (o : Option Envelope) → IsMailPlanned decl ms
     → slice_get ms n ≡ o → Every (DeedPlanned decl) (heard o)
 got_planned decl ms n None first is = tt
-got_planned decl ms n (Some e) first is = (all_at (λ (x : Envelope). TellsPlanned decl x.message) ms n e first is, tt)
+got_planned decl ms n (Some e) first is = (every-at (λ (x : Envelope). TellsPlanned decl x.message) ms n e first is, tt)
 
 step_planned : (decl : Declaration) (ms : List Envelope) (step : Step) → IsMailPlanned decl ms
     → Every (DeedPlanned decl) (deed_at ms step)
@@ -53,24 +54,15 @@ mine_planned : (decl : Declaration) (mine : Bool) (ms : List Envelope) (step : S
 mine_planned decl true ms step first = step_planned decl ms step first
 mine_planned decl false ms step first = tt
 
-first_all : {A : Type 0} (P : A → Type 0) (o : Option A) (xs : List A) → Every P (cons_option o xs)
-    → Every P (option_to_list o)
-first_all P None xs all = tt
-first_all P (Some x) xs all = (all.0, tt)
-
-rest_all : {A : Type 0} (P : A → Type 0) (o : Option A) (xs : List A) → Every P (cons_option o xs) → Every P xs
-rest_all P None xs all = all
-rest_all P (Some x) xs all = all.1
-
 pub deeds_planned : (decl : Declaration) (a : ℕ) (ms : List Envelope) (h : List Entry) → IsMailPlanned decl ms
     → IsMailPlanned decl (mail h) → Every (DeedPlanned decl) (deeds a ms h)
 deeds_planned decl a ms [] first all = tt
 deeds_planned decl a ms (e ∷ h) first all =
-    both_all (DeedPlanned decl) (cond (e.actor == a) (deed_at ms e.step) [])
+    every-append (DeedPlanned decl) (cond (e.actor == a) (deed_at ms e.step) [])
     (deeds a (ms ++ option_to_list (envelope_of e)) h)
     (mine_planned decl (e.actor == a) ms e.step first)
     (deeds_planned decl a (ms ++ option_to_list (envelope_of e)) h
-    (both_all (λ (x : Envelope). TellsPlanned decl x.message) ms (option_to_list (envelope_of e)) first
+    (every-append (λ (x : Envelope). TellsPlanned decl x.message) ms (option_to_list (envelope_of e)) first
     (first_all (λ (x : Envelope). TellsPlanned decl x.message) (envelope_of e) (mail h) all))
     (rest_all (λ (x : Envelope). TellsPlanned decl x.message) (envelope_of e) (mail h) all))
 
@@ -102,7 +94,7 @@ module _ (decl : Declaration) (first : IsPlanned decl first_epoch) where
   run_planned script h open_inputs (posts a turn before older run taken law) =
       subst (IsMailPlanned decl) (sym (mail-append older (by a (posted (length (mail older)) turn))
       ∙ ap (λ (v : List Envelope). mail older ++ v) (mail-posted a (length (mail older)) turn)))
-      (both_all (λ (e : Envelope). TellsPlanned decl e.message) (mail older)
+      (every-append (λ (e : Envelope). TellsPlanned decl e.message) (mail older)
       (envelopes a (length (mail older)) turn.sends) (run_planned script older before run)
       (envelopes_planned decl a (length (mail older)) turn.sends
       (lawful_planned a (deeds a [] older) turn

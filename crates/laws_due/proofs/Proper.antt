@@ -15,10 +15,8 @@ use Rattle.qc_decl.specs.Vocabulary.{IsAccepted, controller, is_client}
 use Rattle.qc_decl.specs.declared.declaration.Declaration.{Declaration}
 use Rattle.laws_due.proofs.Commanded.{run_askable}
 use Rattle.laws_turns.specs.Vocabulary.{AsksDeclared}
-use Rattle.laws_turns.proofs.Mailed.{both_all}
 use Rattle.laws_turns.proofs.SoundClients.{IsAskableDeed, IsAskableGiven, Sound, SoundMove, sent_sound, takes_sound}
 use Rattle.laws_turns.proofs.Rounds.{AreProper, IsProper}
-use Rattle.laws_turns.proofs.LivedMoves.{deeds-rise}
 use Rattle.qc_msg.specs.declared.message.Envelope.{Envelope}
 use Rattle.qc_msg.specs.declared.record.Record.{Record}
 use Rattle.qc_msg.specs.declared.step.Control.{Control}
@@ -40,6 +38,8 @@ use Rattle.qc_script.specs.Vocabulary.{posts, rises, takes, unopened}
 use Rattle.qc_script.specs.declared.script.Script.{Script}
 use Rattle.laws_due.proofs.Places.{client_below, client_past}
 use Rattle.laws_turns.proofs.StepCases.{controller_cases}
+use Rattle.qc_list.proofs.Members.{every-append}
+use Rattle.qc_msg.proofs.DeedsGrow.{deeds-rise}
 
 module _ (decl : Declaration) (accepted : IsAccepted decl) (a : ℕ) (client : is_client decl a ≡ true) where
   -- the client over its deeds
@@ -140,7 +140,7 @@ module _ (decl : Declaration) (accepted : IsAccepted decl) (a : ℕ) (client : i
 
   more_proper : (h k : List Entry) → AreOwnProper (mail h) → AreOwnProper (mail k) → AreOwnProper (mail (h ++ k))
   more_proper h k first second = subst AreOwnProper (sym (mail-append h k))
-      (both_all IsOwnProper (mail h) (mail k) first second)
+      (every-append IsOwnProper (mail h) (mail k) first second)
 
   module _ (script : Script) (asks : AsksDeclared decl script) (fits : ℕ → List Record → Type 0) where
     abbrev IsRun : List Entry → List Bool → Type 0
@@ -162,7 +162,7 @@ module _ (decl : Declaration) (accepted : IsAccepted decl) (a : ℕ) (client : i
         → AreProper decl (sends_as turn.append turn)
     rise_sends older before run b kept turn law is =
         lawful_proper (deeds a [] older ++ Rises kept ∷ []) turn
-        (both_all (IsAskableDeed decl a) (deeds a [] older) (Rises kept ∷ []) (askable older before run) (tt, tt))
+        (every-append (IsAskableDeed decl a) (deeds a [] older) (Rises kept ∷ []) (askable older before run) (tt, tt))
         (subst (λ (ds : List Deed). IsLawfulWithFalls decl a ds turn) (deeds-rise a older kept)
         (subst (λ (k : ℕ). IsLawfulWithFalls decl k (deeds k [] (older ++ marked k (steps.Rose kept) ∷ [])) turn) is
         law))

@@ -7,13 +7,12 @@ use Rattle.std.proofs.lemmas.List.Sums.{fold-append}
 use Rattle.qc_list.specs.Vocabulary.{In}
 use Rattle.qc_core.specs.Vocabulary.{ActorMove, IsLawfulWithFalls, actor_after, actor_takes, with_record}
 use Rattle.qc_core.specs.Lives as lives
-use Rattle.qc_core.proofs.PostsByTurns.{after_takes, called_turn}
+use Rattle.qc_core.proofs.PostsByTurns.{called_turn}
 use Rattle.qc_decl.specs.Vocabulary.{actors, controller}
 use Rattle.qc_decl.specs.declared.declaration.Declaration.{Declaration}
 use Rattle.qc_mailbox.proofs.FallLaws.{no_input_is_open_while_a_line_is_left}
 use Rattle.qc_mailbox.proofs.FallMail.{ready_messages_were_sent_through_falls}
 use Rattle.laws_turns.specs.Vocabulary.{IsAtReceiver, IsTaken, LivesIn}
-use Rattle.laws_turns.proofs.Places.{slice_get-set_other}
 use Rattle.qc_link.specs.Vocabulary.{most_actors}
 use Rattle.laws_turns.proofs.Lived.{actors_live_in_runs_with_falls}
 use Rattle.qc_msg.specs.declared.message.Envelope.{Envelope}
@@ -41,6 +40,8 @@ use Rattle.laws_due.proofs.SiteTurns.{fell_last, step_on, took_up, turn_ends}
 use Rattle.laws_due.proofs.Taken.{in_numbers, of_number, RepliesTo, IsReplied, AreReplied, moved_to, taken_stays}
 use Rattle.laws_due.proofs.Taken.{take_kept}
 use Rattle.laws_turns.proofs.StepCases.{controller_cases}
+use Rattle.qc_core.proofs.ActorLaws.{input}
+use Rattle.qc_list.proofs.Places.{slice_get-set_other}
 
 module _ (decl : Declaration) (script : Script) (fits : ℕ → List Record → Type 0) (few : actors decl ≤ most_actors)
     (a : ℕ) (a_low : a < most_actors) (are_replied : AreReplied decl script fits a) where
@@ -78,7 +79,7 @@ module _ (decl : Declaration) (script : Script) (fits : ℕ → List Record → 
       turn_is =
           sym (called_turn decl b (deeds b [] older) turn law)
           ∙ ap (λ (ds : List Deed). (actor_after decl b ds).turn) last
-          ∙ ap (λ (m : ActorMove). m.turn) (after_takes decl b first (inputs.Got e))
+          ∙ ap (λ (m : ActorMove). m.turn) (input decl b first (inputs.Got e))
 
       sends : turn.sends ≡ record { to = a; message = messages.Answer e.number reply.answer } ∷ reply.rest
       sends =

@@ -12,7 +12,8 @@ use Rattle.qc_msg.specs.declared.message.Want.{Want}
 use Rattle.qc_msg.specs.Vocabulary.{calls_from, life_of}
 use Rattle.qc_promise.specs.Vocabulary.{ClientRequest, Current, is_open, taken_for}
 use Rattle.laws_due.specs.Vocabulary.{AreApart, IsOpenIn, call_of, calls_in}
-use Rattle.laws_due.proofs.OpenRequests.{sites_in, numbers_open, took, and_false, of_half, open_parts, IsFound, found}
+use Rattle.laws_due.proofs.OpenRequests.{sites_in, numbers_open, took, of_half, IsFound, found}
+use Rattle.qc_list.proofs.Booleans.{and_parts, and_false}
 
 -- where each open request is of a half, that half has all of them
 
@@ -101,7 +102,7 @@ set_taken {A} key make keys number answer q (p ∷ qs) sites numbers e =
         → first_set key q.site (make (took q answer)) (map make (p ∷ qs)) ≡ map make (taken_for number answer (p ∷ qs))
     here same is =
         let parts : ((p.number == number) ≡ true) × (is_none p.taken ≡ true) =
-        open_parts (p.number == number) (is_none p.taken) is in
+        and_parts (p.number == number) (is_none p.taken) is in
         let number_is : p.number ≡ number = eqb-true p.number number parts.0 in
         let first : key (make p) ≡ q.site = keys p ∙ ap (λ (x : ClientRequest). x.site) same in
         let others : taken_for number answer qs ≡ qs =

@@ -40,8 +40,8 @@ use Rattle.qc_script.specs.Vocabulary.{Inbox, SentRequest, inbox, inbox_at, is_r
 use Rattle.qc_site.specs.Vocabulary.{SiteState, new_site, site_at, site_takes}
 use Rattle.qc_recover.specs.Vocabulary.{client_rises, site_rises}
 use Rattle.laws_due.proofs.Answering.{after_fall}
-use Rattle.laws_due.proofs.PlainSteps.{inbox_then}
 use Rattle.laws_due.proofs.AskingCases.{asking_cases}
+use Rattle.qc_mailbox.proofs.Keeping.{inbox_after}
 
 -- a site answers each request that names what is declared
 
@@ -200,7 +200,7 @@ pub fell_last : (script : Script) (a b : ℕ) (h : List Entry) (xs : List Step) 
 fell_last script a b h xs cause pending r member =
     (after_fall script a (inbox script a (h ++ by b xs)) b cause pending r
     (subst (λ (i : Inbox). In r i.unanswered)
-    (ap (inbox script a) split ∙ inbox_then script a (h ++ by b xs) (marked b (steps.Fell cause pending)))
+    (ap (inbox script a) split ∙ inbox_after script a (h ++ by b xs) (marked b (steps.Fell cause pending)))
     member)).1
   where
     split : h ++ by b (xs ++ fell cause pending) ≡ (h ++ by b xs) ++ marked b (steps.Fell cause pending) ∷ []

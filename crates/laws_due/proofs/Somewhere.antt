@@ -25,12 +25,12 @@ use Rattle.qc_script.specs.declared.script.Script.{Script}
 use Rattle.qc_script.specs.Vocabulary.{Inbox, SentRequest, comes_at_once, count_of, inbox, inbox_at, is_request, is_up}
 use Rattle.laws_due.proofs.Answering.{IsNew, IsSpared, IsStill, copies_left, copy_made, others_fewer, own_new}
 use Rattle.laws_due.proofs.Answering.{silent_fewer, still_left, IsNoInput}
-use Rattle.laws_due.proofs.Places.{apart}
-use Rattle.laws_due.proofs.PlainSteps.{inbox_then}
 use Rattle.laws_due.proofs.Plain.{entries}
 use Rattle.std.specs.Prelude.{MatchOption}
 use Rattle.qc_msg.specs.declared.step.Command.{Command}
 use Rattle.laws_due.proofs.MailedCases.{mailed_cases}
+use Rattle.qc_mailbox.proofs.Keeping.{inbox_after}
+use Rattle.qc_list.proofs.Numbers.{numbers_apart}
 
 pub record IsSomewhere (script : Script) (X : Envelope → Type 0) (h : List Entry) (a : ℕ)
     (r : SentRequest) : Type 0 where
@@ -123,7 +123,7 @@ module _ (script : Script) (X : Envelope → Type 0) (a : ℕ) (a_low : a < most
       at : In s.envelope (inbox script s.envelope.to h).copies ⊎ X s.envelope
           → In s.envelope (inbox script s.envelope.to (h ++ e ∷ [])).copies ⊎ X s.envelope
       at (inl there) =
-          inl (subst (λ (i : Inbox). In s.envelope i.copies) (sym (inbox_then script s.envelope.to h e))
+          inl (subst (λ (i : Inbox). In s.envelope i.copies) (sym (inbox_after script s.envelope.to h e))
           (copies_left script s.envelope.to (inbox script s.envelope.to h) e.actor e.step
           (subst (λ (k : ℕ). IsSpared k e.actor e.step) (sym s.to) spared) s.envelope there))
       at (inr other) = inr other
@@ -133,7 +133,7 @@ module _ (script : Script) (X : Envelope → Type 0) (a : ℕ) (a_low : a < most
   still h e is are r member =
       let left : In r (inbox script a h).unanswered × IsSpared r.to e.actor e.step =
       still_left script a (inbox script a h) e.actor e.step is r
-      (subst (λ (i : Inbox). In r i.unanswered) (inbox_then script a h e) member) in
+      (subst (λ (i : Inbox). In r i.unanswered) (inbox_after script a h e) member) in
       stays h e r left.1 (are r left.0)
 
   -- a message
@@ -148,17 +148,17 @@ module _ (script : Script) (X : Envelope → Type 0) (a : ℕ) (a_low : a < most
     fewer : ((r : SentRequest) → In r (inbox_at script a (inbox script a h) b (steps.Sent n to m)).unanswered
         → In r (inbox script a h).unanswered) → AreSomewhere script X (h ++ entry ∷ []) a
     fewer less r member = stays h entry r tt
-        (are r (less r (subst (λ (i : Inbox). In r i.unanswered) (inbox_then script a h entry) member)))
+        (are r (less r (subst (λ (i : Inbox). In r i.unanswered) (inbox_after script a h entry) member)))
 
     more : (b == a) ≡ true → is_request m ≡ true → IsOther a to → AreSomewhere script X (h ++ entry ∷ []) a
     more mine request other r member = at (own_new script a (inbox script a h) sent other.1 mine r
-        (subst (λ (i : Inbox). In r i.unanswered) (inbox_then script a h entry) member))
+        (subst (λ (i : Inbox). In r i.unanswered) (inbox_after script a h entry) member))
       where
         is : b ≡ a
         is = eqb-true b a mine
 
         back : (b == to) ≡ false
-        back = apart b to (λ same. (let yes : (to == a) ≡ true = eq-eqb to a (sym same ∙ is) in
+        back = numbers_apart b to (λ same. (let yes : (to == a) ≡ true = eq-eqb to a (sym same ∙ is) in
             let no : (to == a) ≡ false = other.1 in let never : ⊥ = cc in never))
 
         to_low : to < most_actors
@@ -172,7 +172,7 @@ module _ (script : Script) (X : Envelope → Type 0) (a : ℕ) (a_low : a < most
           from = is;
           request = request;
           sent = subst (In sent) (sym (mail-append h (entry ∷ []))) (In-second sent (mail h) (sent ∷ []) (inl refl));
-          place = inl (subst (λ (i : Inbox). In sent i.copies) (sym (inbox_then script to h entry))
+          place = inl (subst (λ (i : Inbox). In sent i.copies) (sym (inbox_after script to h entry))
               (copy_made script to (inbox script to h) sent
               (sym (ap (λ (v : List Bool). is_up v to) (inboxes_have_in_common script a to h a_low to_low).up) ∙ new.up)
               (eq-eqb to to refl) back (ap comes_at_once

@@ -1,14 +1,13 @@
 -- Where a client stands through its falls and rises, and what comes behind its deeds.
-use Rattle.std.proofs.Common.{◌≡◌, ◌+◌, ℕ, ◌-◌, Bool, true, false, cond, List, [], ◌∷◌, ◌++◌, Option, Some, None, refl}
-use Rattle.std.proofs.Common.{sym, ap, ◌∙◌, subst, append_assoc}
+use Rattle.std.proofs.Common.{◌≡◌, ◌+◌, ℕ, ◌-◌, Bool, true, false, cond, List, [], ◌∷◌, ◌++◌, Option, Some, None, sym}
+use Rattle.std.proofs.Common.{ap, ◌∙◌, subst, append_assoc}
 use Rattle.std.specs.Prelude.{fold}
 use Rattle.std.specs.List.{AllByRecursion as Every}
 use Rattle.std.proofs.lemmas.List.Sums.{fold-append}
 use Rattle.qc_core.specs.declared.actor.Actor.TheVariants as actors
-use Rattle.qc_core.specs.Vocabulary.{AreSteady, IsLawfulWithFalls, MayReach, MayTake, actor_after, actor_does}
-use Rattle.qc_core.specs.Vocabulary.{by_client, is_up, moved, new_actor, up_at, with_record}
+use Rattle.qc_core.specs.Vocabulary.{IsLawfulWithFalls, MayReach, MayTake, actor_after, actor_does, is_up, moved}
+use Rattle.qc_core.specs.Vocabulary.{new_actor, up_at, with_record}
 use Rattle.qc_client.specs.declared.client.Client.{Client}
-use Rattle.qc_client.specs.Vocabulary.{ClientMove, client_does, client_takes}
 use Rattle.qc_decl.specs.declared.declaration.Declaration.{Declaration}
 use Rattle.qc_decl.specs.Vocabulary.{is_administrator, is_client, is_site}
 use Rattle.qc_msg.specs.declared.record.Record.{Record}
@@ -16,8 +15,7 @@ use Rattle.qc_msg.specs.declared.reply.Reply.{Reply}
 use Rattle.qc_msg.specs.declared.step.Input.{Input}
 use Rattle.qc_msg.specs.declared.turn.Posting.{Posting}
 use Rattle.qc_msg.specs.declared.turn.Turn.{Turn}
-use Rattle.qc_msg.specs.Vocabulary.{Deed, Falls, Rises, Sends, Takes, Tells, Writes, quiet, sends_of, tells_of}
-use Rattle.qc_msg.specs.Vocabulary.{turn_deeds, writes_of}
+use Rattle.qc_msg.specs.Vocabulary.{Deed, Takes, quiet, sends_of, tells_of, turn_deeds, writes_of}
 use Rattle.qc_promise.specs.Vocabulary.{Account, AreDeedsDue, account_at, account_of, new_account, pending_first}
 use Rattle.qc_promise.specs.Vocabulary.{pending_next, posted_next}
 use Rattle.laws_due.specs.Vocabulary.{Holds, IsDeclaredDeed, Ties}
@@ -39,26 +37,6 @@ none_follows true ys is = ap pending_first is
 none_follows false ys is = is
 
 -- deeds of a client that neither falls nor rises
-
-pub steady_up : (up : Bool) (ds : List Deed) → AreSteady ds → fold up_at up ds ≡ up
-steady_up up [] steady = refl
-steady_up up (Takes g ∷ ds) steady = steady_up up ds steady.1
-steady_up up (Writes written ∷ ds) steady = steady_up up ds steady.1
-steady_up up (Sends number to message ∷ ds) steady = steady_up up ds steady.1
-steady_up up (Tells reply ∷ ds) steady = steady_up up ds steady.1
-steady_up up (Falls cause pending ∷ ds) steady = absurd steady.0
-steady_up up (Rises kept ∷ ds) steady = absurd steady.0
-
-pub steady_client : (decl : Declaration) (a : ℕ) (m : ClientMove) (ds : List Deed) → AreSteady ds
-    → fold (actor_does decl a) (by_client m) ds ≡ by_client (fold (client_does decl) m ds)
-steady_client decl a m [] steady = refl
-steady_client decl a m (Takes g ∷ ds) steady = steady_client decl a (client_takes decl m.client g) ds steady.1
-steady_client decl a m (Writes written ∷ ds) steady = steady_client decl a m ds steady.1
-steady_client decl a m (Sends number to message ∷ ds) steady =
-    steady_client decl a (client_does decl m (Sends number to message)) ds steady.1
-steady_client decl a m (Tells reply ∷ ds) steady = steady_client decl a m ds steady.1
-steady_client decl a m (Falls cause pending ∷ ds) steady = absurd steady.0
-steady_client decl a m (Rises kept ∷ ds) steady = absurd steady.0
 
 -- a turn takes nothing, so nothing in it is undeclared
 

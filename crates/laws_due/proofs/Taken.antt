@@ -10,7 +10,6 @@ use Rattle.qc_decl.specs.Vocabulary.{actors}
 use Rattle.qc_decl.specs.declared.declaration.Declaration.{Declaration}
 use Rattle.laws_turns.specs.Vocabulary.{IsTaken}
 use Rattle.laws_turns.proofs.ReadyFirst.{ready_copy}
-use Rattle.laws_turns.proofs.Places.{slice_get-set_other, slice_get-set_same}
 use Rattle.qc_link.specs.Vocabulary.{most_actors}
 use Rattle.qc_msg.specs.declared.message.Envelope.{Envelope}
 use Rattle.qc_msg.specs.declared.message.Answer.{Answer}
@@ -27,10 +26,11 @@ use Rattle.qc_msg.proofs.DeedsGrow.{deeds-other}
 use Rattle.qc_script.specs.declared.script.Script.{Script}
 use Rattle.qc_script.specs.Vocabulary.{Inbox, RunsWithFalls, SentRequest, command_called, copy_taken, inbox, inbox_at}
 use Rattle.qc_script.specs.Vocabulary.{is_request, loss_taken, posts, ready, ready_in, request_numbers, rises}
-use Rattle.laws_due.proofs.Answering.{IsSpared, copies_left}
-use Rattle.laws_due.proofs.Places.{apart}
-use Rattle.laws_due.proofs.PlainSteps.{inbox_then}
+use Rattle.laws_due.proofs.Answering.{IsSpared, copies_left, same_if}
 use Rattle.laws_due.proofs.Somewhere.{AreSomewhere, AreToOthers, IsOther, IsSomewhere}
+use Rattle.qc_mailbox.proofs.Keeping.{inbox_after}
+use Rattle.qc_list.proofs.Numbers.{numbers_apart}
+use Rattle.qc_list.proofs.Places.{slice_get-set_other, slice_get-set_same}
 
 -- requests and their numbers
 
@@ -48,11 +48,6 @@ of_number n (r ∷ rs) (inr later) =
     (found.0, (inr found.1.0, found.1.1))
 
 -- an input
-
-same_if : (t : Bool) (i j : Inbox) (rs : List SentRequest) → i.unanswered ≡ rs → j.unanswered ≡ rs
-    → (if t then i else j).unanswered ≡ rs
-same_if true i j rs here there = here
-same_if false i j rs here there = there
 
 same_unanswered : (script : Script) (a : ℕ) (i : Inbox) (b : ℕ) (g : Input)
     → (inbox_at script a i b (step_of g)).unanswered ≡ i.unanswered
@@ -155,7 +150,7 @@ module _ (decl : Declaration) (script : Script) (fits : ℕ → List Record → 
   take_kept b g before older free rdy grown are r member =
       on (are r
       (subst (In r)
-      (ap (λ (i : Inbox). i.unanswered) (inbox_then script a older (marked b (step_of g)))
+      (ap (λ (i : Inbox). i.unanswered) (inbox_after script a older (marked b (step_of g)))
       ∙ same_unanswered script a (inbox script a older) b g) member))
     where
       on : IsSomewhere script (IsTaken older before) older a r
@@ -175,7 +170,7 @@ module _ (decl : Declaration) (script : Script) (fits : ℕ → List Record → 
               → In s.envelope (inbox script s.envelope.to (older ++ marked b (step_of g) ∷ [])).copies
           copied there =
               subst (λ (i : Inbox). In s.envelope i.copies)
-              (sym (inbox_then script s.envelope.to older (marked b (step_of g)))) there
+              (sym (inbox_after script s.envelope.to older (marked b (step_of g)))) there
 
           here : b ≡ s.envelope.to → In s.envelope (inbox script s.envelope.to older).copies
               → In s.envelope (inbox script s.envelope.to (older ++ marked b (step_of g) ∷ [])).copies
@@ -221,5 +216,5 @@ module _ (decl : Declaration) (script : Script) (fits : ℕ → List Record → 
               let two : slice_get before s.envelope.to ≡ Some true = t.is_open in
               let never : ⊥ = cc in never) in
               inr (taken_stays older (marked b (step_of g) ∷ []) before (slice_set before b true) s.envelope
-              (deeds-other b s.envelope.to [] older (step_of g ∷ []) (apart b s.envelope.to differs))
+              (deeds-other b s.envelope.to [] older (step_of g ∷ []) (numbers_apart b s.envelope.to differs))
               (slice_get-set_other before b s.envelope.to true differs) t)

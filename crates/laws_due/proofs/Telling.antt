@@ -1,57 +1,41 @@
 -- What a move of a client leaves: whether it waits, how a post ends, and what a turn tells.
 use Rattle.std.proofs.Common.{◌≡◌, ◌⊎◌, ℕ, ◌+◌, ◌&&◌, not, Bool, true, false, List, [], ◌∷◌, ◌++◌, inl, inr, Option}
-use Rattle.std.proofs.Common.{Some, None, is_some, refl, sym, ap, ◌∙◌, append_assoc}
-use Rattle.std.specs.Prelude.{fold}
+use Rattle.std.proofs.Common.{is_some, refl, sym, ap, ◌∙◌, append_assoc}
 use Rattle.std.specs.List.{AllByRecursion as Every}
 use Rattle.qc_core.specs.declared.actor.Actor.TheVariants as actors
 use Rattle.qc_core.specs.Vocabulary.{ActorMove, MayTake, actor_after, is_running, runs_given}
 use Rattle.qc_client.specs.declared.client.Client.{Client}
-use Rattle.qc_client.specs.Vocabulary.{ClientMove, client_does, client_takes}
+use Rattle.qc_client.specs.Vocabulary.{ClientMove, client_takes}
 use Rattle.qc_decl.specs.declared.declaration.Declaration.{Declaration}
 use Rattle.qc_decl.specs.Vocabulary.{is_client}
-use Rattle.laws_turns.specs.Vocabulary.{IsAskable, is_waiting}
+use Rattle.laws_turns.specs.Vocabulary.{is_waiting}
 use Rattle.laws_turns.proofs.SoundClients.{IsAskableGiven}
-use Rattle.laws_turns.proofs.Waiting.{Ends, IsClients, IsNoCall, called_ends, sent_waits, takes_ends, takes_rests}
-use Rattle.laws_turns.proofs.Waiting.{are_clients}
+use Rattle.laws_turns.proofs.Waiting.{Ends, IsNoCall, called_ends, takes_ends, takes_rests}
 use Rattle.qc_msg.specs.declared.record.Record.{Record}
-use Rattle.qc_msg.specs.declared.reply.Reply.{Reply}
-use Rattle.qc_msg.specs.declared.step.Command.{Command}
 use Rattle.qc_msg.specs.declared.step.Fall.{Fall}
 use Rattle.qc_msg.specs.declared.step.Fall.TheVariants as causes
 use Rattle.qc_msg.specs.declared.step.Input.{Input}
 use Rattle.qc_msg.specs.declared.step.Input.TheVariants as inputs
 use Rattle.qc_msg.specs.declared.turn.Appended.{Appended}
 use Rattle.qc_msg.specs.declared.turn.Appended.TheVariants.{Done, Failed, Stopped}
-use Rattle.qc_msg.specs.declared.turn.Posting.{Posting}
 use Rattle.qc_msg.specs.declared.turn.Turn.{Turn}
-use Rattle.qc_msg.specs.Vocabulary.{Deed, Falls, HasRecord, Sends, deeds_as, sends_of, tells_of, turn_deeds, writes_of}
+use Rattle.qc_msg.specs.Vocabulary.{Deed, Falls, HasRecord, deeds_as, sends_of, tells_of}
 use Rattle.laws_due.proofs.Standing.{actor_more}
-use Rattle.laws_turns.proofs.ClientCases.{command_cases}
+use Rattle.laws_turns.proofs.Busy.{clients_command}
+use Rattle.qc_list.proofs.Booleans.{not_turned}
 
 -- a move leaves a client waiting just where the command runs on
 
 abbrev pub IsBusyAs : Bool → ClientMove → Type 0
 IsBusyAs r m = (r && not (is_some m.turn.told)) ≡ is_waiting m.client
 
-turned : (told waits : Bool) → told ≡ not waits → not told ≡ waits
-turned true true is = absurd (let never : ⊥ = cc in never)
-turned true false is = refl
-turned false true is = refl
-turned false false is = absurd (let never : ⊥ = cc in never)
-
 ends_busy : (m : ClientMove) → Ends m → IsBusyAs true m
-ends_busy m ends = turned (is_some m.turn.told) (is_waiting m.client) ends
+ends_busy m ends = not_turned (is_some m.turn.told) (is_waiting m.client) ends
 
 no_call_busy : (decl : Declaration) (c : Client) (g : Input) (r : Bool) → IsNoCall g → is_waiting c ≡ r
     → IsBusyAs r (client_takes decl c g)
 no_call_busy decl c g true none busy = ends_busy (client_takes decl c g) (takes_ends decl c g none busy)
 no_call_busy decl c g false none still = sym (takes_rests decl c g none still).still
-
-clients_command : (decl : Declaration) (a : ℕ) (command : Command) → is_client decl a ≡ true → IsAskable decl a command
-    → IsClients command
-clients_command decl a command client is =
-    command_cases (λ (c : Command). IsAskable decl a c → IsClients c) (λ c none asked. are_clients c none)
-    (λ number asked. (let never : ⊥ = cc in never)) command is
 
 pub given_busy : (decl : Declaration) (a : ℕ) → is_client decl a ≡ true → (c : Client) (r : Bool) (g : Input)
     → IsAskableGiven decl a g → is_waiting c ≡ r → (IsNoCall g ⊎ (r ≡ false))
@@ -67,22 +51,6 @@ pub may_come : (ds : List Deed) (g : Input) → MayTake ds g → IsNoCall g ⊎ 
 may_come ds (inputs.Called command) may = inr may
 may_come ds (inputs.Got envelope) may = inl tt
 may_come ds (inputs.Lost number) may = inl tt
-
-sends_wait : (decl : Declaration) (m : ClientMove) (n : ℕ) (ps : List Posting) (told : Option Reply)
-    → is_waiting (fold (client_does decl) m (sends_of n ps ++ tells_of told)).client ≡ is_waiting m.client
-sends_wait decl m n [] None = refl
-sends_wait decl m n [] (Some reply) = refl
-sends_wait decl m n (p ∷ ps) told = sends_wait decl (client_does decl m (Sends n p.to p.message)) (n + 1) ps told
-    ∙ sent_waits m.client n p.to p.message
-
-pub turn_waits : (decl : Declaration) (m : ClientMove) (n : ℕ) (turn : Turn)
-    → is_waiting (fold (client_does decl) m (turn_deeds n turn)).client ≡ is_waiting m.client
-turn_waits decl m n turn = by turn.write
-  where
-    by : (w : Option Record) → is_waiting (fold (client_does decl) m
-        (writes_of w ++ (sends_of n turn.sends ++ tells_of turn.told))).client ≡ is_waiting m.client
-    by None = sends_wait decl m n turn.sends turn.told
-    by (Some written) = sends_wait decl m n turn.sends turn.told
 
 pub first_all : (P : Deed → Type 0) (xs ys : List Deed) → Every P (xs ++ ys) → Every P xs
 first_all P [] ys all = tt

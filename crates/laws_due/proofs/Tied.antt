@@ -9,7 +9,7 @@ use Rattle.qc_core.specs.declared.actor.Actor.TheVariants as actors
 use Rattle.qc_core.specs.Vocabulary.{ActorMove, MayReach, MayTake, actor_after, actor_does, actor_takes, by_client}
 use Rattle.qc_core.specs.Vocabulary.{is_running, is_up, runs_given}
 use Rattle.qc_core.specs.Acts as acts
-use Rattle.qc_core.proofs.ActorLaws.{at_client}
+use Rattle.qc_core.proofs.ActorLaws.{at_client, clients}
 use Rattle.qc_core.proofs.Steady.{turn_steady}
 use Rattle.qc_client.specs.declared.client.Client.{Client}
 use Rattle.qc_client.specs.Vocabulary.{ClientMove, client_does, client_takes, new_client}
@@ -17,7 +17,7 @@ use Rattle.qc_decl.specs.declared.declaration.Declaration.{Declaration}
 use Rattle.qc_decl.specs.Vocabulary.{is_client}
 use Rattle.laws_turns.specs.Vocabulary.{is_waiting}
 use Rattle.laws_turns.proofs.SoundClients.{IsAskableDeed}
-use Rattle.laws_turns.proofs.TurnReplies.{running_more, running_turn}
+use Rattle.laws_turns.proofs.TurnReplies.{running_more, running_turn, turn_waits}
 use Rattle.qc_msg.specs.declared.record.Record.{Record}
 use Rattle.qc_msg.specs.declared.record.Record.TheVariants as records
 use Rattle.qc_msg.specs.declared.step.Command.{Command}
@@ -33,11 +33,11 @@ use Rattle.laws_due.specs.Vocabulary.{Goes, Holds, Ties}
 use Rattle.laws_due.proofs.Commands.{free_for, no_site, running}
 use Rattle.laws_due.proofs.Courses.{clients_hold, accounts_are_their_clients}
 use Rattle.laws_due.proofs.Fits.{takes_fit}
-use Rattle.laws_due.proofs.Standing.{account_is, account_more, actor_more, steady_client, steady_up, up_more}
+use Rattle.laws_due.proofs.Standing.{account_is, account_more, actor_more, up_more}
 use Rattle.laws_due.proofs.Step.{inputs_are_answered_as_is_due}
 use Rattle.laws_due.proofs.Writing.{IsClientTurn, IsCommitTurn, takes_turn}
 use Rattle.laws_due.proofs.Telling.{EndsFallen, Replies, ends_fallen, first_all, given_busy, may_come, rest_all}
-use Rattle.laws_due.proofs.Telling.{turn_waits}
+use Rattle.qc_core.proofs.LivesOfActors.{steady_from}
 
 module _ (decl : Declaration) (a : ℕ) (client : is_client decl a ≡ true) where
   pub record IsTied (ds : List Deed) : Type 0 where
@@ -158,7 +158,7 @@ module _ (decl : Declaration) (a : ℕ) (client : is_client decl a ≡ true) whe
       up = true;
       is =
           up_more decl a (ds ++ Takes g ∷ []) (turn_deeds first (client_takes decl s.state g).turn)
-          ∙ steady_up (is_up (ds ++ Takes g ∷ [])) (turn_deeds first (client_takes decl s.state g).turn)
+          ∙ steady_from (is_up (ds ++ Takes g ∷ [])) (turn_deeds first (client_takes decl s.state g).turn)
           (turn_steady first (client_takes decl s.state g).turn)
           ∙ up_more decl a ds (Takes g ∷ []) ∙ r.is ∙ same;
       stands = record {
@@ -168,7 +168,7 @@ module _ (decl : Declaration) (a : ℕ) (client : is_client decl a ≡ true) whe
             (turn_deeds first (client_takes decl s.state g).turn)
             ∙ ap (λ (m : ActorMove). fold (actor_does decl a) m (turn_deeds first (client_takes decl s.state g).turn))
             takes_to
-            ∙ steady_client decl a (client_takes decl s.state g) (turn_deeds first (client_takes decl s.state g).turn)
+            ∙ clients decl a (client_takes decl s.state g) (turn_deeds first (client_takes decl s.state g).turn)
             (turn_steady first (client_takes decl s.state g).turn));
         ties = subst (λ (d : Account). Ties decl d
             (fold (client_does decl) (client_takes decl s.state g)

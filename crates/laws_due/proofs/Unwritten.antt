@@ -25,7 +25,7 @@ use Rattle.qc_msg.specs.Vocabulary.{Deed, committed_in}
 abbrev stamp_of : Option Reply → Option Stamp
 stamp_of o = option_and_then committed_in o
 
-none_some : {A : Type 0} (o : Option Stamp) (stamp : Stamp) → o ≡ None → o ≡ Some stamp → A
+pub none_some : {A : Type 0} (o : Option Stamp) (stamp : Stamp) → o ≡ None → o ≡ Some stamp → A
 none_some o stamp none some = absurd (let never : ⊥ = cc in never)
 
 module _ (decl : Declaration) where

@@ -15,7 +15,7 @@ use Rattle.qc_view.specs.declared.view.View.{View}
 use Rattle.qc_view.specs.Vocabulary.{answer_in, with_log, with_own}
 use Rattle.qc_front.specs.Answering as fronts
 use Rattle.qc_front.specs.Vocabulary.{RecordsHold, view_log, with_event, with_granted, with_view}
-use Rattle.qc_front.proofs.Recording.{get_set}
+use Rattle.qc_front.proofs.Recording.{get_set, get_other}
 use Rattle.qc_promise.specs.Vocabulary.{Current, ReadGrant, answer_by, answer_of, resp_of, view_of, with_read}
 use Rattle.qc_promise.specs.Vocabulary.{with_response}
 use Rattle.laws_due.specs.Vocabulary.{IsBegun, transaction_of}
@@ -94,13 +94,6 @@ view_same decl t asked views object inv event records logs chosen =
     ap (λ (o : Option View). option_map_or (λ (v : View). v.log) o []) h.at ∙ logs object h.item h.at
 
 -- the view of one object changes
-
-get_other : {A : Type 0} (xs : List A) (i j : ℕ) (y : A) → j ≢ i → slice_get (slice_set xs i y) j ≡ slice_get xs j
-get_other [] i j y apart = refl
-get_other (z ∷ zs) zero zero y apart = absurd (apart refl)
-get_other (z ∷ zs) zero (suc j) y apart = refl
-get_other (z ∷ zs) (suc i) zero y apart = refl
-get_other (z ∷ zs) (suc i) (suc j) y apart = get_other zs i j y (λ same. apart (ap (λ (n : ℕ). suc n) same))
 
 set_logs : (views : List View) (asked : List ℕ) (t : Current) (object : ℕ) (change : View → View)
     (old new : ℕ → List Line) → LogsAre old views

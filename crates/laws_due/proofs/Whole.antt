@@ -7,7 +7,6 @@ use Rattle.qc_decl.specs.declared.declaration.Declaration.{Declaration}
 use Rattle.laws_turns.proofs.Acted.{has_entry, actors_take_and_post_by_turns}
 use Rattle.laws_turns.proofs.ByMail.{actors_go_by_turns, messages_reach_their_receivers}
 use Rattle.laws_turns.proofs.Served.{what_sites_post_is_due}
-use Rattle.laws_turns.proofs.Up.{acts_up}
 use Rattle.laws_turns.specs.Vocabulary.{ActsIn, AsksDeclared}
 use Rattle.qc_msg.specs.declared.turn.Turn.{Turn}
 use Rattle.qc_msg.specs.Vocabulary.{Deed, Entry, deeds}
@@ -22,6 +21,7 @@ use Rattle.laws_due.proofs.Declaring.{run_declares}
 use Rattle.laws_due.proofs.DuesOfDeeds.{due_is, none_due}
 use Rattle.laws_due.proofs.Dues.{all_due, within_all, within_first}
 use Rattle.laws_due.proofs.StaysUp.{stays_up}
+use Rattle.qc_core.proofs.Steady.{acts_steady}
 
 module _ (decl : Declaration) (a : ℕ) (client : is_client decl a ≡ true) where
   -- what a client does is due
@@ -29,7 +29,7 @@ module _ (decl : Declaration) (a : ℕ) (client : is_client decl a ≡ true) whe
   pub deeds_of_clients_are_due : (ds : List Deed) (b : Bool) (n : ℕ) → Acts decl a ds b n → Declares decl ds
       → AreRepliesDue decl (a - decl.sites) ds
   deeds_of_clients_are_due ds b n acts are =
-      all_due decl ds (new_account (a - decl.sites)) (acts_up decl a ds b n acts) are.deeds
+      all_due decl ds (new_account (a - decl.sites)) (acts_steady decl a ds b n acts) are.deeds
       (within_first decl (a - decl.sites) ds are) (deeds_of_clients_are_by_rows decl a client ds b n acts)
 
   pub turns_tell_what_is_due : (ds : List Deed) (n : ℕ) (turn : Turn) → Acts decl a ds true n → Declares decl ds
@@ -37,7 +37,7 @@ module _ (decl : Declaration) (a : ℕ) (client : is_client decl a ≡ true) whe
   turns_tell_what_is_due ds n turn acts are law =
       turns_tell_their_rows decl a client ds n turn acts law
       ∙ sym (due_is decl (account_of decl (a - decl.sites) ds)
-      (within_all decl ds (new_account (a - decl.sites)) (acts_up decl a ds true n acts) are.deeds
+      (within_all decl ds (new_account (a - decl.sites)) (acts_steady decl a ds true n acts) are.deeds
       (within_first decl (a - decl.sites) ds are)))
 
   -- and nothing is left untold
@@ -45,7 +45,7 @@ module _ (decl : Declaration) (a : ℕ) (client : is_client decl a ≡ true) whe
       → due decl (account_of decl (a - decl.sites) ds) false ≡ None
   what_is_due_is_told ds n acts =
       none_due decl (account_of decl (a - decl.sites) ds)
-      (stays_up decl ds (new_account (a - decl.sites)) (acts_up decl a ds false n acts) refl)
+      (stays_up decl ds (new_account (a - decl.sites)) (acts_steady decl a ds false n acts) refl)
       (clients_owe_nothing decl a client ds n acts)
 
 -- in a run

@@ -1,6 +1,6 @@
 -- Where nothing is left to happen a run with falls is whole: each command is told its reply.
-use Rattle.std.proofs.Common.{◌≡◌, ℕ, ◌+◌, ◌<◌, ◌≤◌, ◌==◌, ◌&&◌, ◌||◌, not, Bool, true, false, cond, List, [], ◌∷◌}
-use Rattle.std.proofs.Common.{◌++◌, length, Option, Some, None, is_some, refl, sym, ap, ◌∙◌, subst, arith}
+use Rattle.std.proofs.Common.{◌≡◌, ℕ, ◌+◌, ◌<◌, ◌≤◌, ◌==◌, ◌||◌, Bool, true, false, List, [], ◌∷◌, ◌++◌, length, Option}
+use Rattle.std.proofs.Common.{Some, None, is_some, refl, sym, ap, ◌∙◌, subst, arith}
 use Rattle.std.specs.Prelude.{fold, option_to_list, replicate, slice_get}
 use Rattle.std.specs.List.{filter_map}
 use Rattle.std.proofs.lemmas.Bool.{eq-eqb, eqb-true}
@@ -12,14 +12,13 @@ use Rattle.qc_decl.specs.Vocabulary.{IsAccepted, actors, administrator, is_clien
 use Rattle.qc_decl.specs.declared.declaration.Declaration.{Declaration}
 use Rattle.laws_turns.specs.Vocabulary.{AreAnswered, AsksDeclared, IsQuiet, asked_by, asked_in_all, call_in, calls_of}
 use Rattle.laws_turns.specs.Vocabulary.{exchanges, exchanges_from, open_calls, replies_of}
-use Rattle.laws_turns.proofs.Places.{replicate_at}
 use Rattle.qc_msg.specs.declared.message.Envelope.{Envelope}
 use Rattle.qc_msg.specs.declared.record.Record.{Record}
 use Rattle.qc_msg.specs.declared.step.Command.{Command}
 use Rattle.qc_msg.specs.declared.step.Input.TheVariants as inputs
 use Rattle.qc_msg.specs.Vocabulary.{Deed, Entry, Falls, Rises, Sends, Takes, Tells, Writes, deeds}
-use Rattle.qc_script.specs.Vocabulary.{command_in, controls_left, first_command, first_copy, first_lost, inbox}
-use Rattle.qc_script.specs.Vocabulary.{phase_of, takes_commands}
+use Rattle.qc_script.specs.Vocabulary.{command_in, controls_left, first_copy, first_lost, inbox, phase_of}
+use Rattle.qc_script.specs.Vocabulary.{takes_commands}
 use Rattle.qc_script.specs.declared.script.PhaseLines.{PhaseLines}
 use Rattle.qc_script.specs.declared.script.Script.{Script}
 use Rattle.laws_due.specs.Vocabulary.{AreInOrder, AsksEpochs, AsksKnown, IsClosedWithFalls, IsWholeWithFalls}
@@ -29,6 +28,8 @@ use Rattle.laws_due.proofs.Calling.{calls_are_asked_with_falls, phases_are_the_s
 use Rattle.laws_due.proofs.EndsWithFalls.{copies_none, losts_none, none_open, none_runs, nothing_ready}
 use Rattle.laws_due.proofs.Ordered.{all_counted, open_commands, run_ordered}
 use Rattle.laws_due.proofs.Places.{client_within}
+use Rattle.laws_turns.proofs.WholeLaw.{no_commands}
+use Rattle.qc_list.proofs.Places.{replicate_at}
 
 -- deeds in order, after which no command runs, answer each command
 
@@ -52,13 +53,6 @@ answered_from (Some c) (Falls cause pending ∷ ds) are idle =
 answered_from None (Rises records ∷ ds) are idle = answered_from None ds are.1 idle
 answered_from (Some c) (Rises records ∷ ds) are idle =
     absurd (let is : true ≡ false = are.0 in let never : ⊥ = cc in never)
-
-no_commands : (t busy : Bool) (commands : List Command) → t ≡ true → busy ≡ false
-    → cond (t && not busy) (first_command commands) None ≡ None → commands ≡ []
-no_commands t busy [] may free is = refl
-no_commands true true (c ∷ commands) may free is = absurd (let never : ⊥ = cc in never)
-no_commands true false (c ∷ commands) may free is = absurd (let never : ⊥ = cc in never)
-no_commands false busy (c ∷ commands) may free is = absurd (let never : ⊥ = cc in never)
 
 module _ (decl : Declaration) (script : Script) (accepted : IsAccepted decl) (asks : AsksDeclared decl script)
     (fits : ℕ → List Record → Type 0) (h : List Entry) where

@@ -6,24 +6,20 @@ use Rattle.std.specs.Option.{option_map_or}
 use Rattle.qc_stamp.specs.declared.stamp.Stamp.{Stamp}
 use Rattle.qc_stamp.specs.declared.stamp.TxId.{TxId}
 use Rattle.qc_entry.specs.declared.line.Line.{Line}
-use Rattle.qc_entry.specs.declared.record.Commit.{Commit as CommitRecord}
 use Rattle.qc_decl.specs.declared.declaration.Declaration.{Declaration}
 use Rattle.qc_msg.specs.declared.message.Answer.{Answer}
 use Rattle.qc_msg.specs.declared.message.Answer.TheVariants as answers
 use Rattle.qc_msg.specs.declared.message.Message.{Message}
 use Rattle.qc_msg.specs.declared.message.Message.TheVariants as messages
 use Rattle.qc_msg.specs.declared.message.Want.{Want}
-use Rattle.qc_msg.specs.declared.record.Record.{Record}
 use Rattle.qc_msg.specs.declared.reply.Half.{Half}
 use Rattle.qc_msg.specs.declared.reply.Reply.{Reply}
 use Rattle.qc_msg.specs.declared.reply.Reply.TheVariants as replies
 use Rattle.qc_msg.specs.declared.step.Command.{Command}
-use Rattle.qc_msg.specs.Vocabulary.{Invocation, commit_of, do_in, is_life}
-use Rattle.qc_msg.specs.Vocabulary.{grant_with}
+use Rattle.qc_msg.specs.Vocabulary.{Invocation, do_in, grant_with}
 use Rattle.qc_promise.specs.Vocabulary.{Account, ClientRequest, Current, account_heard, account_sent, account_told_in}
-use Rattle.qc_promise.specs.Vocabulary.{account_written, answer_of, counted, found_absent, granted, is_asked_for}
-use Rattle.qc_promise.specs.Vocabulary.{new_current, promised, refused, responded, short_of, told_by, with_absent}
-use Rattle.qc_promise.specs.Vocabulary.{with_current, with_response}
+use Rattle.qc_promise.specs.Vocabulary.{answer_of, counted, found_absent, granted, is_asked_for, new_current, promised}
+use Rattle.qc_promise.specs.Vocabulary.{refused, responded, short_of, told_by, with_absent, with_current, with_response}
 
 -- what counts for a request
 
@@ -62,17 +58,6 @@ heard_cases d P same answered (messages.Close epoch) = same _
 heard_cases d P same answered (messages.Install start) = same _
 
 -- a record, and a message that is sent
-
-pub written_cases : (d : Account) (P : Account → Type 0) → P d → P (record d { life = d.life + 1 })
-    → ((commit : CommitRecord) → P (record d { written = Some commit })) → (w : Record) → P (account_written d w)
-written_cases d P same risen committed w = by (is_life w) (commit_of w)
-  where
-    by : (life : Bool) (o : Option CommitRecord)
-        → P (cond life (record d { life = d.life + 1 })
-        (option_map_or (λ (commit : CommitRecord). record d { written = Some commit }) o d))
-    by true o = risen
-    by false None = same
-    by false (Some commit) = committed commit
 
 pub sent_cases : (decl : Declaration) (d : Account) (n to : ℕ) (P : Message → Account → Type 0)
     → ((m : Message) → P m d)

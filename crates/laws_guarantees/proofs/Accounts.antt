@@ -1,7 +1,7 @@
 -- What stands behind an account: its requests were sent for its transaction, what counts was taken, each life is of a
 -- site that granted, and the running command was called.
-use Rattle.std.proofs.Common.{◌≡◌, ◌⊎◌, ℕ, ◌==◌, ◌&&◌, ◌||◌, Bool, true, false, cond, List, [], ◌∷◌, ◌++◌, inl, inr}
-use Rattle.std.proofs.Common.{Option, Some, None, option_map, refl, sym, ap, ◌∙◌, subst, eqb-true}
+use Rattle.std.proofs.Common.{◌≡◌, ◌⊎◌, ℕ, ◌==◌, ◌||◌, Bool, true, false, cond, List, [], ◌∷◌, ◌++◌, inl, inr, Option}
+use Rattle.std.proofs.Common.{Some, None, option_map, refl, sym, ap, ◌∙◌, subst, eqb-true}
 use Rattle.std.specs.Prelude.{is_none}
 use Rattle.std.specs.List.{find}
 use Rattle.std.proofs.lemmas.List.Folds.{list_any-append}
@@ -18,11 +18,11 @@ use Rattle.qc_msg.specs.declared.message.Want.{Want}
 use Rattle.qc_msg.specs.declared.message.Want.TheVariants.{Read, Append, Prepare}
 use Rattle.qc_msg.specs.declared.step.Command.{Command}
 use Rattle.qc_msg.specs.declared.step.Input.TheVariants as inputs
-use Rattle.qc_msg.specs.Vocabulary.{Deed, Sends, Takes, has_granted, with_life}
-use Rattle.qc_msg.specs.Vocabulary.{grant_with}
+use Rattle.qc_msg.specs.Vocabulary.{Deed, Sends, Takes, has_granted, with_life, grant_with}
 use Rattle.qc_promise.specs.Vocabulary.{Account, ClientRequest, Current, granted, is_open, lived, promised, taken_for}
 use Rattle.qc_promise.specs.Vocabulary.{told_by, with_read}
 use Rattle.laws_guarantees.proofs.AccountCases.{told_cases}
+use Rattle.qc_list.proofs.Booleans.{and_first, and_second}
 
 -- the request was sent for this transaction
 pub record WasSent (ds : List Deed) (q : ClientRequest) (tx : TxId) : Type 0 where
@@ -217,14 +217,6 @@ told_current d p answer t is = told_cases d p (λ a e. e.current ≡ Some t → 
     by life clock log Prepare is = same_but d.current p.site (Some (answers.Granted (grant_with life clock log))) t is
 
 -- a request that is open has the number, and nothing was taken for it
-
-pub and_first : (x y : Bool) → (x && y) ≡ true → x ≡ true
-and_first true y is = refl
-and_first false y is = is
-
-pub and_second : (x y : Bool) → (x && y) ≡ true → y ≡ true
-and_second true y is = is
-and_second false y is = absurd (let never : ⊥ = cc in never)
 
 pub open_number : (number : ℕ) (q : ClientRequest) → is_open number q ≡ true → q.number ≡ number
 open_number number q is = eqb-true q.number number (and_first (q.number == number) (is_none q.taken) is)

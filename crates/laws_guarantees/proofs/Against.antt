@@ -112,7 +112,7 @@ first_is (p ∷ qs) why is = by (against p p.taken) refl is (first_is qs why)
 
 -- the reply to a commit
 
-is_prepared_want : (w : Want) → is_prepare w ≡ true → w ≡ Prepare
+pub is_prepared_want : (w : Want) → is_prepare w ≡ true → w ≡ Prepare
 is_prepared_want (Read read) is = absurd (let never : ⊥ = cc in never)
 is_prepared_want (Append object view own) is = absurd (let never : ⊥ = cc in never)
 is_prepared_want Prepare is = refl

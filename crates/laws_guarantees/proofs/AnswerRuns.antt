@@ -6,7 +6,7 @@ use Rattle.std.proofs.lemmas.List.{append_assoc}
 use Rattle.std.proofs.lemmas.List.Elements.{filter_map-append}
 use Rattle.std.proofs.lemmas.List.Sums.{fold-append}
 use Rattle.qc_list.specs.Vocabulary.{In}
-use Rattle.qc_list.proofs.Members.{In-last, In-passes, every-append, every-weaker}
+use Rattle.qc_list.proofs.Members.{In-last, In-passes, every-append, every-weaker, every-front}
 use Rattle.qc_core.specs.Vocabulary.{IsLawful}
 use Rattle.qc_decl.specs.Vocabulary.{controller}
 use Rattle.qc_decl.specs.declared.declaration.Declaration.{Declaration}
@@ -33,20 +33,19 @@ use Rattle.laws_turns.proofs.Bounding.{lawful_turn}
 use Rattle.laws_guarantees.specs.Vocabulary.{AnswersFit, Arrives, Fits, IfAnswered, IsAnswered, IsFirst, IsUndisturbed}
 use Rattle.laws_guarantees.specs.Vocabulary.{sent_before, sent_to, taken, taken_by, taken_in}
 use Rattle.laws_guarantees.proofs.ClientWords.{AreClientWords, IsClientWord, client_words}
-use Rattle.laws_turns.proofs.Served.{first_part}
 use Rattle.laws_guarantees.proofs.FirstDeeds.{FirstGiven}
 use Rattle.laws_guarantees.proofs.FirstAccounts.{TakesFirst}
 use Rattle.laws_guarantees.proofs.FirstRuns.{given_first, lives_and_epochs_are_the_first, takes_first}
 use Rattle.laws_guarantees.proofs.FirstSites.{deeds_calm}
 use Rattle.laws_guarantees.proofs.Fitting.{AnswersTo, FitsMessage, IfAnswers, fits_on}
 use Rattle.laws_guarantees.proofs.Held.{held_open}
-use Rattle.laws_guarantees.proofs.Mailed.{taken_mail}
 use Rattle.laws_guarantees.proofs.Opened.{IsAtTake, opened}
 use Rattle.laws_guarantees.proofs.Passing.{no_request_is_lost}
 use Rattle.laws_guarantees.proofs.AnswersLater.{in_middle, split_at, SayFitting, fitting_envelopes, word_fits}
 use Rattle.laws_guarantees.proofs.AnswersLater.{all_later}
 use Rattle.laws_guarantees.proofs.MessageCases.{asking_cases}
 use Rattle.std.specs.Prelude.{MatchOption}
+use Rattle.laws_atomic.proofs.Heard.{took_sent}
 
 module _ (decl : Declaration) (script : Script) (calm : IsUndisturbed script) where
   module _ (older : List Entry) (before : List Bool) (run : Runs (IsLawful decl) decl script older before) (b : ℕ)
@@ -63,7 +62,7 @@ module _ (decl : Declaration) (script : Script) (calm : IsUndisturbed script) wh
     before_calm : Every TakesCalm at.before
     before_calm =
         deeds_calm at.before
-        (first_part TakesFirst at.before (Takes at.given ∷ [])
+        (every-front TakesFirst at.before (Takes at.given ∷ [])
         (subst (Every TakesFirst) at.is
         (takes_first older b (lives_and_epochs_are_the_first decl script older before run))))
 
@@ -74,7 +73,7 @@ module _ (decl : Declaration) (script : Script) (calm : IsUndisturbed script) wh
     module _ (e : Envelope) (got : at.given ≡ inputs.Got e) where
       sent : In e (mail older)
       sent =
-          taken_mail b [] older e
+          took_sent b [] older e
           (subst (In (Takes (inputs.Got e))) (sym (at.is ∙ ap (λ (g : Input). at.before ++ Takes g ∷ []) got))
           (In-last (Takes (inputs.Got e)) at.before))
 

@@ -9,7 +9,6 @@ use Rattle.qc_list.specs.Vocabulary.{In}
 use Rattle.qc_stamp.specs.declared.stamp.TxId.{TxId}
 use Rattle.qc_stamp.specs.Vocabulary.{same_tx}
 use Rattle.qc_decl.specs.declared.declaration.Declaration.{Declaration}
-use Rattle.qc_lock.proofs.Entries.{tx_apart}
 use Rattle.qc_msg.specs.declared.message.Answer.{Answer}
 use Rattle.qc_msg.specs.declared.message.Envelope.{Envelope}
 use Rattle.qc_msg.specs.declared.message.Message.{Message}
@@ -32,7 +31,12 @@ use Rattle.laws_guarantees.specs.Vocabulary.{asks_to_hold, name_of, open_said, s
 use Rattle.laws_guarantees.proofs.Accounts.{IsTakenNow, after_taken, told_requests}
 use Rattle.laws_guarantees.proofs.RequestGrounds.{asked_current}
 use Rattle.laws_guarantees.proofs.Names.{sends_stay, stays_named, writes_stay}
-use Rattle.laws_guarantees.proofs.AccountCases.{heard_cases, sent_cases, written_cases}
+use Rattle.laws_guarantees.proofs.AccountCases.{heard_cases, sent_cases}
+use Rattle.qc_stamp.proofs.Orders.{same_tx_is}
+use Rattle.laws_due.proofs.AccountCases.{written_cases}
+use Rattle.laws_due.proofs.Commands.{counted_command, heard_command}
+use Rattle.laws_atomic.proofs.Courses.{due-second}
+use Rattle.qc_list.proofs.Booleans.{and_second}
 
 -- a request after an input was there before it
 
@@ -76,17 +80,6 @@ pub record IsBusy (d : Account) (running : Bool) : Type 0 where
   pub command : is_some d.command ≡ running
   pub requests : (q : ClientRequest) → In q d.requests → running ≡ true
 
-counted_command : (d : Account) (n : ℕ) (answer : Option Answer) → (counted d n answer).command ≡ d.command
-counted_command d n answer = by (find (is_open n) d.requests)
-  where
-    by : (o : Option ClientRequest) → (counted_for d n answer o).command ≡ d.command
-    by None = refl
-    by (Some q) = (told_requests (record d { requests = taken_for n answer d.requests }) q answer).1
-
-heard_command : (d : Account) (m : Message) → (account_heard d m).command ≡ d.command
-heard_command d m = heard_cases d (λ m e. e.command ≡ d.command) (λ m. refl)
-    (λ to answer. counted_command d to (Some answer)) m
-
 busy_taken : (d : Account) (running : Bool) (g : Input) → IsBusy d running
     → IsBusy (account_taken d g) (runs_at running (Takes g))
 busy_taken d running (inputs.Called command) b = record { command = refl; requests = λ q never. absurd never }
@@ -107,10 +100,6 @@ busy_written d running w b = written_cases d (λ e. IsBusy e running) b
     (record { command = b.command; requests = b.requests })
     (λ commit. record { command = b.command; requests = b.requests }) w
 
-second_of : (x y : Bool) → (x && y) ≡ true → y ≡ true
-second_of true y is = is
-second_of false y is = absurd (let never : ⊥ = cc in never)
-
 asked_command : (decl : Declaration) (d : Account) (to : ℕ) (tx : TxId) (epoch life : ℕ) (want : Want)
     → is_asked_for decl d to tx epoch life want ≡ true → is_some d.command ≡ true
 asked_command decl d to tx epoch life want is = by d.current is
@@ -123,7 +112,7 @@ asked_command decl d to tx epoch life want is = by d.current is
         (λ (t : Current). is_of t to tx epoch life && command_asks decl d t to want d.command) o false ≡ true
         → is_some d.command ≡ true
     by None never = absurd (let no : ⊥ = cc in no)
-    by (Some t) now = some t d.command (second_of (is_of t to tx epoch life)
+    by (Some t) now = some t d.command (and_second (is_of t to tx epoch life)
         (command_asks decl d t to want d.command) now)
 
 busy_sent : (decl : Declaration) (d : Account) (running : Bool) (n to : ℕ) (m : Message) → IsBusy d running
@@ -178,11 +167,6 @@ told_clears decl d n turn q among = by turn.told refl
 abbrev pub IsNamed : Option TxId → Message → Type 0
 IsNamed name m = MatchOption (request_in m) (Unit {0}) (λ (q : Requested). name ≡ Some q.tx)
 
-pub due_second : (decl : Declaration) (d : Account) (xs ys : List Deed) → AreByRows decl d (xs ++ ys)
-    → AreByRows decl (fold (account_at decl) d xs) ys
-due_second decl d [] ys due = due
-due_second decl d (x ∷ xs) ys due = due_second decl (account_at decl d x) xs ys due.1
-
 named_send : (decl : Declaration) (d : Account) (to : ℕ) (m : Message) → IsSendDue decl d to m → IsNamed (name_of d) m
 named_send decl d to m due = by (request_in m) due
   where
@@ -211,7 +195,7 @@ turn_named decl d n turn due =
     subst (λ (name : Option TxId). Every (λ (p : Posting). IsNamed name p.message) turn.sends)
     (stays_named d (fold (account_at decl) d (writes_of turn.write)) (writes_stay decl d turn.write))
     (named_sends decl (fold (account_at decl) d (writes_of turn.write)) n turn.sends (tells_of turn.told)
-    (due_second decl d (writes_of turn.write) (sends_of n turn.sends ++ tells_of turn.told) due))
+    (due-second decl d (writes_of turn.write) (sends_of n turn.sends ++ tells_of turn.told) due))
 
 -- so they open no other transaction
 
@@ -221,7 +205,7 @@ less_said x name other before m = by (request_in m) (decision_in m)
   where
     test : (tx : TxId) (want : Want) (t : Bool) → name ≡ Some tx → same_tx tx x ≡ t
         → cond (t && asks_to_hold want) true before ≡ true → before ≡ true
-    test tx want true named same is = absurd (other (named ∙ ap (λ (y : TxId). Some y) (tx_apart tx x same)))
+    test tx want true named same is = absurd (other (named ∙ ap (λ (y : TxId). Some y) (same_tx_is tx x same)))
     test tx want false named differs is = is
 
     ends : (t : Bool) → cond t false before ≡ true → before ≡ true

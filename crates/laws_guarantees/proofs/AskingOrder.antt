@@ -1,6 +1,6 @@
 -- The sites of positive weight in a client's order, and the halves of a `do` as requests go to the next of them.
-use Rattle.std.proofs.Common.{[], ◌≡◌, ℕ, zero, suc, ◌+◌, ◌&&◌, max, Bool, true, false, cond, List, ◌∷◌, ◌++◌, map}
-use Rattle.std.proofs.Common.{length, Option, Some, None, option_map, refl, sym, ap, ◌∙◌, eqb-true}
+use Rattle.std.proofs.Common.{[], ◌≡◌, ℕ, zero, suc, ◌+◌, max, Bool, true, false, cond, List, ◌∷◌, ◌++◌, map, length}
+use Rattle.std.proofs.Common.{Option, Some, None, option_map, refl, sym, ap, ◌∙◌, eqb-true}
 use Rattle.std.specs.Prelude.{drop, filter, take}
 use Rattle.std.specs.List.{find}
 use Rattle.qc_entry.specs.declared.line.Line.{Line}
@@ -18,7 +18,8 @@ use Rattle.qc_promise.specs.Vocabulary.{Account, ClientRequest, Current, account
 use Rattle.qc_promise.specs.Vocabulary.{counted, counted_for, granted, is_append, is_open, is_read, is_this, lived}
 use Rattle.qc_promise.specs.Vocabulary.{promised, taken_for, told_by, weights_of, with_current, with_read}
 use Rattle.laws_guarantees.proofs.Accounts.{told_requests}
-use Rattle.laws_guarantees.proofs.AccountCases.{heard_cases, told_cases, written_cases}
+use Rattle.laws_guarantees.proofs.AccountCases.{heard_cases, told_cases}
+use Rattle.laws_due.proofs.AccountCases.{written_cases}
 
 -- the sites of positive weight in a client's order
 abbrev pub order : Declaration → ℕ → ℕ → List ℕ
@@ -151,14 +152,6 @@ first_drop [] zero s is = absurd (let never : ⊥ = cc in never)
 first_drop [] (suc n) s is = absurd (let never : ⊥ = cc in never)
 first_drop (x ∷ xs) zero s is = ap (λ (y : ℕ). y ∷ []) (eqb-true x s is)
 first_drop (x ∷ xs) (suc n) s is = ap (λ (v : List ℕ). x ∷ v) (first_drop xs n s is)
-
-pub first_of_two : (x y : Bool) → (x && y) ≡ true → x ≡ true
-first_of_two true y is = refl
-first_of_two false y is = absurd (let never : ⊥ = cc in never)
-
-pub second_of_two : (x y : Bool) → (x && y) ≡ true → y ≡ true
-second_of_two true y is = is
-second_of_two false y is = absurd (let never : ⊥ = cc in never)
 
 -- the halves of a `do`
 pub data IsHalf : (Want → Bool) → Type 0 where

@@ -26,9 +26,7 @@ use Rattle.qc_script.specs.Runs.{posts}
 use Rattle.qc_script.specs.declared.script.Script.{Script}
 use Rattle.laws_turns.specs.Vocabulary.{ActsIn, AsksDeclared}
 use Rattle.laws_turns.proofs.Acted.{actors_take_and_post_by_turns}
-use Rattle.laws_turns.proofs.Idle.{posts_before}
 use Rattle.laws_turns.proofs.Numbered.{run_numbered}
-use Rattle.laws_turns.proofs.Places.{slice_get-set_same}
 use Rattle.laws_due.proofs.Courses.{deeds_of_clients_are_by_rows}
 use Rattle.laws_due.specs.Vocabulary.{AreByRows}
 use Rattle.qc_promise.specs.Vocabulary.{Account, ClientRequest, Current, account, account_at, new_account}
@@ -36,7 +34,7 @@ use Rattle.laws_guarantees.specs.Vocabulary.{IsStill, IsUndisturbed, begun_by, i
 use Rattle.laws_guarantees.specs.Vocabulary.{sent_before, sent_to}
 use Rattle.laws_guarantees.proofs.Accounts.{HasGrounds, WasSent}
 use Rattle.laws_guarantees.proofs.AnswersLater.{number_from}
-use Rattle.laws_guarantees.proofs.Asking.{IsNamed, due_second, is_busy, less_open, told_clears, turn_named}
+use Rattle.laws_guarantees.proofs.Asking.{IsNamed, is_busy, less_open, told_clears, turn_named}
 use Rattle.laws_guarantees.proofs.RequestGrounds.{has_grounds}
 use Rattle.laws_guarantees.proofs.Grounds.{turn_old}
 use Rattle.laws_guarantees.proofs.Mailed.{sent_as, sent_mail}
@@ -46,6 +44,9 @@ use Rattle.laws_guarantees.proofs.PartsOf.{posted_parts}
 use Rattle.laws_guarantees.proofs.Still.{one_still}
 use Rattle.laws_turns.proofs.Up.{run_up}
 use Rattle.laws_guarantees.proofs.OpenElsewhere.{AllClear, IsClear, IsElsewhere, begun_elsewhere, begun_same}
+use Rattle.qc_core.proofs.LivesOfActors.{who_acts}
+use Rattle.laws_atomic.proofs.Courses.{due-second}
+use Rattle.qc_list.proofs.Places.{slice_get-set_same}
 
 module _ (decl : Declaration) (script : Script) (accepted : IsAccepted decl) (asks : AsksDeclared decl script)
     (calm : IsUndisturbed script) where
@@ -107,7 +108,7 @@ module _ (decl : Declaration) (script : Script) (accepted : IsAccepted decl) (as
               (run_up (IsLawful decl) decl script older before run a)).requests q among
 
           low : b < administrator decl
-          low = posts_before decl b (deeds b [] older) turn lawful
+          low = who_acts decl b (deeds b [] older) turn lawful
 
           still_at : (h : List Entry) (open_inputs : List Bool) → Runs (IsLawful decl) decl script h open_inputs
               → is_client decl b ≡ true → is_running (deeds a [] h) ≡ true → IsStill decl script b h
@@ -169,7 +170,7 @@ module _ (decl : Declaration) (script : Script) (accepted : IsAccepted decl) (as
           actors_take_and_post_by_turns decl script now_posted (slice_set before b false) next b false
           (slice_get-set_same before b false true is_opened) in
           turn_named decl (account decl b older) (length (mail older)) turn
-          (due_second decl (new_account (b - decl.sites)) (deeds b [] older) (turn_deeds (length (mail older)) turn)
+          (due-second decl (new_account (b - decl.sites)) (deeds b [] older) (turn_deeds (length (mail older)) turn)
           (subst (λ (ds : List Deed). AreByRows decl (new_account (b - decl.sites)) ds) grown
           (deeds_of_clients_are_by_rows decl b named (deeds b [] now_posted) false acts.above acts.acts)))
 

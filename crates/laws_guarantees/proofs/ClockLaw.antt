@@ -39,7 +39,8 @@ use Rattle.laws_guarantees.specs.Vocabulary.{GrantTells, IsCounted, PromiseTells
 use Rattle.laws_guarantees.proofs.Requests.{due_at}
 use Rattle.laws_guarantees.proofs.DueStamps.{due_stamp}
 use Rattle.laws_guarantees.proofs.AccountCases.{absent_cases, heard_cases, reply_cases, responded_cases, sent_cases}
-use Rattle.laws_guarantees.proofs.AccountCases.{told_cases, written_cases}
+use Rattle.laws_guarantees.proofs.AccountCases.{told_cases}
+use Rattle.laws_due.proofs.AccountCases.{written_cases}
 
 module _ (decl : Declaration) where
   -- a client's clock never falls

@@ -12,7 +12,7 @@ use Rattle.qc_decl.specs.declared.declaration.Declaration.{Declaration}
 use Rattle.qc_msg.specs.declared.message.Answer.{Answer}
 use Rattle.qc_msg.specs.declared.message.Answer.TheVariants as answers
 use Rattle.qc_msg.specs.declared.message.Want.{Want}
-use Rattle.qc_msg.specs.declared.message.Want.TheVariants.{Append, Prepare, Read}
+use Rattle.qc_msg.specs.declared.message.Want.TheVariants.{Prepare}
 use Rattle.qc_msg.specs.declared.reply.Reply.{Reply}
 use Rattle.qc_msg.specs.declared.reply.Reply.TheVariants as replies
 use Rattle.qc_msg.specs.declared.reply.AbortCause.{AbortCause}
@@ -38,16 +38,12 @@ use Rattle.laws_guarantees.proofs.UndisturbedCounted.{GoodTaken, taken_good}
 use Rattle.laws_guarantees.proofs.Dos.{post_stays}
 use Rattle.laws_guarantees.proofs.Each.{run_each, untold}
 use Rattle.laws_guarantees.proofs.Names.{Stays}
+use Rattle.laws_guarantees.proofs.Against.{is_prepared_want}
 
 -- of each request for a promise of a running commit, what counts isn't Stale
 abbrev pub NoneStale : Declaration → List Entry → Type 0
 NoneStale decl h = (a : ℕ) → is_client decl a ≡ true → (q : ClientRequest) → In q (account decl a h).requests
     → q.want ≡ Prepare → q.taken ≡ Some (Some answers.Stale) → ⊥
-
-prepare_is : (want : Want) → is_prepare want ≡ true → want ≡ Prepare
-prepare_is (Read read) is = absurd (let never : ⊥ = cc in never)
-prepare_is (Append object view own) is = absurd (let never : ⊥ = cc in never)
-prepare_is Prepare is = refl
 
 none_against : (decl : Declaration) (a : ℕ) (h : List Entry) (q : ClientRequest)
     → (q.taken ≡ Some (Some answers.Stale) → ⊥) → (o : Option (Option Answer)) → q.taken ≡ o
@@ -106,7 +102,7 @@ module _ (decl : Declaration) (script : Script) (accepted : IsAccepted decl) (as
       free = nobody_against (requests_for is_prepare (account decl b older)) (λ q among.
           let there : In q (account decl b older).requests =
           In-unfiltered (λ (q : ClientRequest). is_prepare q.want) q (account decl b older).requests among in
-          let want : q.want ≡ Prepare = prepare_is q.want
+          let want : q.want ≡ Prepare = is_prepared_want q.want
           (In-passes (λ (q : ClientRequest). is_prepare q.want) q (account decl b older).requests among) in
           none_against decl b older q (fresh older before run within b named q there want) q.taken refl
           (subst (λ (w : Want). GoodTaken decl b older w q.taken) want

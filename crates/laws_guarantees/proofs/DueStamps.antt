@@ -11,12 +11,10 @@ use Rattle.qc_promise.specs.Vocabulary.{Account, Current, are_votes_in, commit_r
 use Rattle.qc_promise.specs.Vocabulary.{next_stamp, requests_for, running_row, vote_row}
 use Rattle.qc_msg.specs.Vocabulary.{committed_in}
 use Rattle.laws_guarantees.proofs.RowCases.{do_row_cases, running_cases}
+use Rattle.laws_due.proofs.Unwritten.{none_some}
 
 abbrev pub stamp_of : Option Reply → Option Stamp
 stamp_of o = option_and_then committed_in o
-
-pub none_some : {A : Type 0} (o : Option Stamp) (stamp : Stamp) → o ≡ None → o ≡ Some stamp → A
-none_some o stamp none some = absurd (let never : ⊥ = cc in never)
 
 module _ (decl : Declaration) where
   pub do_stamp : (d : Account) (t : Current) (object inv : ℕ) → stamp_of (do_row decl d t object inv) ≡ None

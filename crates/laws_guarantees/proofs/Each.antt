@@ -23,7 +23,7 @@ use Rattle.qc_site.specs.Vocabulary.{site_after}
 use Rattle.laws_turns.proofs.Stamped.{site_answering}
 use Rattle.laws_turns.proofs.Bounding.{lawful_turn}
 use Rattle.laws_guarantees.specs.Vocabulary.{EachReply, IfTold}
-use Rattle.laws_guarantees.proofs.ControlCases.{control_cases}
+use Rattle.laws_turns.proofs.StepCases.{control_cases}
 
 -- a turn without its reply: what stands before that in the history
 abbrev pub untold : Turn → Turn

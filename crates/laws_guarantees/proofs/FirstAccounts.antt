@@ -25,6 +25,7 @@ use Rattle.laws_guarantees.proofs.FirstDeeds.{FirstLives, FirstCurrent, IsFirstA
 use Rattle.laws_guarantees.proofs.FirstDeeds.{taken_first, written_first, sent_first, responded_first}
 use Rattle.laws_guarantees.proofs.AccountCases.{absent_cases, reply_cases}
 use Rattle.std.specs.Prelude.{MatchOption}
+use Rattle.qc_list.proofs.Booleans.{and_parts}
 
 absent_first : (d : Account) (o : Option Command) → IsFirstAccount d → IsFirstAccount (found_absent d o)
 absent_first d o f = absent_cases d IsFirstAccount f
@@ -64,10 +65,6 @@ life_first (l ∷ lives) site first = by (l.site == site) (life_first lives site
     by true rest = inr first.0
     by false rest = rest
 
-both : (x y : Bool) → (x && y) ≡ true → (x ≡ true) × (y ≡ true)
-both true y is = (refl, is)
-both false y is = absurd (let never : ⊥ = cc in never)
-
 asked_first : (decl : Declaration) (d : Account) (to : ℕ) (tx : TxId) (epoch life : ℕ) (want : Want) → IsFirstAccount d
     → is_asked_for decl d to tx epoch life want ≡ true → IsFirst (messages.Request tx epoch life want)
 asked_first decl d to tx epoch life want f is = by d.current f.current is
@@ -78,11 +75,11 @@ asked_first decl d to tx epoch life want f is = by d.current f.current is
     by None first never = absurd (let no : ⊥ = cc in no)
     by (Some t) first now =
         let mine : (is_of t to tx epoch life ≡ true) × (command_asks decl d t to want d.command ≡ true) =
-        both (is_of t to tx epoch life) (command_asks decl d t to want d.command) now in
+        and_parts (is_of t to tx epoch life) (command_asks decl d t to want d.command) now in
         let rest : (same_tx t.tx tx ≡ true) × (((epoch == t.epoch) && (life == life_of t.lives to)) ≡ true) =
-        both (same_tx t.tx tx) ((epoch == t.epoch) && (life == life_of t.lives to)) mine.0 in
+        and_parts (same_tx t.tx tx) ((epoch == t.epoch) && (life == life_of t.lives to)) mine.0 in
         let named : ((epoch == t.epoch) ≡ true) × ((life == life_of t.lives to) ≡ true) =
-        both (epoch == t.epoch) (life == life_of t.lives to) rest.1 in
+        and_parts (epoch == t.epoch) (life == life_of t.lives to) rest.1 in
         let lived : life ≡ life_of t.lives to = eqb-true life (life_of t.lives to) named.1 in
         (eqb-true epoch t.epoch named.0 ∙ first.0, known lived (life_first t.lives to first.1))
       where

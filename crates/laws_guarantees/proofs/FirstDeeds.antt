@@ -19,7 +19,8 @@ use Rattle.qc_promise.specs.Vocabulary.{Account, ClientRequest, Current, account
 use Rattle.qc_promise.specs.Vocabulary.{account_written, answer_of, counted, counted_for, granted, is_open, lived}
 use Rattle.qc_promise.specs.Vocabulary.{promised, responded, taken_for, told_by, with_current, with_read, with_response}
 use Rattle.laws_guarantees.specs.Vocabulary.{IsFirst, IsFirstAnswer}
-use Rattle.laws_guarantees.proofs.AccountCases.{heard_cases, responded_cases, sent_cases, told_cases, written_cases}
+use Rattle.laws_guarantees.proofs.AccountCases.{heard_cases, responded_cases, sent_cases, told_cases}
+use Rattle.laws_due.proofs.AccountCases.{written_cases}
 
 abbrev pub FirstLives : List LifeAt → Type 0
 FirstLives lives = Every (λ (l : LifeAt). l.life ≡ first_life) lives

@@ -5,7 +5,7 @@ use Rattle.std.specs.Prelude.{slice_set}
 use Rattle.std.specs.List.{AllByRecursion as Every}
 use Rattle.std.proofs.lemmas.List.Sums.{fold-append}
 use Rattle.qc_list.specs.Vocabulary.{In}
-use Rattle.qc_list.proofs.Members.{In-last, every-In, every-append, every-from_In}
+use Rattle.qc_list.proofs.Members.{In-last, every-In, every-append, every-from_In, every-front, every-back}
 use Rattle.qc_core.specs.Vocabulary.{IsLawful}
 use Rattle.qc_decl.specs.Vocabulary.{controller, is_client, is_site}
 use Rattle.qc_decl.specs.declared.declaration.Declaration.{Declaration}
@@ -31,8 +31,6 @@ use Rattle.qc_client.specs.Vocabulary.{ClientMove, client_after, client_does, mo
 use Rattle.laws_turns.specs.Vocabulary.{ActsIn}
 use Rattle.laws_turns.proofs.Acted.{actors_take_and_post_by_turns}
 use Rattle.laws_turns.proofs.Numbered.{control_silent, mail-silent, phase_silent}
-use Rattle.laws_turns.proofs.Places.{slice_get-set_same}
-use Rattle.laws_turns.proofs.Served.{first_part, second_part}
 use Rattle.laws_due.proofs.Courses.{deeds_of_clients_are_by_rows}
 use Rattle.laws_due.specs.Vocabulary.{AreByRows}
 use Rattle.qc_promise.specs.Vocabulary.{new_account}
@@ -43,8 +41,9 @@ use Rattle.laws_guarantees.proofs.ClientWords.{AreClientWords, IsClientWord, cli
 use Rattle.laws_guarantees.proofs.FirstDeeds.{FirstGiven}
 use Rattle.laws_guarantees.proofs.FirstAccounts.{RequestIsFirst, SendsFirst, TakesFirst, deeds_first, new_first}
 use Rattle.laws_guarantees.proofs.FirstSites.{deeds_calm, site_first}
-use Rattle.laws_guarantees.proofs.Mailed.{taken_mail}
 use Rattle.laws_guarantees.proofs.Opened.{IsAtTake, opened}
+use Rattle.laws_atomic.proofs.Heard.{took_sent}
+use Rattle.qc_list.proofs.Places.{slice_get-set_same}
 
 abbrev SayFirst : List Posting → Type 0
 SayFirst ps = Every (λ (p : Posting). IsFirst p.message) ps
@@ -58,7 +57,7 @@ first_envelopes a n (p ∷ ps) all = (all.0, first_envelopes a (n + 1) ps all.1)
 pub given_first : (h : List Entry) (a : ℕ) (g : Input) → AreFirst (mail h) → In (Takes g) (deeds a [] h) → FirstGiven g
 given_first h a (inputs.Called command) all among = tt
 given_first h a (inputs.Got e) all among =
-    every-In (λ (e : Envelope). IsFirst e.message) e (mail h) all (taken_mail a [] h e among)
+    every-In (λ (e : Envelope). IsFirst e.message) e (mail h) all (took_sent a [] h e among)
 given_first h a (inputs.Lost number) all among = tt
 
 deed_first : (h : List Entry) (a : ℕ) (d : Deed) → AreFirst (mail h) → In d (deeds a [] h) → TakesFirst d
@@ -100,7 +99,7 @@ all_said n (p ∷ ps) more first words = (said_first p.message first.0 words.0, 
 turn_said : (n : ℕ) (turn : Turn) → Every SendsFirst (turn_deeds n turn) → AreClientWords turn.sends
     → SayFirst turn.sends
 turn_said n turn first words = all_said n turn.sends (tells_of turn.told)
-    (second_part SendsFirst (writes_of turn.write) (sends_of n turn.sends ++ tells_of turn.told) first) words
+    (every-back SendsFirst (writes_of turn.write) (sends_of n turn.sends ++ tells_of turn.told) first) words
 
 module _ (decl : Declaration) (script : Script) where
   module _ (older : List Entry) (before : List Bool) (run : Runs (IsLawful decl) decl script older before)
@@ -114,7 +113,7 @@ module _ (decl : Declaration) (script : Script) where
         (subst (In (Takes at.given)) (sym at.is) (In-last (Takes at.given) at.before))
 
     before_calm : Every TakesCalm at.before
-    before_calm = deeds_calm at.before (first_part TakesFirst at.before (Takes at.given ∷ [])
+    before_calm = deeds_calm at.before (every-front TakesFirst at.before (Takes at.given ∷ [])
         (subst (Every TakesFirst) at.is (takes_first older b all)))
 
     next : Runs (IsLawful decl) decl script (older ++ by b (posted (length (mail older)) turn))
@@ -155,7 +154,7 @@ module _ (decl : Declaration) (script : Script) where
         (deeds_of_clients_are_by_rows decl b named (deeds b [] (older ++ by b (posted (length (mail older)) turn)))
         false acts.above
         acts.acts)) takes in
-        turn_said (length (mail older)) turn (second_part SendsFirst (deeds b [] older)
+        turn_said (length (mail older)) turn (every-back SendsFirst (deeds b [] older)
         (turn_deeds (length (mail older)) turn) sends)
         (subst (λ (t : Turn). AreClientWords t.sends) (sym its) words)
 

@@ -19,7 +19,8 @@ use Rattle.qc_msg.specs.Vocabulary.{sends_of, tells_of, turn_deeds, writes_of}
 use Rattle.qc_promise.specs.Vocabulary.{Account, ClientRequest, account_at, account_heard, account_sent, account_taken}
 use Rattle.qc_promise.specs.Vocabulary.{account_written, counted, counted_for, taken_for}
 use Rattle.laws_guarantees.proofs.Accounts.{after_taken, told_requests}
-use Rattle.laws_guarantees.proofs.AccountCases.{heard_cases, sent_cases, written_cases}
+use Rattle.laws_guarantees.proofs.AccountCases.{heard_cases, sent_cases}
+use Rattle.laws_due.proofs.AccountCases.{written_cases}
 
 module _ (decl : Declaration) where
   abbrev more_requests : Account → ℕ → ℕ → ℕ → Want → Account

@@ -15,7 +15,6 @@ use Rattle.qc_lock.specs.declared.held.Held.{Held}
 use Rattle.qc_lock.specs.Vocabulary.{IsAppendConflict, IsReadConflict, IsSmallest, append_clash, read_clash}
 use Rattle.qc_lock.specs.Vocabulary.{without_held}
 use Rattle.qc_lock.proofs.Conflicts.{appends_are_refused_on_conflict, reads_are_refused_on_conflict}
-use Rattle.qc_lock.proofs.Entries.{apart_sym, same_self}
 use Rattle.qc_msg.specs.declared.message.Envelope.{Envelope}
 use Rattle.qc_msg.specs.declared.message.Message.{Message}
 use Rattle.qc_msg.specs.declared.message.Message.TheVariants as messages
@@ -33,6 +32,7 @@ use Rattle.qc_site.specs.Vocabulary.{site_does, site_takes}
 use Rattle.qc_site.proofs.RequestCases.{append_cases, join_cases, prepare_cases, read_cases, request_cases}
 use Rattle.laws_turns.proofs.SitesAsk.{held-more}
 use Rattle.laws_guarantees.specs.Vocabulary.{asks_to_hold, is_open, message_in, open_said, taken_in}
+use Rattle.qc_stamp.proofs.Orders.{same_tx_itself, other_tx_sym}
 
 -- each entry is of an open transaction
 abbrev pub AreOpen : List Envelope → List Held → Type 0
@@ -55,7 +55,7 @@ request_leaves tx other epoch life want before is = by (same_tx other tx && asks
 request_opens : (tx : TxId) (epoch life : ℕ) (want : Want) (before : Bool) → asks_to_hold want ≡ true
     → open_said tx before (messages.Request tx epoch life want) ≡ true
 request_opens tx epoch life want before holds =
-    ap (λ (t : Bool). cond (t && asks_to_hold want) true before) (same_self tx)
+    ap (λ (t : Bool). cond (t && asks_to_hold want) true before) (same_tx_itself tx)
     ∙ ap (λ (t : Bool). cond t true before) holds
 
 other_decision : (tx other : TxId) (v : Outcome) (before : Bool) → same_tx other tx ≡ false
@@ -110,7 +110,7 @@ module _ (decl : Declaration) (ms : List Envelope) (s : SiteState) (from number 
       (without_held s.held tx) (λ h among.
       let apart : not (same_tx h.tx tx) ≡ true = In-passes (λ (h : Held). not (same_tx h.tx tx)) h s.held among in
       let old : In h s.held = In-unfiltered (λ (h : Held). not (same_tx h.tx tx)) h s.held among in
-      other_decision h.tx tx v (is_open h.tx ms) (apart_sym h.tx tx (unlike (same_tx h.tx tx) apart))
+      other_decision h.tx tx v (is_open h.tx ms) (other_tx_sym h.tx tx (unlike (same_tx h.tx tx) apart))
       ∙ every-In (λ (h : Held). is_open h.tx ms ≡ true) h s.held all old)
     where
       unlike : (t : Bool) → not t ≡ true → t ≡ false

@@ -5,8 +5,7 @@ use Rattle.std.specs.Prelude.{fold}
 use Rattle.std.specs.Option.{option_map_or}
 use Rattle.qc_stamp.specs.declared.stamp.TxId.{TxId}
 use Rattle.qc_list.specs.Vocabulary.{In}
-use Rattle.qc_list.proofs.Members.{In-first, In-second}
-use Rattle.theory_onecopy.proofs.Lists.{in_map}
+use Rattle.qc_list.proofs.Members.{In-first, In-second, In-map}
 use Rattle.qc_entry.specs.declared.line.Line.{Line}
 use Rattle.qc_entry.specs.declared.line.OwnLine.{OwnLine}
 use Rattle.qc_entry.specs.declared.record.Commit.{Commit as CommitRecord}
@@ -35,12 +34,12 @@ use Rattle.qc_script.specs.declared.script.Script.{Script}
 use Rattle.laws_refinement.specs.Vocabulary.{Backed, IsHeld, own_item, own_items}
 use Rattle.laws_atomic.proofs.Runs.{decisions_tell_the_records}
 use Rattle.laws_guarantees.specs.Vocabulary.{HasWanted, IsGrantedSince}
-use Rattle.laws_guarantees.proofs.Mailed.{taken_mail}
 use Rattle.laws_guarantees.proofs.Room.{numbered_within}
 use Rattle.laws_guarantees.proofs.Uncut.{held_from_first}
 use Rattle.laws_guarantees.proofs.Voted.{mirror, stood}
 use Rattle.laws_guarantees.proofs.Standing.{undecided, not_ended, standing_more, WasTakenFor, was_taken, own_wanted}
 use Rattle.laws_guarantees.proofs.Standing.{Agrees, IsWanted, standing_held}
+use Rattle.laws_atomic.proofs.Heard.{took_sent}
 
 module _ (decl : Declaration) (script : Script) (accepted : IsAccepted decl) (sound : IsScriptFor decl script)
     (h : List Entry) (open_inputs : List Bool) (run : Runs (IsLawful decl) decl script h open_inputs) where
@@ -68,7 +67,7 @@ module _ (decl : Declaration) (script : Script) (accepted : IsAccepted decl) (so
       let c : IsOwnClosedAt decl (state (mirror decl script accepted sound h open_inputs run).acts).executed
       (state (mirror decl script accepted sound h open_inputs run).acts).chosen tx view (own_items own) o =
       (laws_now.appends (record { tx = tx; items = own_items own; view = view }) b.3.0).own_closed o
-      (in_map own_item o own among) in
+      (In-map own_item o own among) in
       (c.operation, c.known, c.is)
 
   one_operation : (tx : TxId) (c d : Executed)
@@ -114,7 +113,7 @@ module _ (decl : Declaration) (script : Script) (accepted : IsAccepted decl) (so
         subst (λ (ds : List Deed). In (Takes (inputs.Got e)) ds) (sym g.stands)
         (In-second (Takes (inputs.Got e)) g.before (Takes (inputs.Got g.request) ∷ g.since) (inr taken)) in
         decisions_tell_the_records decl script h open_inputs accepted sound run e c.tx outcomes.Aborted
-        (taken_mail site [] h e here) is c committed refl
+        (took_sent site [] h e here) is c committed refl
     never_ended e outcomes.Active taken is final = let never : ⊥ = cc in never
 
     it_stands : In asked (standing (deeds site [] h))
@@ -139,7 +138,7 @@ module _ (decl : Declaration) (script : Script) (accepted : IsAccepted decl) (so
 
     request_sent : In g.request (mail h)
     request_sent =
-        taken_mail site [] h g.request
+        took_sent site [] h g.request
         (subst (λ (ds : List Deed). In (Takes (inputs.Got g.request)) ds) (sym g.stands)
         (In-second (Takes (inputs.Got g.request)) g.before (Takes (inputs.Got g.request) ∷ g.since) (inl refl)))
 
@@ -170,7 +169,7 @@ module _ (decl : Declaration) (script : Script) (accepted : IsAccepted decl) (so
 
         by : WasTakenFor (deeds site [] h) k → IsKnown l
         by w =
-            by_want w.envelope w.epoch w.life k.want (taken_mail site [] h w.envelope w.taken)
+            by_want w.envelope w.epoch w.life k.want (took_sent site [] h w.envelope w.taken)
             (w.content ∙ ap (λ (t : TxId). messages.Request t w.epoch w.life k.want) same) there
 
     agrees : (x : Item) → IsWanted want x → Agrees (standing (deeds site [] h)) c.tx x

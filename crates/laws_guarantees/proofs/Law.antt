@@ -10,7 +10,7 @@ use Rattle.std.proofs.lemmas.List.Sums.{fold-append}
 use Rattle.std.proofs.lemmas.List.Elements.{filter_map-append}
 use Rattle.qc_stamp.specs.declared.stamp.Stamp.{Stamp}
 use Rattle.qc_list.specs.Vocabulary.{In}
-use Rattle.qc_list.proofs.Members.{In-second}
+use Rattle.qc_list.proofs.Members.{In-second, In-either}
 use Rattle.qc_entry.specs.declared.line.Line.{Line}
 use Rattle.qc_entry.specs.declared.line.Op.{Op}
 use Rattle.qc_entry.specs.declared.record.Commit.{Commit as CommitRecord}
@@ -21,7 +21,6 @@ use Rattle.qc_msg.specs.declared.record.Record.TheVariants as records
 use Rattle.qc_msg.specs.Vocabulary.{Deed, Entry, commit_in, deeds, mail, written}
 use Rattle.qc_msg.proofs.DeedsGrow.{deeds-append}
 use Rattle.theory_onecopy.specs.Vocabulary.{IsOperation}
-use Rattle.theory_onecopy.proofs.Lists.{in_split}
 use Rattle.qc_promise.specs.Vocabulary.{Account, Current, account, account_at, new_account, view_of}
 use Rattle.laws_due.specs.Vocabulary.{AreByRows}
 use Rattle.qc_script.specs.Vocabulary.{IsScriptFor, Runs}
@@ -232,9 +231,9 @@ module _ (decl : Declaration) (script : Script) (accepted : IsAccepted decl) (so
 
     pub dependent_operations_are_ordered : IsOrdered (view_of t op.object) line c.stamp
     dependent_operations_are_ordered =
-        elim (in_split d.logged.commit (written k.early ++ written k.middle) (c ∷ written k.after)
+        elim (In-either d.logged.commit (written k.early ++ written k.middle) (c ∷ written k.after)
         (subst (In d.logged.commit) places d.logged.listed)) [
-          | inl old ↦ elim (in_split d.logged.commit (written k.early) (written k.middle) old) [
+          | inl old ↦ elim (In-either d.logged.commit (written k.early) (written k.middle) old) [
             | inl there_then ↦ was_there there_then
             | inr amid_them ↦ absurd (never_between (written_in k.middle d.logged.commit amid_them))
           ]

@@ -6,9 +6,8 @@ use Rattle.std.specs.Prelude.{sum_by}
 use Rattle.std.specs.List.{flat_map}
 use Rattle.std.proofs.lemmas.List.Sums.{sum_by-cons}
 use Rattle.std.specs.declared.cmp.Ordering.{Ordering}
-use Rattle.std.specs.declared.cmp.Ordering.TheVariants.{Less, Equal, Greater}
-use Rattle.std.specs.Ordering.{nat_cmp, ordering_then}
-use Rattle.std.proofs.lemmas.Bool.Decides.{nat_tests}
+use Rattle.std.specs.declared.cmp.Ordering.TheVariants.{Less, Equal}
+use Rattle.std.specs.Ordering.{nat_cmp}
 use Rattle.qc_list.specs.Vocabulary.{Ascends, In, IsBelowAll}
 use Rattle.qc_list.proofs.Members.{In-first, In-second}
 use Rattle.qc_entry.specs.declared.line.OwnLine.{OwnLine}
@@ -25,6 +24,9 @@ use Rattle.theory_onecopy.specs.Vocabulary.{IsLogged, IsOperation, event_at}
 use Rattle.qc_stamp.specs.declared.stamp.Stamp.{Stamp}
 use Rattle.qc_stamp.specs.declared.stamp.TxId.{TxId}
 use Rattle.qc_stamp.proofs.Orders.{nat_apart}
+use Rattle.theory_onecopy.proofs.Orders.{then_less}
+use Rattle.qc_site.proofs.Ascending.{below_In}
+use Rattle.qc_list.proofs.Numbers.{below_from_cmp}
 
 -- a list without one of its members
 pub record IsWithout {A : Type 0} (x : A) (ys : List A) : Type 0 where
@@ -52,11 +54,6 @@ cut x (y ∷ ys) (inr there) =
       ];
     }
 
-below : {A : Type 0} (cmp : A → A → Ordering) (x y : A) (xs : List A) → IsBelowAll cmp x xs → In y xs → cmp x y ≡ Less
-below cmp x y [] low among = absurd among
-below cmp x y (z ∷ zs) low (inl same) = subst (λ (w : _). cmp x w ≡ Less) (sym same) low.0
-below cmp x y (z ∷ zs) low (inr there) = below cmp x y zs low.1 there
-
 -- an ascending list is no longer than any list that has its members
 pub ascends_within : {A : Type 0} (cmp : A → A → Ordering) → ((x : A) → cmp x x ≡ Less → ⊥) → (xs ys : List A)
     → Ascends cmp xs → ((x : A) → In x xs → In x ys) → length xs ≤ length ys
@@ -66,18 +63,15 @@ ascends_within {A = A} cmp apart (x ∷ xs) ys order among =
     let c : length ys ≡ length w.rest + 1 = w.count in
     let l : length xs ≤ length w.rest = ascends_within cmp apart xs w.rest order.1
     (λ y there. elim (w.others y (among y (inr there))) [
-      | inl same ↦ absurd (apart x (subst (λ (z : A). cmp x z ≡ Less) same (below cmp x y xs order.0 there)))
+      | inl same ↦ absurd (apart x (subst (λ (z : A). cmp x z ≡ Less) same (below_In cmp x y xs order.0 there)))
       | inr left ↦ left
     ]) in
     omega arith
 
 -- numbers in a list that ascends
 
-less_is : (a b : ℕ) → nat_cmp a b ≡ Less → a < b
-less_is a b is = grind (arith, nat_tests)
-
 below_own : (o : OwnLine) (os : List OwnLine) (x : OwnLine) → IsBelowAll own_cmp o os → In x os → o.op < x.op
-below_own o os x low among = less_is o.op x.op (below own_cmp o x os low among)
+below_own o os x low among = below_from_cmp o.op x.op (below_In own_cmp o x os low among)
 
 -- own lines whose operations have numbers between these two
 pub own_count : (own : List OwnLine) (low most : ℕ) → Ascends own_cmp own
@@ -95,19 +89,14 @@ own_count (o ∷ os) low most order within =
 abbrev pub key : ReadLock → ℕ
 key l = l.object * 32 + l.inv
 
-then_less : (a b : Ordering) → ordering_then a b ≡ Less → (a ≡ Less) ⊎ ((a ≡ Equal) × (b ≡ Less))
-then_less Less b is = inl refl
-then_less Equal b is = inr (refl, is)
-then_less Greater b is = absurd (let never : ⊥ = cc in never)
-
 key_less : (a b : ReadLock) → a.inv < 32 → lock_cmp a b ≡ Less → key a < key b
 key_less a b low is = by (then_less (nat_cmp a.object b.object) (nat_cmp a.inv b.inv) is)
   where
     by : (nat_cmp a.object b.object ≡ Less) ⊎ ((nat_cmp a.object b.object ≡ Equal) × (nat_cmp a.inv b.inv ≡ Less))
         → a.object * 32 + a.inv < b.object * 32 + b.inv
-    by (inl l) = let o : a.object < b.object = less_is a.object b.object l in omega arith
+    by (inl l) = let o : a.object < b.object = below_from_cmp a.object b.object l in omega arith
     by (inr e) = let o : a.object ≡ b.object = nat_apart a.object b.object e.0 in
-        let i : a.inv < b.inv = less_is a.inv b.inv e.1 in omega arith
+        let i : a.inv < b.inv = below_from_cmp a.inv b.inv e.1 in omega arith
 
 -- locks of at most 16 objects with at most 32 invocations each
 pub lock_count : (locks : List ReadLock) (low : ℕ) → Ascends lock_cmp locks
@@ -116,7 +105,7 @@ lock_count [] low order within = omega arith
 lock_count (x ∷ xs) low order within =
     let rest : length xs ≤ 512 - (key x + 1) =
     lock_count xs (key x + 1) order.1 (λ y among.
-    (let l : key x < key y = key_less x y (within x (inl refl)).2 (below lock_cmp x y xs order.0 among) in
+    (let l : key x < key y = key_less x y (within x (inl refl)).2 (below_In lock_cmp x y xs order.0 among) in
     (omega arith, (within y (inr among)).1, (within y (inr among)).2))) in
     let l : low ≤ x.object * 32 + x.inv = (within x (inl refl)).0 in
     let o : x.object < 16 = (within x (inl refl)).1 in

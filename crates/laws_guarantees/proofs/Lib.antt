@@ -1,7 +1,6 @@
 pub mod MessageCases
 pub mod ClientCases
 pub mod SiteCases
-pub mod ControlCases
 pub mod AccountCases
 pub mod RowCases
 pub mod Mailed

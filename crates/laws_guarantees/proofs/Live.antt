@@ -50,7 +50,7 @@ no_outcome s (inl a) None o = subst (λ (x : Status). IsOutcome x None) a o
 no_outcome s (inr v) (Some stamp) o = subst (λ (x : Status). IsOutcome x (Some stamp)) v o
 no_outcome s (inr v) None o = subst (λ (x : Status). IsOutcome x None) v o
 
-status_cases : (o : Option Voting) (s : Status) → s ≡ status_by o → (s ≡ Active) ⊎ (s ≡ machine.Voting)
+pub status_cases : (o : Option Voting) (s : Status) → s ≡ status_by o → (s ≡ Active) ⊎ (s ≡ machine.Voting)
 status_cases None s is = inl is
 status_cases (Some v) s is = inr is
 

@@ -1,11 +1,9 @@
 -- What an actor sent is in the mail, what is in the mail was sent, and what an actor took was.
 use Rattle.std.proofs.Common.{◌≡◌, ℕ, ◌==◌, Bool, true, false, cond, inl, inr, List, [], ◌∷◌, ◌++◌, Option, Some, None}
-use Rattle.std.proofs.Common.{option_to_list, slice_get, refl, sym, ap, ◌∙◌, subst, append_assoc, eq-eqb, eqb-true}
+use Rattle.std.proofs.Common.{option_to_list, slice_get, refl, sym, ap, ◌∙◌, subst, eqb-true}
 use Rattle.std.specs.List.{cons_option}
-use Rattle.std.proofs.lemmas.List.{append-nil}
 use Rattle.qc_list.specs.Vocabulary.{In}
-use Rattle.qc_list.proofs.Members.{In-first, In-second, every-at, every-from_In}
-use Rattle.theory_onecopy.proofs.Lists.{in_split}
+use Rattle.qc_list.proofs.Members.{In-either, In-at}
 use Rattle.qc_msg.specs.declared.message.Envelope.{Envelope}
 use Rattle.qc_msg.specs.declared.message.Message.{Message}
 use Rattle.qc_msg.specs.declared.step.Input.TheVariants as inputs
@@ -13,6 +11,7 @@ use Rattle.qc_msg.specs.declared.step.Step.{Step}
 use Rattle.qc_msg.specs.declared.step.Step.TheVariants as steps
 use Rattle.qc_msg.specs.Vocabulary.{Deed, Entry, Falls, Rises, Sends, Takes, Tells, Writes, deed_at, deeds, envelope_at}
 use Rattle.qc_msg.specs.Vocabulary.{envelope_of, heard, mail, got_in}
+use Rattle.laws_atomic.proofs.Heard.{heard_none}
 
 abbrev pub sent_as : ℕ → ℕ → ℕ → Message → Envelope
 sent_as a n to m = record { number = n; from = a; to = to; message = m }
@@ -50,11 +49,6 @@ step_cases ms a P none other takes sends (steps.Fell cause pending) = other (Fal
 step_cases ms a P none other takes sends (steps.Rose records) = other (Rises records) refl refl
 step_cases ms a P none other takes sends (steps.Damaged offset) = none
 
-heard_sends : (o : Option Envelope) (n to : ℕ) (m : Message) → In (Sends n to m) (heard o) → ⊥
-heard_sends None n to m among = among
-heard_sends (Some e) n to m (inl same) = let never : ⊥ = cc in never
-heard_sends (Some e) n to m (inr never) = never
-
 one_sent : (a n to : ℕ) (m : Message) (d : Deed) → Sends n to m ≡ d → message_of a d ≡ Some (sent_as a n to m)
 one_sent a n to m d same = ap (message_of a) (sym same)
 
@@ -68,7 +62,7 @@ step_sent a ms step n to m = step_cases ms a (λ ds o. In (Sends n to m) ds → 
           let never : ⊥ = cc in never)
       | inr never ↦ absurd never
     ])
-    (λ k among. absurd (heard_sends (slice_get ms k) n to m among))
+    (λ k among. absurd (heard_none (slice_get ms k) n to m among))
     (λ k receiver message among. elim among [
       | inl same ↦ one_sent a n to m (Sends k receiver message) same
       | inr never ↦ absurd never
@@ -78,7 +72,7 @@ cons_first : (o : Option Envelope) (e : Envelope) (xs : List Envelope) → o ≡
 cons_first None e xs is = absurd (let never : ⊥ = cc in never)
 cons_first (Some x) e xs is = inl (let same : e ≡ x = cc in same)
 
-cons_rest : (o : Option Envelope) (e : Envelope) (xs : List Envelope) → In e xs → In e (cons_option o xs)
+pub cons_rest : (o : Option Envelope) (e : Envelope) (xs : List Envelope) → In e xs → In e (cons_option o xs)
 cons_rest None e xs among = among
 cons_rest (Some x) e xs among = inr among
 
@@ -94,7 +88,7 @@ sent_mail a ms (e ∷ h) n to m among = by (e.actor == a) refl among
         → (In (Sends n to m) (deeds a (ms ++ option_to_list (envelope_of e)) h)
         → In (sent_as a n to m) (cons_option (envelope_of e) (mail h)))
         → In (sent_as a n to m) (cons_option (envelope_of e) (mail h))
-    by true same there later = elim (in_split (Sends n to m) (deed_at ms e.step)
+    by true same there later = elim (In-either (Sends n to m) (deed_at ms e.step)
         (deeds a (ms ++ option_to_list (envelope_of e)) h) there) [
           | inl here ↦ cons_first (envelope_of e) (sent_as a n to m) (mail h)
               (subst (λ (k : ℕ). envelope_at k e.step ≡ Some (sent_as a n to m)) (sym (eqb-true e.actor a same))
@@ -114,75 +108,10 @@ step_mailed ms a step x = step_cases ms a
     (λ k receiver message is. let same : x ≡ sent_as a k receiver message = cc in
     (ap (λ (y : Envelope). y.from) same, inl (ap (λ (y : Envelope). Sends y.number y.to y.message) same))) step
 
-pub mail_sent : (ms : List Envelope) (h : List Entry) (x : Envelope) → In x (mail h)
-    → In (Sends x.number x.to x.message) (deeds x.from ms h)
-mail_sent ms [] x among = absurd among
-mail_sent ms (e ∷ h) x among =
-    by (envelope_of e) refl among (λ there. In-second (Sends x.number x.to x.message)
-    (cond (e.actor == x.from) (deed_at ms e.step) []) (deeds x.from (ms ++ option_to_list (envelope_of e)) h)
-    (mail_sent (ms ++ option_to_list (envelope_of e)) h x there))
-  where
-    first : (t : Bool) → (e.actor == x.from) ≡ t → Some x ≡ envelope_at e.actor e.step
-        → In (Sends x.number x.to x.message) (cond t (deed_at ms e.step) [] ++ deeds x.from
-        (ms ++ option_to_list (envelope_of e)) h)
-    first true same is = In-first (Sends x.number x.to x.message) (deed_at ms e.step)
-        (deeds x.from (ms ++ option_to_list (envelope_of e)) h) (step_mailed ms e.actor e.step x is).1
-    first false other is = absurd (let t : (e.actor == x.from) ≡ true =
-        eq-eqb e.actor x.from (sym (step_mailed ms e.actor e.step x is).0) in let never : ⊥ = cc in never)
-
-    by : (o : Option Envelope) → envelope_of e ≡ o → In x (cons_option o (mail h))
-        → (In x (mail h) → In (Sends x.number x.to x.message)
-        (cond (e.actor == x.from) (deed_at ms e.step) [] ++ deeds x.from (ms ++ option_to_list (envelope_of e)) h))
-        → In (Sends x.number x.to x.message) (cond (e.actor == x.from) (deed_at ms e.step) [] ++ deeds x.from
-        (ms ++ option_to_list (envelope_of e)) h)
-    by None is there later = later there
-    by (Some y) is (inl same) later = first (e.actor == x.from) refl (ap (λ (z : Envelope). Some z) same ∙ sym is)
-    by (Some y) is (inr there) later = later there
-
 -- what was taken
-
-in_at : (ms : List Envelope) (n : ℕ) (e : Envelope) → slice_get ms n ≡ Some e → In e ms
-in_at ms n e is = every-at (λ (x : Envelope). In x ms) ms n e
-    (every-from_In (λ (x : Envelope). In x ms) ms (λ x among. among)) is
 
 heard_takes : (ms : List Envelope) (n : ℕ) (e : Envelope) (o : Option Envelope) → slice_get ms n ≡ o
     → In (Takes (inputs.Got e)) (heard o) → In e ms
 heard_takes ms n e None is among = absurd among
-heard_takes ms n e (Some x) is (inl same) = in_at ms n e (is ∙ sym (ap taken_of same))
+heard_takes ms n e (Some x) is (inl same) = In-at ms n e (is ∙ sym (ap taken_of same))
 heard_takes ms n e (Some x) is (inr never) = absurd never
-
-step_taken : (ms : List Envelope) (step : Step) (e : Envelope) → In (Takes (inputs.Got e)) (deed_at ms step) → In e ms
-step_taken ms step e = step_cases ms 0 (λ ds o. In (Takes (inputs.Got e)) ds → In e ms) (λ among. absurd among)
-    (λ d unsent untaken among. elim among [
-      | inl same ↦
-          absurd (let is : Some e ≡ None = ap taken_of same ∙ untaken in let never : ⊥ = cc in never)
-      | inr never ↦ absurd never
-    ])
-    (λ k among. heard_takes ms k e (slice_get ms k) refl among)
-    (λ k receiver message among. elim among [
-      | inl same ↦ absurd (let is : Some e ≡ None = ap taken_of same in let never : ⊥ = cc in never)
-      | inr never ↦ absurd never
-    ]) step
-
-more_mail : (ms : List Envelope) (o : Option Envelope) (xs : List Envelope)
-    → (ms ++ option_to_list o) ++ xs ≡ ms ++ cons_option o xs
-more_mail ms None xs = ap (λ (v : List Envelope). v ++ xs) (append-nil ms)
-more_mail ms (Some x) xs = append_assoc ms (x ∷ []) xs
-
-pub taken_mail : (a : ℕ) (ms : List Envelope) (h : List Entry) (e : Envelope) → In (Takes (inputs.Got e)) (deeds a ms h)
-    → In e (ms ++ mail h)
-taken_mail a ms [] e among = absurd among
-taken_mail a ms (x ∷ h) e among =
-    by (x.actor == a) among (λ there. subst (λ (v : List Envelope). In e v) (more_mail ms (envelope_of x) (mail h))
-    (taken_mail a (ms ++ option_to_list (envelope_of x)) h e there))
-  where
-    by : (t : Bool) → In (Takes (inputs.Got e))
-        (cond t (deed_at ms x.step) [] ++ deeds a (ms ++ option_to_list (envelope_of x)) h)
-        → (In (Takes (inputs.Got e)) (deeds a (ms ++ option_to_list (envelope_of x)) h)
-        → In e (ms ++ cons_option (envelope_of x) (mail h))) → In e (ms ++ cons_option (envelope_of x) (mail h))
-    by true there later = elim (in_split (Takes (inputs.Got e)) (deed_at ms x.step)
-        (deeds a (ms ++ option_to_list (envelope_of x)) h) there) [
-          | inl here ↦ In-first e ms (cons_option (envelope_of x) (mail h)) (step_taken ms x.step e here)
-          | inr more ↦ later more
-        ]
-    by false there later = later there

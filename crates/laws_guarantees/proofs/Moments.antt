@@ -17,8 +17,7 @@ use Rattle.qc_msg.specs.declared.step.Step.{Step}
 use Rattle.qc_msg.specs.declared.step.Step.TheVariants as steps
 use Rattle.qc_msg.specs.declared.turn.Posting.{Posting}
 use Rattle.qc_msg.specs.declared.turn.Turn.{Turn}
-use Rattle.qc_msg.specs.Vocabulary.{Entry, by, commit_in, commit_of, deeds, mail, marked, posted, sents, step_of, told}
-use Rattle.qc_msg.specs.Vocabulary.{written}
+use Rattle.qc_msg.specs.Vocabulary.{Entry, by, commit_in, deeds, mail, marked, posted, sents, step_of, told, written}
 use Rattle.qc_msg.specs.Steps as post
 use Rattle.qc_script.specs.Vocabulary.{IsScriptFor, Runs, phase_of}
 use Rattle.qc_script.specs.Runs.{begins, takes, posts, phase, control}
@@ -30,7 +29,7 @@ use Rattle.laws_atomic.proofs.Posted.{control_writes, taken_writes}
 use Rattle.laws_atomic.proofs.Silent.{site_silent}
 use Rattle.laws_atomic.proofs.Stood.{OpenSite, Stood}
 use Rattle.laws_atomic.proofs.RunsStand.{runs_stand}
-use Rattle.laws_guarantees.proofs.MessageCases.{commit_cases}
+use Rattle.laws_atomic.proofs.Written.{record_is}
 
 -- an element of two lists that are appended stands in the first or in the second
 pub data IsIn {A : Type 0} (xs ys before : List A) (x : A) (after : List A) : Type 0 where
@@ -177,11 +176,6 @@ pub record IsWrittenIn (h : List Entry) (c : CommitRecord) : Type 0 where
   pub after : List Entry
   pub stands : h ≡ before ++ wrote actor c ∷ after
 
-wrote_record : (r : Record) (c : CommitRecord) → commit_of r ≡ Some c → r ≡ records.Commit c
-wrote_record r c is = commit_cases (λ r o. o ≡ Some c → r ≡ records.Commit c)
-    (λ r is. absurd (let never : ⊥ = cc in never))
-    (λ commit is. let same : commit ≡ c = cc in ap (λ (x : CommitRecord). records.Commit x) same) r is
-
 wrote_step : (s : Step) (c : CommitRecord) → commit_in s ≡ Some c → s ≡ steps.Wrote (records.Commit c)
 wrote_step (steps.Phase k) c is = absurd (let never : ⊥ = cc in never)
 wrote_step (steps.Cut a b) c is = absurd (let never : ⊥ = cc in never)
@@ -190,7 +184,7 @@ wrote_step (steps.Armed actor kind at) c is = absurd (let never : ⊥ = cc in ne
 wrote_step (steps.Called command) c is = absurd (let never : ⊥ = cc in never)
 wrote_step (steps.Got n) c is = absurd (let never : ⊥ = cc in never)
 wrote_step (steps.Lost n) c is = absurd (let never : ⊥ = cc in never)
-wrote_step (steps.Wrote r) c is = ap (λ (x : Record). steps.Wrote x) (wrote_record r c is)
+wrote_step (steps.Wrote r) c is = ap (λ (x : Record). steps.Wrote x) (record_is r c is)
 wrote_step (steps.Sent n to message) c is = absurd (let never : ⊥ = cc in never)
 wrote_step (steps.Told reply) c is = absurd (let never : ⊥ = cc in never)
 wrote_step (steps.Fell cause pending) c is = absurd (let never : ⊥ = cc in never)

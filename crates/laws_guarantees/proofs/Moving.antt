@@ -26,7 +26,8 @@ use Rattle.qc_promise.specs.Vocabulary.{granted, is_open, lived, new_current, pr
 use Rattle.qc_promise.specs.Vocabulary.{told_by, with_read, with_response, with_absent}
 use Rattle.laws_guarantees.proofs.FirstGrants.{KeepsLives, life_added, same_lives}
 use Rattle.laws_guarantees.proofs.AccountCases.{absent_cases, heard_cases, reply_cases, responded_cases, sent_cases}
-use Rattle.laws_guarantees.proofs.AccountCases.{told_cases, written_cases}
+use Rattle.laws_guarantees.proofs.AccountCases.{told_cases}
+use Rattle.laws_due.proofs.AccountCases.{written_cases}
 
 -- what one deed does to the begun transaction: it changes that, keeping its name and its operations; it ends it; or it
 -- begins one

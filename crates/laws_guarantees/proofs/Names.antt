@@ -26,7 +26,8 @@ use Rattle.qc_promise.specs.Vocabulary.{account_taken, account_written, counted,
 use Rattle.qc_promise.specs.Vocabulary.{promised, taken_for, told_by, with_current, with_read}
 use Rattle.laws_due.specs.Vocabulary.{AreBegun, IsBegun, Ties, appends, reads, rests, votes}
 use Rattle.laws_guarantees.specs.Vocabulary.{name_of}
-use Rattle.laws_guarantees.proofs.AccountCases.{heard_cases, sent_cases, told_cases, written_cases}
+use Rattle.laws_guarantees.proofs.AccountCases.{heard_cases, sent_cases, told_cases}
+use Rattle.laws_due.proofs.AccountCases.{written_cases}
 
 -- a change of the begun transaction that keeps its name
 named_with : (d : Account) (change : Current → Current) → ((t : Current) → (change t).tx ≡ t.tx)

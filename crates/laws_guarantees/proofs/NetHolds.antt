@@ -3,8 +3,7 @@
 use Rattle.std.proofs.Common.{◌≡◌, ◌⊎◌, ℕ, true, List, ◌++◌, inl, inr, length, refl, sym, ◌∙◌, subst}
 use Rattle.qc_stamp.specs.declared.stamp.TxId.{TxId}
 use Rattle.qc_list.specs.Vocabulary.{In}
-use Rattle.qc_list.proofs.Members.{In-first}
-use Rattle.theory_onecopy.proofs.Lists.{in_split}
+use Rattle.qc_list.proofs.Members.{In-first, In-either}
 use Rattle.qc_entry.specs.declared.line.ReadLock.{ReadLock}
 use Rattle.qc_decl.specs.declared.declaration.Declaration.{Declaration}
 use Rattle.qc_decl.specs.Vocabulary.{IsAccepted, is_client, is_site}
@@ -30,8 +29,9 @@ use Rattle.laws_refinement.proofs.Posts.{Place, placed}
 use Rattle.laws_refinement.proofs.Refining.{nets_refine}
 use Rattle.laws_guarantees.proofs.SiteLocks.{Asks, locks_were_asked}
 use Rattle.laws_atomic.proofs.FirstSites.{IsCalmGiven, IsCalmMessage}
-use Rattle.laws_guarantees.proofs.NetMessages.{both, WasEnded, ended_more, AreFullMessages, IsGrantedBy}
+use Rattle.laws_guarantees.proofs.NetMessages.{WasEnded, ended_more, AreFullMessages, IsGrantedBy}
 use Rattle.laws_guarantees.proofs.SiteHolds.{granted_before, site_step}
+use Rattle.laws_refinement.proofs.Kepts.{no_client}
 
 module _ (decl : Declaration) (accepted : IsAccepted decl) where
   abbrev HoldsOrEnded : Net → ℕ → TxId → Type 0
@@ -45,7 +45,7 @@ module _ (decl : Declaration) (accepted : IsAccepted decl) where
       → (is_held (before.sites site).held tx ≡ true)
       ⊎ WasEnded (before.mail ++ envelopes a (length before.mail) ps) tx
   client_step before a ps r client site tx is older k =
-      elim (in_split k.answer before.mail (envelopes a (length before.mail) ps) k.sent) [
+      elim (In-either k.answer before.mail (envelopes a (length before.mail) ps) k.sent) [
         | inl old ↦
             elim (older (granted_before decl accepted before (envelopes a (length before.mail) ps) site tx r k old)) [
               | inl held ↦ inl held
@@ -54,7 +54,8 @@ module _ (decl : Declaration) (accepted : IsAccepted decl) where
             ]
         | inr new ↦ (let p : Place a ps (before.mail ++ envelopes a (length before.mail) ps) k.answer =
             placed before.mail a (length before.mail) ps k.answer refl new in
-            absurd (both decl site is (subst (λ (n : ℕ). is_client decl n ≡ true) (sym (sym k.from ∙ p.from)) client)))
+            absurd (no_client decl site is
+            (subst (λ (n : ℕ). is_client decl n ≡ true) (sym (sym k.from ∙ p.from)) client)))
       ]
 
   -- what a site granted it holds, or a final Decision on the transaction was sent

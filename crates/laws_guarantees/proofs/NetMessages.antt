@@ -1,12 +1,9 @@
 -- What messages of a net end, ask and grant.
-use Rattle.std.proofs.Common.{◌≡◌, ◌<◌, ◌≤◌, ◌&&◌, ℕ, Bool, true, false, List, ◌++◌, Some, refl, ap, arith, ltb-true}
-use Rattle.qc_decl.proofs.Clients.{client_past}
+use Rattle.std.proofs.Common.{◌≡◌, ℕ, List, ◌++◌, Some, ap}
 use Rattle.qc_stamp.specs.declared.stamp.TxId.{TxId}
 use Rattle.qc_list.specs.Vocabulary.{In}
 use Rattle.qc_list.proofs.Members.{In-first}
 use Rattle.qc_entry.specs.declared.line.Line.{Line}
-use Rattle.qc_decl.specs.declared.declaration.Declaration.{Declaration}
-use Rattle.qc_decl.specs.Vocabulary.{is_client, is_site}
 use Rattle.qc_msg.specs.declared.message.Answer.TheVariants as answers
 use Rattle.qc_msg.specs.declared.message.Envelope.{Envelope}
 use Rattle.qc_msg.specs.declared.message.Message.{Message}
@@ -15,19 +12,7 @@ use Rattle.qc_msg.specs.declared.message.Want.{Want}
 use Rattle.laws_refinement.specs.Vocabulary.{IsRequest}
 use Rattle.laws_guarantees.proofs.SiteMoves.{EndsBy, IsFull}
 use Rattle.std.specs.Prelude.{MatchOption, option_map}
-use Rattle.qc_msg.specs.Vocabulary.{Requested, request_in}
-use Rattle.qc_msg.specs.Vocabulary.{grant_with}
-
--- no actor is a site and a client
-pub both : (decl : Declaration) (a : ℕ) → is_site decl a ≡ true → is_client decl a ≡ true → ⊥
-both decl a site client =
-    let low : a < decl.sites = ltb-true a decl.sites site in
-    let high : decl.sites ≤ a = client_past decl a client in
-    omega arith
-  where
-    and_first : (s t : Bool) → (s && t) ≡ true → s ≡ true
-    and_first true t is = refl
-    and_first false t is = is
+use Rattle.qc_msg.specs.Vocabulary.{Requested, request_in, grant_with}
 
 -- a final Decision on the transaction was sent
 pub record WasEnded (mail : List Envelope) (tx : TxId) : Type 0 where

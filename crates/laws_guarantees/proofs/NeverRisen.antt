@@ -19,7 +19,7 @@ use Rattle.qc_msg.specs.declared.turn.Turn.{Turn}
 use Rattle.qc_script.specs.Vocabulary.{Runs, step_of_control}
 use Rattle.qc_script.specs.Runs.{begins, takes, posts, phase, control}
 use Rattle.qc_script.specs.declared.script.Script.{Script}
-use Rattle.laws_guarantees.proofs.ControlCases.{control_cases}
+use Rattle.laws_turns.proofs.StepCases.{control_cases}
 
 abbrev AreNoRises : List Entry → Type 0
 AreNoRises h = Every (λ (e : Entry). IsNoRise e.step) h

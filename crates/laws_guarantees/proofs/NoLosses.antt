@@ -33,7 +33,8 @@ use Rattle.laws_turns.proofs.ClientsWithin.{IsPost}
 use Rattle.laws_guarantees.specs.Vocabulary.{Arrives, IsLossless}
 use Rattle.laws_guarantees.proofs.Accounts.{IsTakenNow, after_taken, told_requests}
 use Rattle.laws_guarantees.proofs.Passing.{no_request_is_lost}
-use Rattle.laws_guarantees.proofs.AccountCases.{heard_cases, sent_cases, written_cases}
+use Rattle.laws_guarantees.proofs.AccountCases.{heard_cases, sent_cases}
+use Rattle.laws_due.proofs.AccountCases.{written_cases}
 
 -- nothing that an account counts is a loss, where no loss was taken
 

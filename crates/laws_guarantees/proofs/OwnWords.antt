@@ -11,7 +11,6 @@ use Rattle.qc_stamp.specs.declared.stamp.TxId.{TxId}
 use Rattle.qc_stamp.specs.Vocabulary.{same_tx}
 use Rattle.qc_decl.specs.Vocabulary.{IsAccepted, administrator, client_actor, is_client}
 use Rattle.qc_decl.specs.declared.declaration.Declaration.{Declaration}
-use Rattle.qc_lock.proofs.Entries.{tx_apart}
 use Rattle.qc_msg.specs.declared.message.Envelope.{Envelope}
 use Rattle.qc_msg.specs.declared.message.Message.{Message}
 use Rattle.qc_msg.specs.declared.message.Message.TheVariants as messages
@@ -30,17 +29,18 @@ use Rattle.laws_turns.proofs.Idle.{IsInput, idle}
 use Rattle.laws_guarantees.proofs.IdleDeeds.{idle_open}
 use Rattle.laws_turns.proofs.Proper.{run_proper}
 use Rattle.laws_turns.proofs.SiteReplies.{IsProperFrom}
-use Rattle.laws_turns.proofs.DecisionLaws.{transactions_move_on}
+use Rattle.laws_turns.proofs.DecisionLaws.{transactions_move_on, mail_deed}
 use Rattle.laws_turns.proofs.InRuns.{HasPlace, client_low, client_no_site, client_number, run_place}
 use Rattle.laws_turns.proofs.Lasting.{Came, request_born, verdict_came}
 use Rattle.laws_turns.proofs.Moving.{Good, IsFromClient, IsMail}
 use Rattle.laws_turns.proofs.RunsGood.{all_good}
 use Rattle.laws_turns.proofs.StatusActs.{HasPage, pages}
-use Rattle.laws_guarantees.proofs.Mailed.{mail_sent, message_of, step_cases}
+use Rattle.laws_guarantees.proofs.Mailed.{message_of, step_cases}
 use Rattle.laws_guarantees.specs.Vocabulary.{asks_to_hold, begun_by, is_open_at, open_said, sent_to}
 use Rattle.laws_guarantees.proofs.SitesTold.{open_sent}
 use Rattle.laws_guarantees.proofs.OpenDeeds.{open_did, open_done, open_named}
 use Rattle.std.specs.Option.{option_map_or}
+use Rattle.qc_stamp.proofs.Orders.{same_tx_is}
 
 -- a message that changes whether a transaction is open
 
@@ -205,7 +205,7 @@ module _ (decl : Declaration) (script : Script) (accepted : IsAccepted decl) (as
       by false past =
           absurd (every-In IsInput (Sends e.number e.to e.message) (deeds e.from [] h)
           (idle decl e.from (ltb-false e.from (administrator decl) past) script h open_inputs run)
-          (mail_sent [] h e among))
+          (mail_deed [] h e among))
 
   born_own : (a : ℕ) (named : is_client decl a ≡ true) (x : TxId) → (status (deeds a [] h) x ≡ Unborn → ⊥)
       → a ≡ client_actor decl x.client
@@ -226,7 +226,7 @@ module _ (decl : Declaration) (script : Script) (accepted : IsAccepted decl) (as
   own_word x e among = by e.message refl
     where
       sent : (m : Message) → e.message ≡ m → In (Sends e.number e.to m) (deeds e.from [] h)
-      sent m is = subst (λ (m : Message). In (Sends e.number e.to m) (deeds e.from [] h)) is (mail_sent [] h e among)
+      sent m is = subst (λ (m : Message). In (Sends e.number e.to m) (deeds e.from [] h)) is (mail_deed [] h e among)
 
       proper : IsProperFrom decl e.from e.to e.message
       proper =
@@ -238,7 +238,7 @@ module _ (decl : Declaration) (script : Script) (accepted : IsAccepted decl) (as
           let p : IsProperFrom decl e.from e.to (messages.Request tx epoch life want) =
           subst (IsProperFrom decl e.from e.to) is proper in
           let named : is_client decl e.from ≡ true = sender_is e among p.0 in
-          let its : tx ≡ x = tx_apart tx x same in
+          let its : tx ≡ x = same_tx_is tx x same in
           born_own e.from named x (request_born x Unborn (deeds e.from [] h) e.number e.to epoch life want
           (transactions_move_on decl script h open_inputs accepted run e.from named x)
           (subst (λ (t : TxId). In (Sends e.number e.to (messages.Request t epoch life want)) (deeds e.from [] h)) its
@@ -247,7 +247,7 @@ module _ (decl : Declaration) (script : Script) (accepted : IsAccepted decl) (as
       by (messages.Decision tx verdict) is same =
           let w : IsMail decl h e = every-In (IsMail decl h) e (mail h) good.mail_is among in
           let named : is_client decl e.from ≡ true = subst (IsFromClient decl e.from) is w.from in
-          let its : tx ≡ x = tx_apart tx x same in
+          let its : tx ≡ x = same_tx_is tx x same in
           born_own e.from named x (ended_born x verdict (status (deeds e.from [] h) x)
           (verdict_came x Unborn (deeds e.from [] h) e.number e.to verdict
           (transactions_move_on decl script h open_inputs accepted run e.from named x)

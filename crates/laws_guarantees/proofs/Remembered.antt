@@ -3,8 +3,7 @@ use Rattle.std.proofs.Common.{[], ◌*◌, ◌≡◌, ◌≤◌, ◌+◌, ◌-�
 use Rattle.std.proofs.Common.{length, Option, Some, None, slice_get, refl, sym, ap, ◌∙◌, subst, eqb-true}
 use Rattle.std.specs.Prelude.{fold}
 use Rattle.qc_list.specs.Vocabulary.{In}
-use Rattle.qc_list.proofs.Members.{In-more, In-second, every-In}
-use Rattle.theory_onecopy.proofs.Lists.{in_split}
+use Rattle.qc_list.proofs.Members.{In-more, In-second, every-In, In-either, In-at}
 use Rattle.qc_core.specs.Vocabulary.{IsLawful, posts as acts_post}
 use Rattle.qc_decl.specs.declared.declaration.Declaration.{Declaration}
 use Rattle.qc_decl.specs.Vocabulary.{IsAccepted, controller, is_client, most_committed_operations}
@@ -34,7 +33,7 @@ use Rattle.laws_due.proofs.Courses.{turns_tell_their_rows}
 use Rattle.laws_due.proofs.Mute.{IsMuteDeed, sites_mute}
 use Rattle.laws_guarantees.proofs.Grounds.{turn_old}
 use Rattle.laws_guarantees.proofs.ForgettingAnswers.{Forgets}
-use Rattle.laws_guarantees.proofs.Stale.{at_in, turn}
+use Rattle.laws_guarantees.proofs.Stale.{turn}
 use Rattle.laws_guarantees.proofs.AccountsStay.{account_other, account_posted_is, account_silent, account_taken_is}
 use Rattle.laws_guarantees.proofs.Unforgotten.{Unforgotten, few_before, unforgotten, who}
 use Rattle.laws_guarantees.proofs.Against.{IsForgottenVote, IsVote, due_why, taken_vote, lost_vote}
@@ -61,7 +60,7 @@ module _ (decl : Declaration) (script : Script) (accepted : IsAccepted decl) (so
         | inl old ↦ r a q x client old forgets
         | inr new ↦
             u.votes a new.old x client new.vote
-            (record { envelope = e; sent = at_in (mail h) e.number e s.0; is = new.is }) forgets
+            (record { envelope = e; sent = In-at (mail h) e.number e s.0; is = new.is }) forgets
       ]
 
       at : (t : Bool) → (b == a) ≡ t → ⊥
@@ -214,7 +213,7 @@ module _ (decl : Declaration) (script : Script) (accepted : IsAccepted decl) (so
               (subst (λ (v : List Deed). In (Tells (replies.Aborted (causes.Forgot site))) v)
               (deeds-other b a [] older (posted (length (mail older)) turn) other) among)
           at true same =
-              elim (in_split (Tells (replies.Aborted (causes.Forgot site))) (deeds b [] older)
+              elim (In-either (Tells (replies.Aborted (causes.Forgot site))) (deeds b [] older)
               (turn_deeds (length (mail older)) turn)
               (subst (λ (v : List Deed). In (Tells (replies.Aborted (causes.Forgot site))) v)
               (deeds-posted b (length (mail older)) older turn)

@@ -16,10 +16,10 @@ use Rattle.qc_msg.specs.Vocabulary.{Entry, by, mail, marked, posted, sents, step
 use Rattle.qc_script.specs.Vocabulary.{Runs, phase_of, step_of_control}
 use Rattle.qc_script.specs.Runs.{begins, takes, posts, phase, control}
 use Rattle.qc_script.specs.declared.script.Script.{Script}
-use Rattle.laws_turns.proofs.Places.{slice_get-set_same}
 use Rattle.laws_guarantees.specs.Vocabulary.{IsRunWithout}
 use Rattle.laws_guarantees.proofs.Moments.{First, Second, split}
-use Rattle.laws_guarantees.proofs.ControlCases.{control_cases}
+use Rattle.laws_turns.proofs.StepCases.{control_cases}
+use Rattle.qc_list.proofs.Places.{slice_get-set_same}
 
 -- the reply of a step that told one
 

@@ -23,10 +23,11 @@ use Rattle.qc_msg.specs.Vocabulary.{Deed, Falls, Rises, Sends, Takes, Tells, Wri
 use Rattle.qc_promise.specs.Vocabulary.{Account, ClientRequest, Current, account_at, account_sent, account_told_in}
 use Rattle.qc_promise.specs.Vocabulary.{answer_of, command_asks, found_absent, is_asked_for, is_of, new_account}
 use Rattle.qc_promise.specs.Vocabulary.{new_current, refused, responded, short_of, with_response, with_absent}
-use Rattle.laws_guarantees.proofs.Accounts.{HasGrounds, WasGranted, WasSent, and_first, granted_more, same_grounds}
-use Rattle.laws_guarantees.proofs.Accounts.{sent_more, taken_more}
+use Rattle.laws_guarantees.proofs.Accounts.{HasGrounds, WasGranted, WasSent, granted_more, same_grounds, sent_more}
+use Rattle.laws_guarantees.proofs.Accounts.{taken_more}
 use Rattle.laws_guarantees.proofs.TakenGrounds.{take_grounds, written_grounds}
 use Rattle.laws_guarantees.proofs.AccountCases.{absent_cases, reply_cases, responded_cases, sent_cases}
+use Rattle.qc_list.proofs.Booleans.{and_first}
 
 module _ (decl : Declaration) where
   -- a request

@@ -16,16 +16,16 @@ use Rattle.qc_msg.specs.declared.message.Want.TheVariants.{Read, Append, Prepare
 use Rattle.qc_msg.specs.declared.step.Command.{Command}
 use Rattle.qc_msg.specs.declared.step.Command.TheVariants as commands
 use Rattle.qc_msg.specs.declared.step.Input.TheVariants as inputs
-use Rattle.qc_msg.specs.Vocabulary.{Deed, Sends, Takes}
-use Rattle.qc_msg.specs.Vocabulary.{read_of}
+use Rattle.qc_msg.specs.Vocabulary.{Deed, Sends, Takes, read_of}
 use Rattle.qc_promise.specs.Vocabulary.{Account, Current, account_at, answer_of, carries, command_asks, is_asked_for}
 use Rattle.qc_promise.specs.Vocabulary.{is_of, new_account, next_own, own_appended, same_line, same_own, weighs}
 use Rattle.laws_due.specs.Vocabulary.{AreByRows, IsByRow}
 use Rattle.laws_refinement.specs.Vocabulary.{IsNamed}
-use Rattle.laws_guarantees.proofs.Accounts.{HasGrounds, and_first, and_second}
+use Rattle.laws_guarantees.proofs.Accounts.{HasGrounds}
 use Rattle.laws_guarantees.proofs.RequestGrounds.{has_grounds}
 use Rattle.laws_guarantees.proofs.Room.{IsNamedWant}
 use Rattle.laws_guarantees.proofs.SiteMoves.{IsFull}
+use Rattle.qc_list.proofs.Booleans.{and_first, and_second}
 
 -- a deed among others stands behind some of them
 pub record IsBehind {A : Type 0} (x : A) (xs : List A) : Type 0 where

@@ -4,8 +4,7 @@ use Rattle.std.proofs.Common.{inl, inr, length, Option, Some, None, slice_get, r
 use Rattle.std.proofs.Common.{le-leb, lt-ltb, ltb-false, ltb-true}
 use Rattle.qc_stamp.specs.declared.stamp.TxId.{TxId}
 use Rattle.qc_list.specs.Vocabulary.{In}
-use Rattle.qc_list.proofs.Members.{In-more, every-In}
-use Rattle.theory_onecopy.proofs.Lists.{in_split}
+use Rattle.qc_list.proofs.Members.{In-more, every-In, In-either}
 use Rattle.qc_core.specs.Vocabulary.{IsLawful}
 use Rattle.qc_decl.specs.declared.declaration.Declaration.{Declaration}
 use Rattle.qc_decl.specs.Vocabulary.{IsAccepted, administrator, controller, is_client}
@@ -42,13 +41,13 @@ use Rattle.laws_refinement.specs.Vocabulary.{IsNamed}
 use Rattle.laws_atomic.specs.Vocabulary.{AreNamed}
 use Rattle.laws_atomic.proofs.Asked.{ready_named}
 use Rattle.laws_atomic.proofs.Names.{script_named}
-use Rattle.laws_guarantees.proofs.Mailed.{mail_sent}
 use Rattle.laws_guarantees.proofs.NetMessages.{AreFullMessages}
 use Rattle.laws_guarantees.proofs.Requests.{request_right}
 use Rattle.laws_guarantees.proofs.Room.{AreNamedMessages, IsNamedWant}
 use Rattle.laws_guarantees.proofs.SiteMoves.{IsFull}
 use Rattle.laws_guarantees.proofs.MessageCases.{asking_cases}
 use Rattle.std.specs.Prelude.{MatchOption}
+use Rattle.laws_turns.proofs.DecisionLaws.{mail_deed}
 
 abbrev command_in : Deed → Option Command
 command_in (Takes (inputs.Called command)) = Some command
@@ -112,7 +111,7 @@ module _ (decl : Declaration) (script : Script) (accepted : IsAccepted decl) (so
           → IsNamed decl c
       by false other old = old (subst (λ (v : List Deed). In (Takes (inputs.Called c)) v)
           (deeds-other b a [] older (posted (length (mail older)) turn) other) among)
-      by true same old = elim (in_split (Takes (inputs.Called c)) (deeds a [] older)
+      by true same old = elim (In-either (Takes (inputs.Called c)) (deeds a [] older)
           (turn_deeds (length (mail older)) turn)
           (subst (λ (v : List Deed). In (Takes (inputs.Called c)) v) (deeds-posted a (length (mail older)) older turn)
           (subst (λ (k : ℕ). In (Takes (inputs.Called c))
@@ -138,7 +137,7 @@ module _ (decl : Declaration) (script : Script) (accepted : IsAccepted decl) (so
         by false high =
             absurd (every-In IsInput (Sends e.number e.to e.message) (deeds e.from [] h)
             (idle decl e.from (ltb-false e.from (administrator decl) high) script h open_inputs run)
-            (mail_sent [] h e sent))
+            (mail_deed [] h e sent))
 
     client_of : (a : ℕ) → decl.sites ≤ a → a < administrator decl → is_client decl a ≡ true
     client_of a low high = ap (λ (b : Bool). b && nat_lt a (administrator decl)) (le-leb decl.sites a low)
@@ -161,7 +160,7 @@ module _ (decl : Declaration) (script : Script) (accepted : IsAccepted decl) (so
         request_right decl (e.from - decl.sites) (deeds e.from [] h) e.number e.to tx epoch life want
         (deeds_of_clients_are_by_rows decl e.from client (deeds e.from [] h) slot.0 acts.above acts.acts)
         (λ c among. called_named h open_inputs run e.from c among)
-        (subst (λ (m : Message). In (Sends e.number e.to m) (deeds e.from [] h)) is (mail_sent [] h e sent))
+        (subst (λ (m : Message). In (Sends e.number e.to m) (deeds e.from [] h)) is (mail_deed [] h e sent))
 
     pub mail_named : AreNamedMessages decl (mail h)
     mail_named e sent = asking_cases

@@ -1,7 +1,6 @@
 -- What a site would promise of a transaction that is voted on fits a record.
-use Rattle.std.proofs.Common.{◌*◌, ◌≡◌, ◌≤◌, ◌<◌, ◌+◌, ◌-◌, ℕ, zero, suc, nat_le, not, true, List, [], ◌∷◌, ◌++◌, inl}
-use Rattle.std.proofs.Common.{inr, length, length-append, Option, Some, None, slice_get, refl, sym, ap, ◌∙◌, subst}
-use Rattle.std.proofs.Common.{arith}
+use Rattle.std.proofs.Common.{◌*◌, ◌≡◌, ◌≤◌, ◌<◌, ◌+◌, ◌-◌, ℕ, suc, nat_le, not, true, List, [], ◌∷◌, ◌++◌, inl, inr}
+use Rattle.std.proofs.Common.{length, length-append, Option, Some, None, slice_get, refl, sym, ap, ◌∙◌, subst, arith}
 use Rattle.std.specs.Prelude.{sum_by, count_by, option_and_then, MatchOption}
 use Rattle.std.proofs.lemmas.Bool.{le-leb}
 use Rattle.std.proofs.lemmas.List.{length-map}
@@ -42,6 +41,7 @@ use Rattle.laws_refinement.proofs.Refining.{nets_refine}
 use Rattle.laws_refinement.proofs.Standing.{front_ends_stand}
 use Rattle.laws_guarantees.proofs.Lengths.{key, lock_count, log_count, own_count}
 use Rattle.laws_guarantees.proofs.NetHolds.{WasAsked, locks_asked, sites_sorted}
+use Rattle.qc_list.proofs.Places.{place_within}
 
 -- each Read that was sent names what is declared
 
@@ -55,11 +55,6 @@ IsNamedMessage decl m = MatchOption (request_in m) (Unit {0}) (λ (q : Requested
 
 abbrev pub AreNamedMessages : Declaration → List Envelope → Type 0
 AreNamedMessages decl mail = (e : Envelope) → In e mail → IsNamedMessage decl e.message
-
-slice_get-below : {X : Type 0} (xs : List X) (n : ℕ) (x : X) → slice_get xs n ≡ Some x → n < length xs
-slice_get-below [] n x is = absurd (let never : ⊥ = cc in never)
-slice_get-below (y ∷ ys) zero x is = omega arith
-slice_get-below (y ∷ ys) (suc n) x is = let rest : n < length ys = slice_get-below ys n x is in omega arith
 
 -- an operation's number is no greater than the number of operations
 pub numbered_within : (ds earlier : List Executed) (d : Executed) → AreInOrder earlier ds → In d ds
@@ -158,7 +153,7 @@ module _ (decl : Declaration) (accepted : IsAccepted decl) (net : Net) (calm : I
             → (object < 16) × (inv < 32)
         by None none found = absurd (let never : ⊥ = cc in never)
         by (Some number) at found =
-            let place : object < length decl.objects = slice_get-below decl.objects object number at in
+            let place : object < length decl.objects = place_within decl.objects object number at in
             let objects : length decl.objects ≤ 16 = accepted.objects in
             let low : inv < n.0.table.invs = n.2 in
             let invs : n.0.table.invs ≤ 32 = (accepted.right number n.0 found).sound.invs in

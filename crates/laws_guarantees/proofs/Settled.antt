@@ -20,6 +20,7 @@ use Rattle.theory_machine.proofs.Keeps.{laws}
 use Rattle.theory_machine.proofs.Order.{ended}
 use Rattle.theory_machine.proofs.Quorums.{closing_site, heavy}
 use Rattle.theory_machine.proofs.SnapshotGrants.{IsPast, past, tells}
+use Rattle.theory_machine.proofs.Outcomes.{outcome_aborted}
 
 -- a transaction is safe where each site whose grant it counted is in the grant's life, or has voted for it: whatever
 -- falls then, what it was granted is held until it ends
@@ -28,14 +29,6 @@ IsSafe acts tx = (g : Granted) → In g (state acts).counted → g.tx ≡ tx
     → ((state acts).life g.site ≡ g.life) ⊎ In {X = YesVote} (record { tx = g.tx; site = g.site }) (state acts).votes
 
 -- what an outcome says of the status
-
-aborted_by : (s : Status) → IsOutcome s None → s ≡ Aborted
-aborted_by machine.NotBegun o = absurd o
-aborted_by machine.Active o = absurd o
-aborted_by machine.Voting o = absurd o
-aborted_by (machine.Pending c) o = absurd o
-aborted_by (machine.Committed c) o = absurd o
-aborted_by machine.Aborted o = refl
 
 committed_by : (s : Status) (stamp : Stamp) → IsOutcome s (Some stamp) → (c : CommitRecord) × (s ≡ Committed c)
 committed_by machine.NotBegun stamp o = absurd o
@@ -66,7 +59,7 @@ module _ (decl : Declaration) (accepted : IsAccepted decl) (acts : List Act) (ru
       (subst (λ (t : TxId). IsOutcome ((state acts).status t) (Some r.0)) its
       (wl.verdicts (record { tx = p.tx; stamp = Some r.0 }) r.1))
   resolved tx d p alive its (inr r) = absurd
-      (alive (aborted_by ((state acts).status tx)
+      (alive (outcome_aborted ((state acts).status tx)
       (subst (λ (t : TxId). IsOutcome ((state acts).status t) None) its
       (wl.verdicts (record { tx = p.tx; stamp = None }) r))))
 

@@ -3,7 +3,6 @@ use Rattle.std.proofs.Common.{◌≡◌, ◌⊎◌, ℕ, true, List, ◌++◌, i
 use Rattle.std.proofs.Common.{subst}
 use Rattle.qc_stamp.specs.declared.stamp.TxId.{TxId}
 use Rattle.qc_list.specs.Vocabulary.{In}
-use Rattle.theory_onecopy.proofs.Lists.{in_split}
 use Rattle.qc_entry.specs.declared.line.Line.{Line}
 use Rattle.qc_decl.specs.declared.declaration.Declaration.{Declaration}
 use Rattle.qc_decl.specs.Vocabulary.{IsAccepted, is_site}
@@ -16,14 +15,13 @@ use Rattle.qc_msg.specs.declared.message.Want.{Want}
 use Rattle.qc_msg.specs.declared.step.Input.{Input}
 use Rattle.qc_msg.specs.declared.step.Input.TheVariants as inputs
 use Rattle.qc_msg.specs.declared.turn.Posting.{Posting}
-use Rattle.qc_msg.specs.Vocabulary.{envelopes}
-use Rattle.qc_msg.specs.Vocabulary.{grant_with}
+use Rattle.qc_msg.specs.Vocabulary.{envelopes, grant_with}
 use Rattle.theory_machine.specs.Vocabulary.{state}
 use Rattle.qc_site.specs.Vocabulary.{SiteMove, SiteState, passed, site_at, site_takes}
 use Rattle.laws_refinement.specs.Vocabulary.{Backed, IsGrantTo, IsRequest, MayCome, Net, Refines, after_site}
 use Rattle.laws_atomic.proofs.Calm.{IsCalm, is_reached}
 use Rattle.laws_atomic.proofs.Calm as calm
-use Rattle.laws_refinement.proofs.Machine.{put_one, slice_get-append}
+use Rattle.laws_refinement.proofs.Machine.{put_one}
 use Rattle.laws_refinement.proofs.Posts.{Place, placed}
 use Rattle.laws_refinement.proofs.Refining.{nets_refine}
 use Rattle.laws_guarantees.proofs.AnswersToInputs.{IsAnswering, IsAnsweringTo, answers_inputs, answers_request}
@@ -31,6 +29,8 @@ use Rattle.laws_guarantees.proofs.SiteMoves.{IsFull, granted_is_held, held_stays
 use Rattle.laws_atomic.proofs.FirstSites.{IsCalmGiven}
 use Rattle.laws_guarantees.proofs.NetMessages.{WasEnded, ended_more, IsFullMessage, AreFullMessages, IsGrantedBy}
 use Rattle.laws_guarantees.proofs.NetMessages.{same_request}
+use Rattle.qc_list.proofs.Places.{slice_get-more}
+use Rattle.qc_list.proofs.Members.{In-either}
 
 module _ (decl : Declaration) (accepted : IsAccepted decl) where
   -- a site that takes an input, and what it had
@@ -113,14 +113,14 @@ module _ (decl : Declaration) (accepted : IsAccepted decl) where
   -- where the posted messages stand
   longer : (ms more : List Envelope) (n : ℕ) (e : Envelope) → slice_get ms n ≡ Some e
       → slice_get (ms ++ more) n ≡ Some e
-  longer ms more n e is = slice_get-append ms more n e is
+  longer ms more n e is = slice_get-more ms more n e is
 
   -- a request that is answered was sent before its answer
   earlier : (ms more : List Envelope) (site number : ℕ) (tx : TxId) (want : Want) (e : Envelope)
       → slice_get ms number ≡ Some e → IsRequest (ms ++ more) number site tx want → IsRequest ms number site tx want
   earlier ms more site number tx want e here r =
       let same : r.is.0 ≡ e =
-      (let both_are : Some r.is.0 ≡ Some e = sym r.is.1 ∙ slice_get-append ms more number e here in cc) in
+      (let both_are : Some r.is.0 ≡ Some e = sym r.is.1 ∙ slice_get-more ms more number e here in cc) in
       record {
         epoch = r.epoch;
         life = r.life;
@@ -182,13 +182,13 @@ module _ (decl : Declaration) (accepted : IsAccepted decl) where
         granted_now before a g p.posting k.number k.life k.clock k.log tx k.want full (numbered_in before r) came
         p.among (sym p.message ∙ k.grants) posted
         (subst (λ (n : ℕ). IsRequest (before.mail ++ posted) k.number n tx k.want) here k.asked)
-        (λ n e is. slice_get-append before.mail posted n e is) in
+        (λ n e is. slice_get-more before.mail posted n e is) in
         inl (put_one (λ (n : ℕ) (s : SiteState). n ≡ a → is_held s.held tx ≡ true) before.sites a step.site site
         (λ same. now) (λ other same. absurd (other same)) here)
 
     pub site_step : AreFullMessages before.mail → (IsGrantedBy before.mail site tx → HoldsOrEnded before site tx)
         → IsGrantedBy (before.mail ++ posted) site tx → HoldsOrEnded (after_site before a step) site tx
-    site_step full older k = elim (in_split k.answer before.mail posted k.sent) [
+    site_step full older k = elim (In-either k.answer before.mail posted k.sent) [
       | inl old ↦
           elim (older (granted_before before posted site tx r k old))
           [ inl held ↦ old_holds held | inr ended ↦ inr (ended_more before.mail posted tx ended) ]

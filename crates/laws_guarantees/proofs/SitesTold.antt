@@ -4,7 +4,6 @@ use Rattle.std.proofs.Common.{Some, refl, sym, ap, ◌∙◌, subst, eq-eqb, eqb
 use Rattle.qc_list.specs.Vocabulary.{In}
 use Rattle.qc_stamp.specs.declared.stamp.TxId.{TxId}
 use Rattle.qc_stamp.specs.Vocabulary.{same_tx}
-use Rattle.qc_lock.proofs.Entries.{same_self, tx_apart}
 use Rattle.qc_msg.specs.declared.begun.Begun.{Begun}
 use Rattle.qc_msg.specs.declared.message.Message.{Message}
 use Rattle.qc_msg.specs.declared.message.Message.TheVariants as messages
@@ -18,6 +17,7 @@ use Rattle.qc_front.specs.Vocabulary.{request_of, with_asked}
 use Rattle.laws_turns.specs.Vocabulary.{begun_in}
 use Rattle.laws_guarantees.proofs.Joined.{joined_first, joined_second}
 use Rattle.laws_guarantees.specs.Vocabulary.{asks_to_hold, open_said}
+use Rattle.qc_stamp.proofs.Orders.{same_tx_itself, same_tx_is}
 
 -- whether a transaction is open at a site after messages more
 
@@ -94,7 +94,7 @@ module _ (s : ℕ) (x : TxId) where
               record {
                 t = w;
                 is = refl;
-                named = named ∙ tx_apart b.tx x same;
+                named = named ∙ same_tx_is b.tx x same;
                 asked = subst (λ (k : ℕ). In k w.begun.asked) (eqb-true site s here) (all site (inl refl));
               }
           by false other held = has held
@@ -143,7 +143,7 @@ module _ (s : ℕ) (x : TxId) where
         where
           by : y ≡ x → ⊥
           by same =
-              let yes : same_tx y x ≡ true = subst (λ (k : TxId). same_tx y k ≡ true) same (same_self y) in
+              let yes : same_tx y x ≡ true = subst (λ (k : TxId). same_tx y k ≡ true) same (same_tx_itself y) in
               let shut : open_said x before (messages.Decision y v) ≡ false =
               ap (λ (t : Bool). cond (t && is_final v) false before) yes
               ∙ ap (λ (t : Bool). cond t false before) final in

@@ -1,13 +1,12 @@
 -- No site that a client waits for has forgotten what it is asked to promise, and so no vote says so.
-use Rattle.std.proofs.Common.{◌*◌, ◌≡◌, ◌<◌, ◌≤◌, ◌-◌, ◌==◌, ℕ, zero, suc, nat_le, Bool, true, false, cond, List, []}
-use Rattle.std.proofs.Common.{◌∷◌, ◌++◌, length, Some, None, slice_get, refl, sym, ap, ◌∙◌, subst, arith, eqb-true}
-use Rattle.std.proofs.Common.{eq-eqb}
+use Rattle.std.proofs.Common.{◌*◌, ◌≡◌, ◌≤◌, ◌-◌, ◌==◌, ℕ, nat_le, Bool, true, false, cond, List, [], ◌++◌, length}
+use Rattle.std.proofs.Common.{Some, None, slice_get, refl, sym, ap, ◌∙◌, subst, eqb-true, eq-eqb}
 use Rattle.std.specs.Prelude.{fold, slice_set, sum_by}
 use Rattle.std.proofs.lemmas.List.{append-nil}
 use Rattle.qc_decl.proofs.Clients.{client_within}
 use Rattle.qc_stamp.specs.declared.stamp.TxId.{TxId}
 use Rattle.qc_list.specs.Vocabulary.{In}
-use Rattle.qc_list.proofs.Members.{every-at, every-from_In}
+use Rattle.qc_list.proofs.Members.{In-at}
 use Rattle.qc_entry.specs.declared.record.Commit.{Commit as CommitRecord}
 use Rattle.qc_core.specs.Vocabulary.{IsLawful}
 use Rattle.qc_decl.specs.declared.declaration.Declaration.{Declaration}
@@ -34,14 +33,12 @@ use Rattle.qc_script.specs.declared.script.Script.{Script}
 use Rattle.qc_client.specs.Vocabulary.{client_after}
 use Rattle.qc_site.specs.Vocabulary.{SiteMove, passed, prepare_length, promise_of, site_after, site_at, site_takes}
 use Rattle.laws_turns.proofs.Acted.{has_entry, actors_take_and_post_by_turns}
-use Rattle.laws_turns.proofs.Places.{slice_get-set_other, slice_get-set_same}
 use Rattle.laws_turns.specs.Vocabulary.{ActsIn}
 use Rattle.laws_refinement.specs.Vocabulary.{Backed, IsRequest}
 use Rattle.laws_atomic.proofs.Calm.{all_first}
 use Rattle.laws_atomic.proofs.Posted.{written_posted}
 use Rattle.laws_atomic.proofs.Stood.{OpenSite}
 use Rattle.laws_guarantees.specs.Vocabulary.{IsOpenVote}
-use Rattle.laws_guarantees.proofs.NetMessages.{both}
 use Rattle.laws_guarantees.proofs.NeverRisen.{operations_written}
 use Rattle.laws_guarantees.proofs.ForgettingAnswers.{Forgets}
 use Rattle.laws_guarantees.proofs.AnswersToInputs.{IsAnswering, IsAnsweringTo, answers_inputs, answers_request}
@@ -49,15 +46,8 @@ use Rattle.laws_guarantees.proofs.SiteMoves.{prepares_remembered}
 use Rattle.laws_guarantees.proofs.Voted.{asked, granted, granted_first, mirror, one_request, site_has_room, site_holds}
 use Rattle.laws_guarantees.proofs.Voted.{stood, tie}
 use Rattle.laws_guarantees.proofs.Waiting.{still_open, writes_no_commit}
-
-pub below_length : {X : Type 0} (xs : List X) (n : ℕ) (x : X) → slice_get xs n ≡ Some x → n < length xs
-below_length [] n x is = absurd (let never : ⊥ = cc in never)
-below_length (y ∷ ys) zero x is = omega arith
-below_length (y ∷ ys) (suc n) x is = let rest : n < length ys = below_length ys n x is in omega arith
-
-pub at_in : (ms : List Envelope) (n : ℕ) (e : Envelope) → slice_get ms n ≡ Some e → In e ms
-at_in ms n e is = every-at (λ (x : Envelope). In x ms) ms n e
-    (every-from_In (λ (x : Envelope). In x ms) ms (λ x among. among)) is
+use Rattle.laws_refinement.proofs.Kepts.{no_client}
+use Rattle.qc_list.proofs.Places.{slice_get-set_other, slice_get-set_same}
 
 module _ (decl : Declaration) (script : Script) (accepted : IsAccepted decl) (sound : IsScriptFor decl script) where
   -- an answer of a site with an open input doesn't say that it has forgotten what a client waits for, which has none
@@ -95,7 +85,7 @@ module _ (decl : Declaration) (script : Script) (accepted : IsAccepted decl) (so
             let came : (slice_get (mail h) first.envelope.number ≡ Some first.envelope)
             × (first.envelope.to ≡ b) = subst (WasSentTo b (mail h)) first.is o.sent in
             let one : question.is.0 ≡ first.envelope =
-            (let both : Some question.is.0 ≡ Some first.envelope = sym question.is.1
+            (let no_client : Some question.is.0 ≡ Some first.envelope = sym question.is.1
             ∙ ap (slice_get (mail h)) (sym (first.numbered ∙ sym same)) ∙ came.0 in cc) in
             sym (ap (λ (e : Envelope). e.message) one) ∙ question.is.3
 
@@ -128,7 +118,7 @@ module _ (decl : Declaration) (script : Script) (accepted : IsAccepted decl) (so
             among_net : In r.envelope (stood decl script accepted sound h open_inputs run).net.mail
             among_net = subst (λ (ms : List Envelope). In r.envelope ms)
                 (sym (stood decl script accepted sound h open_inputs run).mail_is)
-                (at_in (mail h) r.envelope.number r.envelope sent.0)
+                (In-at (mail h) r.envelope.number r.envelope sent.0)
 
             -- the transaction is of the first epoch, since a site granted for it
             of_first : (state (mirror decl script accepted sound h open_inputs run).acts).epoch r.tx ≡ first_epoch
@@ -182,7 +172,7 @@ module _ (decl : Declaration) (script : Script) (accepted : IsAccepted decl) (so
     no_site = at (is_site decl a) refl
       where
         at : (t : Bool) → is_site decl a ≡ t → t ≡ false
-        at true here = absurd (both decl a here client)
+        at true here = absurd (no_client decl a here client)
         at false other = refl
 
     abbrev pub turn : Turn
@@ -234,7 +224,7 @@ module _ (decl : Declaration) (script : Script) (accepted : IsAccepted decl) (so
       apart = at (a == b) refl
         where
           at : (t : Bool) → (a == b) ≡ t → t ≡ false
-          at true same = absurd (both decl b site (subst (λ (n : ℕ). is_client decl n ≡ true)
+          at true same = absurd (no_client decl b site (subst (λ (n : ℕ). is_client decl n ≡ true)
               (eqb-true a b same) client))
           at false other = refl
 

@@ -7,8 +7,7 @@ use Rattle.qc_stamp.specs.declared.stamp.TxId.{TxId}
 use Rattle.qc_stamp.specs.Vocabulary.{same_tx}
 use Rattle.qc_stamp.proofs.Orders.{same_tx_is}
 use Rattle.qc_list.specs.Vocabulary.{In}
-use Rattle.qc_list.proofs.Members.{In-second}
-use Rattle.theory_onecopy.proofs.Lists.{in_split}
+use Rattle.qc_list.proofs.Members.{In-second, In-either}
 use Rattle.qc_entry.specs.declared.line.OwnLine.{OwnLine}
 use Rattle.qc_lock.specs.declared.held.Held.{Held}
 use Rattle.qc_lock.specs.Vocabulary.{held_of, with_held}
@@ -92,7 +91,7 @@ later_taken d ds g w =
 
 pub was_taken : (ds : List Deed) (g : Grant) → In g (standing ds) → WasTakenFor ds g
 was_taken [] g among = absurd among
-was_taken (d ∷ ds) g among = elim (in_split g (option_map_or (standing_by ds) (got_in d) []) (standing ds) among) [
+was_taken (d ∷ ds) g among = elim (In-either g (option_map_or (standing_by ds) (got_in d) []) (standing ds) among) [
   | inl here ↦ at_deed d here
   | inr there ↦ later_taken d ds g (was_taken ds g there)
 ]

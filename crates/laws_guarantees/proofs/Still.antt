@@ -35,7 +35,6 @@ use Rattle.laws_turns.proofs.PhaseCalls.{phase_posted}
 use Rattle.laws_turns.proofs.Calling.{calls_are_asked}
 use Rattle.laws_turns.proofs.Ends.{copies_none, losts_none, nothing_ready}
 use Rattle.laws_turns.proofs.Numbered.{phase_silent}
-use Rattle.laws_turns.proofs.Places.{slice_get-within}
 use Rattle.laws_turns.proofs.TurnReplies.{running_more, running_turn}
 use Rattle.laws_turns.proofs.Replying.{told_runs}
 use Rattle.laws_turns.proofs.Running.{busy_is_running}
@@ -46,8 +45,9 @@ use Rattle.laws_guarantees.proofs.Names.{stays_named, untold_stays}
 use Rattle.laws_guarantees.proofs.PartsOf.{phase_parts, posted_parts}
 use Rattle.laws_guarantees.proofs.Passing.{no_request_is_lost}
 use Rattle.laws_turns.proofs.Up.{run_up}
-use Rattle.laws_guarantees.proofs.StillTakes.{none_for, asked_more, all_closed, no_commands, untold, still_elsewhere}
-use Rattle.laws_guarantees.proofs.StillTakes.{still_takes}
+use Rattle.laws_guarantees.proofs.StillTakes.{none_for, asked_more, untold, still_elsewhere, still_takes}
+use Rattle.laws_turns.proofs.WholeLaw.{no_commands}
+use Rattle.qc_list.proofs.Places.{some_at, all_false}
 
 module _ (decl : Declaration) (script : Script) (accepted : IsAccepted decl) (asks : AsksDeclared decl script)
     (calm : IsUndisturbed script) where
@@ -131,7 +131,7 @@ module _ (decl : Declaration) (script : Script) (accepted : IsAccepted decl) (as
     closed : IsClosed decl script h
     closed =
         subst (Runs (IsLawful decl) decl script h)
-        (all_closed before none ∙ ap (λ (n : ℕ). replicate n false) (as_many (IsLawful decl) decl script h before run))
+        (all_false before none ∙ ap (λ (n : ℕ). replicate n false) (as_many (IsLawful decl) decl script h before run))
         run
 
     all_called : (c : ℕ) → is_client decl c ≡ true → calls_of c h ≡ asked_until c script (phase_of h)
@@ -181,7 +181,7 @@ module _ (decl : Declaration) (script : Script) (accepted : IsAccepted decl) (as
         ⊎ Still d (h ++ marked (controller decl) (steps.Phase (phase_of h + 1)) ∷ [])
     one_phase c d c_named d_named differ =
         let found : (p : PhaseLines) × (slice_get script.phases (phase_of h) ≡ Some p) =
-        slice_get-within script.phases (phase_of h) more in
+        some_at script.phases (phase_of h) more in
         let asked : AsksOne found.0 = every-at AsksOne script.phases (phase_of h) found.0 calm.one found.1 in
         choose found.0 found.1 asked
       where

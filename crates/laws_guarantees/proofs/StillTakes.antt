@@ -1,8 +1,8 @@
 -- Inputs that are all closed; and one client acts alone as it takes an input.
-use Rattle.std.proofs.Common.{[], ◌≡◌, ℕ, zero, suc, ◌+◌, ◌-◌, ◌==◌, ◌&&◌, not, Bool, true, false, cond, List, ◌∷◌}
-use Rattle.std.proofs.Common.{◌++◌, map, length, fold, Option, Some, None, slice_get, refl, sym, ap, ◌∙◌, subst, arith}
-use Rattle.std.proofs.Common.{eqb-true, length-append}
-use Rattle.std.specs.Prelude.{filter, is_some, replicate, slice_set, take}
+use Rattle.std.proofs.Common.{[], ◌≡◌, ℕ, zero, suc, ◌+◌, ◌-◌, ◌==◌, Bool, true, false, cond, List, ◌∷◌, ◌++◌, map}
+use Rattle.std.proofs.Common.{length, fold, Option, Some, None, slice_get, refl, sym, ap, ◌∙◌, subst, arith, eqb-true}
+use Rattle.std.proofs.Common.{length-append}
+use Rattle.std.specs.Prelude.{filter, is_some, slice_set, take}
 use Rattle.std.specs.List.{AllByRecursion as Every, filter_map}
 use Rattle.std.proofs.lemmas.List.{append-nil, append_assoc}
 use Rattle.std.proofs.lemmas.List.Elements.{filter_map-append}
@@ -17,20 +17,20 @@ use Rattle.qc_msg.specs.declared.step.Input.TheVariants as inputs
 use Rattle.qc_msg.specs.Vocabulary.{Deed, Entry, Takes, by, deeds, marked, step_of}
 use Rattle.qc_msg.proofs.DeedsGrow.{deeds-other}
 use Rattle.qc_msg.proofs.Growth.{deeds-taken}
-use Rattle.qc_script.specs.Vocabulary.{Runs, commands_for, first_command, inbox, phase_of, ready}
+use Rattle.qc_script.specs.Vocabulary.{Runs, commands_for, inbox, phase_of, ready}
 use Rattle.qc_script.specs.Runs.{takes}
 use Rattle.qc_script.specs.declared.script.CommandLine.{CommandLine}
 use Rattle.qc_script.specs.declared.script.PhaseLines.{PhaseLines}
 use Rattle.qc_script.specs.declared.script.Script.{Script}
 use Rattle.laws_turns.specs.Vocabulary.{AsksDeclared, asked_in_all, asked_until, call_in, calls_of}
 use Rattle.laws_turns.proofs.Arrivals.{what_is_ready_was_sent}
-use Rattle.laws_turns.proofs.PhaseCalls.{phase_taken}
 use Rattle.laws_turns.proofs.Calling.{calls_are_asked}
 use Rattle.laws_turns.proofs.TurnReplies.{running_more}
 use Rattle.qc_promise.specs.Vocabulary.{account, account_at, new_account}
 use Rattle.laws_guarantees.specs.Vocabulary.{IsStill, IsUndisturbed, before_phase, begun_by, name_of}
 use Rattle.laws_guarantees.proofs.Names.{taken_named}
 use Rattle.laws_guarantees.proofs.PartsOf.{taken_parts}
+use Rattle.qc_script.proofs.Lasts.{phase_taken}
 
 -- commands of phases
 
@@ -64,22 +64,6 @@ asked_more a (q ∷ phases) (suc k) p is =
     ∙ sym (append_assoc (commands_for a q.commands) (asked_in_all a (take k phases)) (commands_for a p.commands))
 
 -- inputs that are all closed
-
-pub all_closed : (bs : List Bool) → ((a : ℕ) → slice_get bs a ≡ Some true → ⊥) → bs ≡ replicate (length bs) false
-all_closed [] none = refl
-all_closed (true ∷ bs) none = absurd (none 0 refl)
-all_closed (false ∷ bs) none = ap (λ (v : List Bool). false ∷ v) (all_closed bs (λ a is. none (suc a) is))
-
-second_true : (x y : Bool) → (x && y) ≡ true → y ≡ true
-second_true true y is = is
-second_true false y is = absurd (let never : ⊥ = cc in never)
-
-pub no_commands : (t busy : Bool) (commands : List Command) → t ≡ true → busy ≡ false
-    → cond (t && not busy) (first_command commands) None ≡ None → commands ≡ []
-no_commands t busy [] may free is = refl
-no_commands true true (c ∷ commands) may free is = absurd (let never : ⊥ = cc in never)
-no_commands true false (c ∷ commands) may free is = absurd (let never : ⊥ = cc in never)
-no_commands false busy (c ∷ commands) may free is = absurd (let never : ⊥ = cc in never)
 
 pub untold : (o : Option Reply) → (is_some o ≡ true → ⊥) → o ≡ None
 untold None none = refl

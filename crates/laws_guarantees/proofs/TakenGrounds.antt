@@ -12,7 +12,8 @@ use Rattle.qc_msg.specs.Vocabulary.{Deed, Takes, Writes}
 use Rattle.qc_promise.specs.Vocabulary.{Account, account_taken, account_written}
 use Rattle.laws_guarantees.proofs.Accounts.{HasGrounds, granted_more, same_grounds}
 use Rattle.laws_guarantees.proofs.Counting.{counted_grounds}
-use Rattle.laws_guarantees.proofs.AccountCases.{heard_cases, written_cases}
+use Rattle.laws_guarantees.proofs.AccountCases.{heard_cases}
+use Rattle.laws_due.proofs.AccountCases.{written_cases}
 
 -- a command, a message, a loss
 

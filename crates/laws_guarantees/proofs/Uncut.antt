@@ -8,7 +8,7 @@ use Rattle.std.proofs.lemmas.Bool.{ltb-false}
 use Rattle.std.proofs.lemmas.List.Sums.{fold-append}
 use Rattle.qc_stamp.specs.declared.stamp.TxId.{TxId}
 use Rattle.qc_list.specs.Vocabulary.{In}
-use Rattle.qc_list.proofs.Members.{every-In, every-from_In}
+use Rattle.qc_list.proofs.Members.{every-In, every-from_In, every-front, every-back}
 use Rattle.qc_core.specs.Vocabulary.{Acts, AreSteady, IsLawful, IsSteady, posts, starts, takes}
 use Rattle.qc_core.proofs.SiteHolds.{AreNoCuts, uncut}
 use Rattle.qc_decl.specs.Vocabulary.{IsAccepted, actors, administrator, client_actor, is_site}
@@ -42,16 +42,16 @@ use Rattle.laws_turns.specs.Vocabulary.{ActsIn, AsksDeclared}
 use Rattle.laws_turns.proofs.Acted.{has_entry, actors_take_and_post_by_turns}
 use Rattle.laws_turns.proofs.Idle.{IsInput, idle}
 use Rattle.laws_turns.proofs.Proper.{run_proper}
-use Rattle.laws_turns.proofs.Served.{first_part, lawful_site, second_part}
+use Rattle.laws_turns.proofs.Served.{lawful_site}
 use Rattle.laws_turns.proofs.SiteReplies.{IsProperFrom}
 use Rattle.laws_turns.proofs.Up.{run_up}
 use Rattle.laws_due.proofs.AccountDeclared.{scripts_ask_what_is_declared}
 use Rattle.laws_due.proofs.Whole.{runs_are_due}
 use Rattle.laws_atomic.proofs.FirstSites.{IsCalmGiven, IsCalmMessage, TakesCalm}
 use Rattle.laws_atomic.proofs.Stood.{heard_calm}
-use Rattle.laws_guarantees.proofs.Mailed.{taken_mail}
 use Rattle.laws_guarantees.proofs.Opened.{IsAtTake, at_take}
 use Rattle.laws_guarantees.proofs.SiteCases.{site_cases}
+use Rattle.laws_atomic.proofs.Heard.{took_sent}
 
 -- a record that neither closes an epoch nor begins one
 
@@ -120,16 +120,17 @@ module _ (decl : Declaration) where
         subst HasNoCut (sym (ap (site_after decl a) t.is
         ∙ fold-append (site_does decl) (moved (new_site a) quiet) t.before (Takes t.given ∷ [])))
         (input_uncut (site_after decl a t.before).site t.given
-        (second_part TakesCalm t.before (Takes t.given ∷ []) (subst (Every TakesCalm) t.is calm)).0)
+        (every-back TakesCalm t.before (Takes t.given ∷ []) (subst (Every TakesCalm) t.is calm)).0)
 
     acts_uncut : (ds : List Deed) (is_open : Bool) (n : ℕ) → Acts decl a ds is_open n → Every TakesCalm ds
         → AreNoCuts ds
     acts_uncut ds is_open n starts calm = tt
     acts_uncut ds is_open n (takes older g m acts may) calm =
-        more_uncut older (Takes g ∷ []) (acts_uncut older false m acts (first_part TakesCalm older (Takes g ∷ []) calm))
+        more_uncut older (Takes g ∷ [])
+        (acts_uncut older false m acts (every-front TakesCalm older (Takes g ∷ []) calm))
         (refl, tt)
     acts_uncut ds is_open n (posts older turn m first acts low law) calm =
-        let before : Every TakesCalm older = first_part TakesCalm older (turn_deeds first turn) calm in
+        let before : Every TakesCalm older = every-front TakesCalm older (turn_deeds first turn) calm in
         more_uncut older (turn_deeds first turn) (acts_uncut older true m acts before)
         (turn_uncut first turn
         (subst (λ (t : Turn). IsNoCut t.write) (sym (lawful_site decl a site older turn law))
@@ -165,7 +166,7 @@ module _ (decl : Declaration) (script : Script) (accepted : IsAccepted decl) (as
   calm_deed a (Takes (inputs.Got e)) among =
       heard_calm decl e.from e.to e.message
       (every-In (λ (x : Envelope). IsProperFrom decl x.from x.to x.message) e (mail h)
-      (run_proper decl script accepted asks h open_inputs run) (taken_mail a [] h e among))
+      (run_proper decl script accepted asks h open_inputs run) (took_sent a [] h e among))
   calm_deed a (Takes (inputs.Lost number)) among = tt
   calm_deed a (Writes written) among = tt
   calm_deed a (Sends number to message) among = tt

@@ -9,7 +9,6 @@ use Rattle.qc_stamp.specs.Vocabulary.{same_tx}
 use Rattle.qc_core.specs.Vocabulary.{IsLawful}
 use Rattle.qc_decl.specs.Vocabulary.{IsAccepted, is_client}
 use Rattle.qc_decl.specs.declared.declaration.Declaration.{Declaration}
-use Rattle.qc_lock.proofs.Entries.{same_self}
 use Rattle.qc_msg.specs.declared.message.Answer.{Answer}
 use Rattle.qc_msg.specs.declared.message.Envelope.{Envelope}
 use Rattle.qc_msg.specs.declared.message.Message.{Message}
@@ -31,10 +30,12 @@ use Rattle.laws_guarantees.proofs.AnswerRuns.{run_answered}
 use Rattle.laws_guarantees.proofs.Clear.{run_clear}
 use Rattle.laws_guarantees.proofs.OpenElsewhere.{IsElsewhere}
 use Rattle.laws_guarantees.proofs.RequestGrounds.{has_grounds}
-use Rattle.laws_guarantees.proofs.Mailed.{sent_as, sent_mail, taken_mail}
+use Rattle.laws_guarantees.proofs.Mailed.{sent_as, sent_mail}
 use Rattle.laws_guarantees.proofs.NoLosses.{lost_from, run_no_loss}
 use Rattle.std.specs.Prelude.{MatchOption}
 use Rattle.laws_guarantees.specs.Open.{is_open}
+use Rattle.qc_stamp.proofs.Orders.{same_tx_itself}
+use Rattle.laws_atomic.proofs.Heard.{took_sent}
 
 -- one message has one number
 
@@ -96,7 +97,7 @@ module _ (decl : Declaration) (script : Script) (accepted : IsAccepted decl) (as
       → Fits (sent_before q.site q.number (mail h)) sent.0.tx q.want answer
   answered answer is =
       let w : WasTaken (deeds a [] h) q.number answer = grounds.taken q answer among is in
-      let there : In w.envelope (mail h) = taken_mail a [] h w.envelope w.taken in
+      let there : In w.envelope (mail h) = took_sent a [] h w.envelope w.taken in
       let fit : IfAnswered (mail h) w.envelope.from w.envelope.message =
       every-In (λ (e : Envelope). IfAnswered (mail h) e.from e.message) w.envelope (mail h)
       (run_answered decl script calm h open_inputs run) there in
@@ -131,7 +132,7 @@ module _ (decl : Declaration) (script : Script) (accepted : IsAccepted decl) (as
           let both : Some sent.0.tx ≡ Some c.holder = sym mine ∙ name in
           let same : sent.0.tx ≡ c.holder = cc in
           let yes_same : same_tx c.holder sent.0.tx ≡ true =
-          subst (λ (x : TxId). same_tx c.holder x ≡ true) (sym same) (same_self c.holder) in
+          subst (λ (x : TxId). same_tx c.holder x ≡ true) (sym same) (same_tx_itself c.holder) in
           let apart : same_tx c.holder sent.0.tx ≡ false = fit.1 in
           let never : ⊥ = cc in never)
 

@@ -5,8 +5,7 @@ use Rattle.std.proofs.Common.{length-append}
 use Rattle.std.specs.Prelude.{fold}
 use Rattle.qc_stamp.specs.declared.stamp.TxId.{TxId}
 use Rattle.qc_list.specs.Vocabulary.{In}
-use Rattle.qc_list.proofs.Members.{In-last, every-In}
-use Rattle.theory_onecopy.proofs.Lists.{in_split}
+use Rattle.qc_list.proofs.Members.{In-last, every-In, In-either}
 use Rattle.qc_core.specs.Vocabulary.{IsLawful}
 use Rattle.qc_decl.specs.declared.declaration.Declaration.{Declaration}
 use Rattle.qc_decl.specs.Vocabulary.{IsAccepted, controller, is_client, is_site, most_committed_operations}
@@ -44,13 +43,14 @@ use Rattle.laws_atomic.proofs.Stood.{OpenSite}
 use Rattle.laws_guarantees.specs.Vocabulary.{IsOpenVote}
 use Rattle.laws_guarantees.proofs.ClientTalks.{client_answers}
 use Rattle.laws_guarantees.proofs.Grounds.{open_before, turn_old}
-use Rattle.laws_guarantees.proofs.Mailed.{taken_mail}
 use Rattle.laws_guarantees.proofs.ForgettingAnswers.{Forgets}
 use Rattle.laws_guarantees.proofs.AnswersToInputs.{IsAnswering, answers_inputs}
-use Rattle.laws_guarantees.proofs.Stale.{below_length, remembered}
+use Rattle.laws_guarantees.proofs.Stale.{remembered}
 use Rattle.laws_guarantees.proofs.Voted.{stood}
 use Rattle.laws_guarantees.proofs.AccountsStay.{IsAnswered, account_taken_is, account_posted_is, account_other}
 use Rattle.laws_guarantees.proofs.AccountsStay.{account_silent}
+use Rattle.laws_atomic.proofs.Heard.{took_sent}
+use Rattle.qc_list.proofs.Places.{place_within}
 
 module _ (decl : Declaration) where
   -- an open vote after a turn was one before it, or has a number from this one on
@@ -127,7 +127,7 @@ module _ (decl : Declaration) (script : Script) (accepted : IsAccepted decl) (so
     old_or_posted : (n : ℕ) (x : Answer) → IsAnswered (mail (h ++ by_actor b (posted (length (mail h)) turn))) n x
         → IsAnswered (mail h) n x ⊎ IsPosted n x
     old_or_posted n x k =
-        elim (in_split k.envelope (mail h) more (subst (λ (ms : List Envelope). In k.envelope ms) mail_is k.sent)) [
+        elim (In-either k.envelope (mail h) more (subst (λ (ms : List Envelope). In k.envelope ms) mail_is k.sent)) [
           | inl old ↦ inl (record { envelope = k.envelope; sent = old; is = k.is })
           | inr new ↦ (let p : Place b turn.sends (mail h ++ more) k.envelope =
               placed (mail h) b (length (mail h)) turn.sends k.envelope refl new in
@@ -151,7 +151,7 @@ module _ (decl : Declaration) (script : Script) (accepted : IsAccepted decl) (so
             every-In (λ (y : Envelope). IsProperFrom decl y.from y.to y.message) r.0 (mail h)
             (run_proper decl script accepted (scripts_ask_what_is_declared decl script accepted sound) h open_inputs
             run)
-            (taken_mail b [] h r.0 takes_it) in
+            (took_sent b [] h r.0 takes_it) in
             subst (IsProperFrom decl r.0.from r.0.to) r.2.1 proper
 
         by : IsAtInput decl b client (deeds b [] h) → ⊥
@@ -182,7 +182,7 @@ module _ (decl : Declaration) (script : Script) (accepted : IsAccepted decl) (so
             let sent : (slice_get (mail h) r.envelope.number ≡ Some r.envelope) × (r.envelope.to ≡ b) =
             subst (WasSentTo b (mail h)) r.is o.sent in
             subst (λ (m : ℕ). m < length (mail h)) r.numbered
-            (below_length (mail h) r.envelope.number r.envelope sent.0)
+            (place_within (mail h) r.envelope.number r.envelope sent.0)
 
     -- who posts is a site or a client
     pub who : (is_site decl b ≡ true) ⊎ (is_client decl b ≡ true)

@@ -2,7 +2,7 @@
 -- enough.
 use Rattle.std.proofs.Common.{◌≡◌, ℕ, zero, suc, ◌+◌, ◌-◌, ◌<◌, ◌≤◌, ◌==◌, ◌&&◌, ◌||◌, inl, inr, nat_le, nat_lt, Bool}
 use Rattle.std.proofs.Common.{true, false, cond, List, [], ◌∷◌, map, length, Option, Some, None, refl, sym, ap, ◌∙◌}
-use Rattle.std.proofs.Common.{subst, arith, eq-eqb, eqb-true}
+use Rattle.std.proofs.Common.{subst, arith, eq-eqb}
 use Rattle.std.specs.Prelude.{is_some, slice_get, unwrap_or}
 use Rattle.std.specs.List.{AllByRecursion as Every, range_with_len}
 use Rattle.std.specs.Option.{option_map_or, option_or}
@@ -22,6 +22,7 @@ use Rattle.qc_plan.specs.declared.standing.Standing.TheVariants as standings
 use Rattle.qc_plan.specs.declared.standing.Verdict.{Verdict}
 use Rattle.qc_plan.specs.declared.standing.Verdict.TheVariants as verdicts
 use Rattle.qc_promise.specs.Vocabulary.{weights_of}
+use Rattle.qc_commit.proofs.Once.{range-in}
 
 -- nothing is known of an asked site, or it granted, or it told of a clash with such a transaction
 
@@ -159,30 +160,14 @@ heavy_all (w ∷ ws) sites all = by w refl (sites 0) refl
     by (suc v) is false other r = absurd (let heavy : 0 < w = omega arith in
         let here : sites 0 ≡ true = all 0 (omega arith) heavy in let never : ⊥ = cc in never)
 
-in_range : (k a n : ℕ) → a ≤ k → k < a + n → In k (range_with_len a n)
-in_range k a zero low high = absurd (omega arith)
-in_range k a (suc n) low high = by (k == a) refl (λ (above : a + 1 ≤ k). in_range k (a + 1) n above (omega arith))
-  where
-    past : (k ≡ a → ⊥) → a + 1 ≤ k
-    past differs = let less : a < k = ltb-true a k (at (nat_lt a k) refl) in omega arith
-      where
-        at : (t : Bool) → nat_lt a k ≡ t → nat_lt a k ≡ true
-        at true is = is
-        at false is = absurd (differs (let high_one : k ≤ a = ltb-false a k is in omega arith))
-
-    by : (t : Bool) → (k == a) ≡ t → (a + 1 ≤ k → In k (range_with_len (a + 1) n)) → In k (a ∷ range_with_len (a + 1) n)
-    by true same rest = inl (eqb-true k a same)
-    by false other rest =
-        inr (rest (past (λ e. let same : (k == a) ≡ true = eq-eqb k a e in let never : ⊥ = cc in never)))
-
-in_cyclic : (k n from : ℕ) → k < n → In k (cyclic n from)
+pub in_cyclic : (k n from : ℕ) → k < n → In k (cyclic n from)
 in_cyclic k n from low = by (nat_lt k from) refl
   where
     by : (t : Bool) → nat_lt k from ≡ t → In k (cyclic n from)
     by true is = In-second k (range_with_len from (n - from)) (range_with_len 0 from)
-        (in_range k 0 from (omega arith) (let l : k < from = ltb-true k from is in omega arith))
+        (range-in k 0 from (omega arith) (let l : k < from = ltb-true k from is in omega arith))
     by false is = In-first k (range_with_len from (n - from)) (range_with_len 0 from)
-        (let l : from ≤ k = ltb-false k from is in in_range k from (n - from) (omega arith) (omega arith))
+        (let l : from ≤ k = ltb-false k from is in range-in k from (n - from) (omega arith) (omega arith))
 
 -- sites of positive weight, all granted, weigh as all do
 pub order_heavy : (weights : List ℕ) (from : ℕ) (asked : List Asked)

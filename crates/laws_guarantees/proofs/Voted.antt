@@ -5,8 +5,7 @@ use Rattle.std.proofs.Common.{Some, None, is_none, slice_get, refl, sym, ap, ◌
 use Rattle.std.specs.Prelude.{sum_by}
 use Rattle.qc_stamp.specs.declared.stamp.TxId.{TxId}
 use Rattle.qc_list.specs.Vocabulary.{In}
-use Rattle.qc_list.proofs.Members.{In-passes, every-In}
-use Rattle.theory_onecopy.proofs.Lists.{in_map}
+use Rattle.qc_list.proofs.Members.{In-passes, every-In, In-map}
 use Rattle.qc_entry.specs.declared.record.Commit.{Commit as CommitRecord}
 use Rattle.qc_core.specs.Vocabulary.{IsLawful}
 use Rattle.qc_decl.specs.declared.declaration.Declaration.{Declaration}
@@ -50,11 +49,12 @@ use Rattle.laws_guarantees.specs.Vocabulary.{IsOpenVote}
 use Rattle.laws_guarantees.proofs.Accounts.{HasGrounds, WasGranted, WasSent}
 use Rattle.laws_guarantees.proofs.RequestGrounds.{has_grounds}
 use Rattle.laws_guarantees.proofs.NeverRisen.{operations_written}
-use Rattle.laws_guarantees.proofs.Mailed.{sent_as, sent_mail, taken_mail}
+use Rattle.laws_guarantees.proofs.Mailed.{sent_as, sent_mail}
 use Rattle.laws_guarantees.proofs.NetMessages.{AreFullMessages, IsGrantedBy, WasEnded, same_request}
 use Rattle.laws_guarantees.proofs.NetHolds.{granted_or_ended}
 use Rattle.laws_guarantees.proofs.Rightful.{mail_full, mail_named}
 use Rattle.laws_guarantees.proofs.Room.{m as refined, promise_fits, votes_of, AreNamedMessages}
+use Rattle.laws_atomic.proofs.Heard.{took_sent}
 
 module _ (decl : Declaration) (d : Account) (c : Client) (q : ClientRequest) (k : IsOpenVote d q) where
   -- its client waits for votes
@@ -110,7 +110,7 @@ module _ (decl : Declaration) (script : Script) (accepted : IsAccepted decl) (so
   pub granted_by : (a : ℕ) (tx : TxId) (site : ℕ) → WasGranted (deeds a [] h) tx site
       → IsGrantedBy stood.net.mail site tx
   granted_by a tx site w =
-      let sent : In w.taken.envelope (mail h) = taken_mail a [] h w.taken.envelope w.taken.taken in
+      let sent : In w.taken.envelope (mail h) = took_sent a [] h w.taken.envelope w.taken.taken in
       let here : In w.taken.envelope stood.net.mail =
       subst (λ (ms : List Envelope). In w.taken.envelope ms) (sym stood.mail_is) sent in
       let b : IsGrantTo decl (state mirror.acts) stood.net.mail w.taken.envelope.from w.number w.life w.clock w.log =
@@ -197,7 +197,7 @@ module _ (decl : Declaration) (script : Script) (accepted : IsAccepted decl) (so
     site_granted = In-passes (has_granted tie.t.lives) q.site
         (cyclic decl.sites (first_site decl (account decl a h).client))
         (subst (λ (sites : List ℕ). In q.site sites) tie.sites
-        (in_map (λ (x : ClientRequest). x.site) q (account decl a h).requests k.among))
+        (In-map (λ (x : ClientRequest). x.site) q (account decl a h).requests k.among))
 
     not_final : (verdict : Outcome) → is_final verdict ≡ true
         → IsVerdictBacked (state mirror.acts) tie.x.begun.tx verdict

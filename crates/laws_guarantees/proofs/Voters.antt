@@ -20,9 +20,10 @@ use Rattle.qc_promise.specs.Vocabulary.{account_written, answer_of, append_need,
 use Rattle.qc_promise.specs.Vocabulary.{command_asks, commit_asks, do_asks, is_append, is_asked_for, is_next_voter}
 use Rattle.qc_promise.specs.Vocabulary.{is_of, is_read, is_this, new_account, requests_for, round_of}
 use Rattle.laws_due.specs.Vocabulary.{AreByRows, IsSendDue}
-use Rattle.laws_guarantees.proofs.AskingOrder.{order, sites_in, count_in, IsInOrder, first_drop, first_of_two, of_reads}
-use Rattle.laws_guarantees.proofs.AskingOrder.{of_appends, second_of_two, IsHalf, taken_order, written_order}
+use Rattle.laws_guarantees.proofs.AskingOrder.{order, sites_in, count_in, IsInOrder, first_drop, of_reads, of_appends}
+use Rattle.laws_guarantees.proofs.AskingOrder.{IsHalf, taken_order, written_order}
 use Rattle.laws_guarantees.proofs.AccountCases.{sent_cases}
+use Rattle.qc_list.proofs.Booleans.{and_first, and_second}
 
 -- the first of the sites that a half hasn't asked
 abbrev is_left_first : Declaration → Account → Current → (Want → Bool) → ℕ → Bool
@@ -42,9 +43,9 @@ module _ (decl : Declaration) where
       → half want ≡ true → do_asks decl d t object inv site want ≡ true → is_left_first decl d t half site ≡ true
   do_next half of_reads d t object inv site (Read read) its is =
       left_first d t is_read (read_need_of decl t.epoch object inv) site
-      (first_of_two (is_next_voter decl d t is_read (read_need_of decl t.epoch object inv) site)
+      (and_first (is_next_voter decl d t is_read (read_need_of decl t.epoch object inv) site)
       (length (requests_for is_append d) == 0)
-      (second_of_two ((read.object == object) && (read.inv == inv))
+      (and_second ((read.object == object) && (read.inv == inv))
       (is_next_voter decl d t is_read (read_need_of decl t.epoch object inv) site
       && (length (requests_for is_append d) == 0)) is))
   do_next half of_reads d t object inv site (Append o view own) its is = absurd (let never : ⊥ = cc in never)
@@ -52,9 +53,9 @@ module _ (decl : Declaration) where
   do_next half of_appends d t object inv site (Read read) its is = absurd (let never : ⊥ = cc in never)
   do_next half of_appends d t object inv site (Append o view own) its is =
       left_first d t is_append (append_need decl t object inv) site
-      (first_of_two (is_next_voter decl d t is_append (append_need decl t object inv) site)
+      (and_first (is_next_voter decl d t is_append (append_need decl t object inv) site)
       (are_reads_met decl d t object inv)
-      (second_of_two ((o == object) && carries decl t object view own (answer_of decl t object inv))
+      (and_second ((o == object) && carries decl t object view own (answer_of decl t object inv))
       (is_next_voter decl d t is_append (append_need decl t object inv) site && are_reads_met decl d t object inv)
       is))
   do_next half of_appends d t object inv site Prepare its is = absurd (let never : ⊥ = cc in never)
@@ -104,7 +105,7 @@ module _ (decl : Declaration) where
           ap (λ (o : Option Current). option_map_or (λ (t : Current). is_of t to tx epoch life
           && command_asks decl d t to want d.command) o false) (sym current) ∙ due in
           command_next half is_half d t to want d.command its
-          (second_of_two (is_of t to tx epoch life) (command_asks decl d t to want d.command) now)
+          (and_second (is_of t to tx epoch life) (command_asks decl d t to want d.command) now)
 
       voter : (t : Current) → d.current ≡ Some t → t.epoch ≡ e → is_left_first decl d t half to ≡ true
           → is_this to (first (drop (count_in half d.requests) (order decl d.client e))) ≡ true

@@ -39,8 +39,9 @@ use Rattle.laws_guarantees.proofs.Grounds.{open_before}
 use Rattle.laws_guarantees.proofs.Requests.{due_at}
 use Rattle.laws_guarantees.specs.Vocabulary.{IsOpenVote}
 use Rattle.laws_guarantees.proofs.Voted.{voting_tie}
-use Rattle.laws_guarantees.proofs.AccountCases.{heard_cases, sent_cases, told_cases, written_cases}
+use Rattle.laws_guarantees.proofs.AccountCases.{heard_cases, sent_cases, told_cases}
 use Rattle.laws_guarantees.proofs.MessageCases.{commit_cases}
+use Rattle.laws_due.proofs.AccountCases.{written_cases}
 
 module _ (decl : Declaration) where
   -- what is told for a Prepare leaves command and transaction

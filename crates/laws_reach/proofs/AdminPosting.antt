@@ -9,7 +9,6 @@ use Rattle.qc_core.specs.Vocabulary.{journal_after, with_record}
 use Rattle.qc_decl.specs.declared.declaration.Declaration.{Declaration}
 use Rattle.qc_decl.specs.Vocabulary.{administrator}
 use Rattle.qc_epoch.specs.Vocabulary.{AdminMove, admin_takes}
-use Rattle.laws_turns.proofs.Downs.{due}
 use Rattle.qc_msg.specs.declared.message.Envelope.{Envelope}
 use Rattle.qc_msg.specs.declared.record.Record.{Record}
 use Rattle.qc_msg.specs.declared.turn.Appended.{Appended}
@@ -17,7 +16,7 @@ use Rattle.qc_msg.specs.declared.turn.Appended.TheVariants.{Done, Failed, Stoppe
 use Rattle.qc_msg.specs.declared.turn.Turn.{Turn}
 use Rattle.qc_msg.specs.Vocabulary.{Deed, Entry, HasRecord, MayEnd, WasSentTo, by, deeds, envelopes, mail, posted_as}
 use Rattle.qc_msg.specs.Vocabulary.{sends_as}
-use Rattle.laws_refinement.specs.Vocabulary.{MayCome, Net, after_admin}
+use Rattle.laws_refinement.specs.Vocabulary.{MayCome, after_admin}
 use Rattle.laws_refinement.specs.Net as nets
 use Rattle.laws_refinement.proofs.Machine.{put_other}
 use Rattle.qc_promise.specs.Vocabulary.{pending_with}
@@ -28,6 +27,7 @@ use Rattle.laws_reach.proofs.Growing.{actor_posted, all_sent, ended_journal, end
 use Rattle.laws_reach.proofs.PostedTurns.{takes_inputs}
 use Rattle.laws_reach.proofs.Posting.{client_posts, down_posts, fails_shows, site_posts, to_net}
 use Rattle.laws_reach.proofs.Stood.{Stands, Stood, in_admin}
+use Rattle.qc_core.proofs.PostsByTurns.{called_turn}
 
 module _ (decl : Declaration) (h : List Entry) (inputs : List Bool) (old : Stood decl h inputs) (turn : Turn) where
   -- the history after the post of an actor, and the open inputs
@@ -60,7 +60,7 @@ module _ (decl : Declaration) (h : List Entry) (inputs : List Bool) (old : Stood
     moved_is = x.is ∙ ap (λ (v : Actor). actor_takes decl v x.given) (in_admin decl old.net)
 
     turn_is : move.turn ≡ with_record turn
-    turn_is = ap (λ (m : ActorMove). m.turn) (sym moved_is) ∙ due decl a ds turn law
+    turn_is = ap (λ (m : ActorMove). m.turn) (sym moved_is) ∙ called_turn decl a ds turn law
 
     fails : (end : Appended) (r : Record) → turn.write ≡ Some r → ended_up end true ≡ false
         → ended_journal end turn.write (journal_after ds) ≡ record

@@ -11,6 +11,8 @@ use Rattle.qc_msg.specs.declared.step.Command.{Command}
 use Rattle.qc_msg.specs.declared.step.Command.TheVariants as commands
 use Rattle.qc_promise.specs.Vocabulary.{Dealing, dealt, is_begun, operation}
 use Rattle.laws_reach.proofs.Gists.{Gist, Going, finished, replied, with_call}
+use Rattle.qc_list.proofs.Booleans.{not_both}
+use Rattle.qc_list.proofs.Options.{some_same}
 
 -- nothing is something
 
@@ -25,15 +27,9 @@ abbrev some_or : {X : Type 0} → X → Option X → X
 some_or x None = x
 some_or x (Some y) = y
 
-pub some_is : {X : Type 0} (x y : X) → Some x ≡ Some y → x ≡ y
-some_is x y same = ap (some_or x) same
-
 abbrev IsTrue : Bool → Type 0
 IsTrue true = Unit {0}
 IsTrue false = ⊥
-
-pub true_false : (b : Bool) → b ≡ true → b ≡ false → ⊥
-true_false b there gone = subst IsTrue (sym there ∙ gone) tt
 
 module _ (tx : TxId) (ops : List Op) where
   abbrev pub IsBehind : Bool → Gist → Type 0
@@ -151,7 +147,7 @@ module _ (tx : TxId) (ops : List Op) where
   not_behind g other life number named (inr (inl at)) =
       let low : tx.number ≤ g.count = at.1 in
       let same : other.number ≡ tx.number = ap (λ (t : TxId). t.number) named in omega arith
-  not_behind g other life number named (inr (inr at)) = true_false false at.1 refl
+  not_behind g other life number named (inr (inr at)) = not_both false at.1 refl
 
   pub not_new : (g : Gist) (other : TxId) → other.life ≡ g.life → other.number ≡ g.count + 1 → other ≡ tx
       → IsPast false g → ⊥
@@ -172,10 +168,10 @@ module _ (tx : TxId) (ops : List Op) where
     base = record {
       asked = λ command is. absurd (none_some command None refl is);
       begun = refl;
-      down = λ is. absurd (true_false false is refl);
+      down = λ is. absurd (not_both false is refl);
       told =
           λ o is named. (let at : record { tx = other; ops = [] } ≡ o =
-          some_is (record { tx = other; ops = [] }) o is in
+          some_same (record { tx = other; ops = [] }) o is in
           new o at (ap (λ (e : Going). e.tx) at ∙ named) s.base.fresh);
       fresh = fresh s.base.fresh;
     };
@@ -184,7 +180,7 @@ module _ (tx : TxId) (ops : List Op) where
       past = next_past g other t.past;
       quiet =
           λ o is named. absurd (not_new g other life number
-          (ap (λ (e : Going). e.tx) (some_is (record { tx = other; ops = [] }) o is) ∙ named) t.past);
+          (ap (λ (e : Going). e.tx) (some_same (record { tx = other; ops = [] }) o is) ∙ named) t.past);
     });
   }
     where
@@ -241,7 +237,7 @@ module _ (tx : TxId) (ops : List Op) where
         told =
             λ e at named. (
               ap (λ (os : List Op). os ++ more) here.0
-                  ∙ ap (λ (v : Going). v.ops) (some_is (record { tx = o.tx; ops = o.ops ++ more }) e at),
+                  ∙ ap (λ (v : Going). v.ops) (some_same (record { tx = o.tx; ops = o.ops ++ more }) e at),
               here.1,
             );
         fresh = inl here.1;
@@ -269,8 +265,8 @@ module _ (tx : TxId) (ops : List Op) where
         differs : (e : Going) → Some (record { tx = o.tx; ops = o.ops ++ more }) ≡ Some e → e.tx ≡ tx → ⊥
         differs e at named =
             let is_tx : o.tx ≡ tx =
-            ap (λ (v : Going). v.tx) (some_is (record { tx = o.tx; ops = o.ops ++ more }) e at) ∙ named in
-            true_false (same_tx o.tx tx) (ap (λ (t : TxId). same_tx t tx) is_tx ∙ same_tx_itself tx) other
+            ap (λ (v : Going). v.tx) (some_same (record { tx = o.tx; ops = o.ops ++ more }) e at) ∙ named in
+            not_both (same_tx o.tx tx) (ap (λ (t : TxId). same_tx t tx) is_tx ∙ same_tx_itself tx) other
 
     pub adds : Both off (after (o.ops ++ more)) (dealt tx x resp) K
     adds = by (same_tx o.tx tx) refl

@@ -25,10 +25,12 @@ use Rattle.qc_promise.specs.Vocabulary.{commit_of, deal, due, life_with, pending
 use Rattle.laws_reach.specs.Vocabulary.{Says, SaysIn}
 use Rattle.laws_reach.proofs.Gists.{Gist, gist, going, counted_same, heard_same, sent_same, with_call}
 use Rattle.laws_reach.proofs.Rows.{reply_says}
-use Rattle.laws_reach.proofs.Bases.{Base, Both, IsPast, Settled, both_as, called, none_some, some_is, true_false}
+use Rattle.laws_reach.proofs.Bases.{Base, Both, IsPast, Settled, both_as, called, none_some}
 use Rattle.laws_reach.proofs.Steps.{lives_on}
 use Rattle.laws_reach.proofs.DealingsTurning.{is_failing, is_off}
 use Rattle.laws_reach.proofs.RecordCases.{due_cases}
+use Rattle.qc_list.proofs.Booleans.{not_both}
+use Rattle.qc_list.proofs.Options.{some_same}
 
 -- a life is no less with more records
 pub life_up : (n : ℕ) (rs : List Record) → n ≤ fold life_with n rs
@@ -67,7 +69,7 @@ module _ (decl : Declaration) (c : CommitRecord) where
       → Known p j before
   known_still p q j before after not (inl at) = inl at
   known_still p q j before after not (inr (inl at)) = inr (inl at)
-  known_still p q j before after not (inr (inr at)) = absurd (true_false (is_failing q) at.0 not)
+  known_still p q j before after not (inr (inr at)) = absurd (not_both (is_failing q) at.0 not)
 
   -- an input
 
@@ -109,7 +111,7 @@ module _ (decl : Declaration) (c : CommitRecord) where
       by (inl old) = inl (inl old)
       by (inr new) = inr new
   written_known p q j r before after not (inr (inl at)) = inl (inr (inl at))
-  written_known p q j r before after not (inr (inr at)) = absurd (true_false (is_failing q) at.0 not)
+  written_known p q j r before after not (inr (inr at)) = absurd (not_both (is_failing q) at.0 not)
 
   abbrev pub commit_or : Record → CommitRecord
   commit_or r = option_map_or (λ (e : CommitRecord). e) (commit_in r) c
@@ -123,7 +125,7 @@ module _ (decl : Declaration) (c : CommitRecord) where
   recorded off d x stamp (Some t) is base row = (ap (λ (e : CommitRecord). e.ops) (sym same) ∙ sym here.0, here.1)
     where
       same : record { stamp = stamp; tx = t.tx; ops = t.ops } ≡ c
-      same = some_is (record { stamp = stamp; tx = t.tx; ops = t.ops }) c row
+      same = some_same (record { stamp = stamp; tx = t.tx; ops = t.ops }) c row
 
       here : (x.ops ≡ t.ops) × IsPast c.tx c.ops off (gist d)
       here = base.told (going t) (ap (option_map going) is) (ap (λ (e : CommitRecord). e.tx) same)

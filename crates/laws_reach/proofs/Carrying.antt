@@ -14,10 +14,11 @@ use Rattle.qc_msg.specs.Vocabulary.{Deed, Falls, Rises}
 use Rattle.qc_promise.specs.Vocabulary.{Account, Dealing, IsGivenBack, Journal, Place, account_at, deal, life_with}
 use Rattle.qc_promise.specs.Vocabulary.{pending_next, pending_with}
 use Rattle.laws_reach.proofs.Gists.{gist, finished}
-use Rattle.laws_reach.proofs.Bases.{Both, both_as, ends, none_some, true_false}
+use Rattle.laws_reach.proofs.Bases.{Both, both_as, ends, none_some}
 use Rattle.laws_reach.proofs.Steps.{risen}
 use Rattle.laws_reach.proofs.DealingsTurning.{FellTo, RoseTo, is_failing, is_off}
 use Rattle.laws_reach.proofs.CarriedRecords.{life_up, Ongoing}
+use Rattle.qc_list.proofs.Booleans.{not_both}
 
 module _ (decl : Declaration) (c : CommitRecord) where
   abbrev Known : Place → Journal → List Deed → Type 0
@@ -37,7 +38,7 @@ module _ (decl : Declaration) (c : CommitRecord) where
           → Known p j (Falls cause pending ∷ after)
       held None is at = inr (inl at)
       held (Some r) is at = inr (inr (place.1.1 c after (is ∙ at)))
-  fallen_known p q j cause pending after place (inr (inr at)) = absurd (true_false (is_failing q) at.0 place.1.0)
+  fallen_known p q j cause pending after place (inr (inr at)) = absurd (not_both (is_failing q) at.0 place.1.0)
 
   pub fell : (p q : Place) (d : Account) (x : Dealing) (j : Journal) (cause : Fall) (pending : Option Record)
       (after : List Deed) → FellTo p cause pending (Some q)
@@ -98,7 +99,7 @@ module _ (decl : Declaration) (c : CommitRecord) where
       → IsGivenBack j kept → Known q (journal_at j (Rises kept)) after → Known p j (Rises kept ∷ after)
   risen_known p q j kept after place back (inl at) = back_known p j kept (Rises kept ∷ after) back at
   risen_known p q j kept after place back (inr (inl at)) = absurd (none_some (Commit c) None refl at)
-  risen_known p q j kept after place back (inr (inr at)) = absurd (true_false (is_failing q) at.0 place.1.1)
+  risen_known p q j kept after place back (inr (inr at)) = absurd (not_both (is_failing q) at.0 place.1.1)
 
   -- the life that it rises with is no less
   pub lives_up : (d : Account) (x : Dealing) (p : Place) (j : Journal) (kept : List Record) (before : List Deed)

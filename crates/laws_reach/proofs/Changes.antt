@@ -5,34 +5,28 @@ use Rattle.qc_stamp.specs.declared.stamp.TxId.{TxId}
 use Rattle.qc_decl.specs.declared.declaration.Declaration.{Declaration}
 use Rattle.qc_entry.specs.declared.record.Commit.{Commit}
 use Rattle.qc_msg.specs.declared.begun.Begun.{Begun as BegunTransaction}
-use Rattle.qc_msg.specs.declared.message.Message.{Message}
 use Rattle.qc_msg.specs.declared.message.Message.TheVariants as messages
 use Rattle.qc_msg.specs.declared.record.Record.TheVariants as records
 use Rattle.qc_msg.specs.declared.reply.Reply.{Reply}
 use Rattle.qc_msg.specs.declared.reply.Reply.TheVariants as replies
 use Rattle.qc_msg.specs.declared.step.Input.{Input}
 use Rattle.qc_msg.specs.declared.turn.Turn.{Turn}
-use Rattle.qc_msg.specs.Vocabulary.{Deed, Falls, Requested, Rises, Sends, Takes, Tells, Writes, decisions, sending}
+use Rattle.qc_msg.specs.Vocabulary.{decisions, sending}
 use Rattle.std.specs.List.{AllByRecursion as Every}
-use Rattle.laws_turns.proofs.ClientsWithin.{IsPost}
-use Rattle.qc_commit.specs.declared.desk.Voting.{Voting}
-use Rattle.qc_commit.specs.Conduct as desks
 use Rattle.qc_commit.specs.Vocabulary.{DeskMove, commit_of}
 use Rattle.qc_front.specs.Vocabulary.{FrontMove, ended, next_tx}
 use Rattle.qc_client.specs.declared.client.Client.{Client}
-use Rattle.qc_client.specs.Vocabulary.{ClientMove, by_desk, by_front, client_does, client_takes, moved, sent_one}
+use Rattle.qc_client.specs.Vocabulary.{ClientMove, by_desk, by_front, client_takes, moved}
 use Rattle.laws_turns.proofs.DealingParts.{IsAbort}
 use Rattle.laws_turns.proofs.HandMoves.{IsHandMove}
-use Rattle.laws_turns.proofs.ClientCases.{sent_cases}
-use Rattle.laws_turns.proofs.MessageCases.{message_cases}
 use Rattle.laws_reach.proofs.TakesCases.{takes_cases}
 use Rattle.laws_turns.proofs.FrontGoesOn.{FrontKind, IsRequestFor, ToldNeutral}
-use Rattle.laws_turns.proofs.TurnsGoOn.{IsNoInquiry, NoInquiries}
+use Rattle.laws_turns.proofs.TurnsGoOn.{IsNoInquiry, NoInquiries, request_asks}
 use Rattle.qc_list.proofs.Members.{every-weaker}
 use Rattle.qc_msg.specs.declared.message.Outcome.{Outcome}
 use Rattle.qc_msg.specs.declared.message.Outcome.TheVariants as outcomes
 use Rattle.qc_msg.specs.declared.turn.Posting.{Posting}
-use Rattle.std.specs.Prelude.{MatchOption, fold, map}
+use Rattle.std.specs.Prelude.{map}
 use Rattle.laws_turns.proofs.StatusInputs.{page_of}
 use Rattle.laws_turns.proofs.Statuses.{Page}
 
@@ -53,14 +47,6 @@ pub record Changes (p q : Page) (turn : Turn) : Type 0 where
   pub asks : NoInquiries turn.sends
 
 -- a client's requests and verdicts ask nobody how a transaction stands
-
-request_asks : (name : Option TxId) (m : Message) → IsRequestFor name m → IsNoInquiry m
-request_asks name m is =
-    message_cases
-    (λ m request answer decision question. MatchOption request ⊥ (λ (q : Requested). name ≡ Some q.tx)
-    → MatchOption question (Unit {0}) (λ (other : TxId). ⊥))
-    (λ q its. tt) (λ a never. absurd never) (λ v never. absurd never) (λ tx never. absurd never)
-    (λ m never. absurd never) m is
 
 requests_ask : (name : Option TxId) (ps : List Posting) → Every (λ (p : Posting). IsRequestFor name p.message) ps
     → NoInquiries ps
@@ -169,23 +155,3 @@ module _ (decl : Declaration) (c : Client) where
   input_changes g = takes_cases decl c To front_to desk_to (λ ps none. still (sending ps) refl refl none) g
 
 -- the numbers of its messages change nothing of it
-
-page_one : (c : Client) (number to : ℕ) (message : Message) → page_of (sent_one c number to message) ≡ page_of c
-page_one c number to message =
-    sent_cases c number to (λ (d : Client). page_of d ≡ page_of c) refl (by c.desk.voting) refl message
-  where
-    by : (o : Option Voting) → page_of (record c { desk = desks.prepared_in c.desk o number to }) ≡ page_of c
-    by None = refl
-    by (Some v) = refl
-
-pub page_posts : (decl : Declaration) (m : ClientMove) (ds : List Deed) → Every IsPost ds
-    → page_of (fold (client_does decl) m ds).client ≡ page_of m.client
-page_posts decl m [] all = refl
-page_posts decl m (Takes g ∷ ds) all = absurd all.0
-page_posts decl m (Writes written ∷ ds) all = page_posts decl m ds all.1
-page_posts decl m (Sends number to message ∷ ds) all =
-    page_posts decl (record m { client = sent_one m.client number to message }) ds all.1
-    ∙ page_one m.client number to message
-page_posts decl m (Tells reply ∷ ds) all = page_posts decl m ds all.1
-page_posts decl m (Falls cause pending ∷ ds) all = page_posts decl m ds all.1
-page_posts decl m (Rises records ∷ ds) all = page_posts decl m ds all.1

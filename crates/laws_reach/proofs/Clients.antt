@@ -13,7 +13,6 @@ use Rattle.laws_due.proofs.Declared.{run_declares}
 use Rattle.laws_due.proofs.KeptPlanned.{runs_with_falls_are_due_where_records_are_kept}
 use Rattle.laws_due.proofs.KeptPlanned.{what_rises_is_planned_where_records_are_kept}
 use Rattle.laws_turns.specs.Vocabulary.{AsksDeclared, LivesIn}
-use Rattle.laws_turns.proofs.Places.{slice_get-within}
 use Rattle.qc_link.specs.Vocabulary.{most_actors}
 use Rattle.laws_turns.proofs.Lived.{actors_live_in_runs_with_falls, run_long}
 use Rattle.qc_msg.specs.declared.record.Record.{Record}
@@ -23,6 +22,7 @@ use Rattle.qc_script.specs.Vocabulary.{IsScriptFor, RunsWithFalls}
 use Rattle.qc_script.specs.declared.script.Script.{Script}
 use Rattle.qc_core.proofs.KeptBack.{rises_give_back_journals_where_records_are_kept}
 use Rattle.laws_reach.proofs.Posts.{lives_told}
+use Rattle.qc_list.proofs.Places.{some_at}
 
 -- the number of a client, and its actor
 
@@ -70,7 +70,7 @@ module _ (fits : ℕ → List Record → Type 0) (decl : Declaration) (script : 
     within = omega arith
 
     commits_told : AreCommitsTold its
-    commits_told = on (slice_get-within open_inputs (client_actor decl n)
+    commits_told = on (some_at open_inputs (client_actor decl n)
         (subst (λ (k : ℕ). client_actor decl n < k) (sym (run_long decl script fits few h open_inputs run)) within))
       where
         declared : Declares decl its

@@ -11,13 +11,12 @@ use Rattle.qc_decl.specs.Vocabulary.{is_client}
 use Rattle.qc_decl.specs.declared.declaration.Declaration.{Declaration}
 use Rattle.qc_entry.specs.declared.record.Commit.{Commit as CommitRecord}
 use Rattle.qc_list.specs.Vocabulary.{In}
-use Rattle.qc_list.proofs.Members.{In-first, In-second}
+use Rattle.qc_list.proofs.Members.{In-first, In-second, In-either}
 use Rattle.qc_msg.specs.Vocabulary.{Entry, commit_of, own}
 use Rattle.qc_msg.specs.declared.record.Record.{Record}
 use Rattle.qc_msg.specs.declared.record.Record.TheVariants as records
 use Rattle.qc_msg.specs.declared.step.Step.{Step}
 use Rattle.qc_msg.proofs.DeedsGrow.{own-append}
-use Rattle.theory_onecopy.proofs.Lists.{in_split}
 use Rattle.qc_promise.specs.Vocabulary.{IsGivenBack, IsKeptAt, Journal, Kept, commits_by, commits_in, journal_of}
 use Rattle.qc_promise.specs.Vocabulary.{journal_with, no_journal, records as records_in}
 use Rattle.laws_reach.specs.Vocabulary.{AreStanding, IsOfClient, records_of}
@@ -38,7 +37,7 @@ came_by c j x among =
     journal_cases
     (λ x wrote fell rose. In (records.Commit c) (journal_by j wrote fell rose).records
     → In (records.Commit c) j.records ⊎ In c (commits_by_reading wrote rose))
-    (λ written among. elim (in_split (records.Commit c) j.records (written ∷ []) among) [
+    (λ written among. elim (In-either (records.Commit c) j.records (written ∷ []) among) [
       | inl before ↦ inl before
       | inr now ↦ inr (subst (In c) (sym (alone (commit_of written))) (among_is c (written ∷ []) now))
     ])
@@ -67,11 +66,11 @@ goes_in c j x among =
 
 -- and a step that keeps the records leaves it there
 
-given_back : (r : Record) (j : Journal) (given : List Record) → IsGivenBack j given → In r j.records → In r given
+pub given_back : (r : Record) (j : Journal) (given : List Record) → IsGivenBack j given → In r j.records → In r given
 given_back r j given (inl same) among = subst (In r) (sym same) among
 given_back r j given (inr more) among = subst (In r) (sym more) (In-first r j.records (option_to_list j.pending) among)
 
-stays_by : (r : Record) (before : List Step) (x : Step) → IsKeptAt before x → In r (journal_of before).records
+pub stays_by : (r : Record) (before : List Step) (x : Step) → IsKeptAt before x → In r (journal_of before).records
     → In r (journal_with (journal_of before) x).records
 stays_by r before x kept among =
     journal_cases
@@ -81,11 +80,11 @@ stays_by r before x kept among =
 
 -- the actor of an entry, and any other
 
-own_one : (a : ℕ) (e : Entry) (t : Bool) → (e.actor == a) ≡ t → own a (e ∷ []) ≡ cond t (e.step ∷ []) []
+pub own_one : (a : ℕ) (e : Entry) (t : Bool) → (e.actor == a) ≡ t → own a (e ∷ []) ≡ cond t (e.step ∷ []) []
 own_one a e true is = ap (λ (b : Bool). map (λ (k : Entry). k.step) (cond b (e ∷ []) [])) is
 own_one a e false is = ap (λ (b : Bool). map (λ (k : Entry). k.step) (cond b (e ∷ []) [])) is
 
-journal_next : (a : ℕ) (before : List Entry) (e : Entry) (t : Bool) → (e.actor == a) ≡ t
+pub journal_next : (a : ℕ) (before : List Entry) (e : Entry) (t : Bool) → (e.actor == a) ≡ t
     → journal_of (own a (before ++ e ∷ [])) ≡ cond t (journal_with (journal_of (own a before)) e.step)
     (journal_of (own a before))
 journal_next a before e true is = ap journal_of
@@ -109,7 +108,7 @@ module _ (decl : Declaration) where
           → In c (flat_map commits_in (map (λ (k : Entry). k.step)
           (cond t (e ∷ filter (λ (k : Entry). k.actor == a) h) (filter (λ (k : Entry). k.actor == a) h))))
           → In c (commits_by decl e ++ records_in decl h)
-      at true is rest here = elim (in_split c (commits_in e.step) (flat_map commits_in (own a h)) here) [
+      at true is rest here = elim (In-either c (commits_in e.step) (flat_map commits_in (own a h)) here) [
         | inl now ↦ In-first c (commits_by decl e) (records_in decl h)
             (subst (In c) (sym (by_client e (ap (is_client decl) (eqb-true e.actor a is) ∙ client))) now)
         | inr later ↦ In-second c (commits_by decl e) (records_in decl h) (rest later)
@@ -158,7 +157,7 @@ module _ (decl : Declaration) where
     stands c before (e ∷ later) all (inl is) =
         stands c (before ++ e ∷ []) later (append_assoc before (e ∷ []) later ∙ all)
         (inl (goes_on c before e (kept before later e all) is))
-    stands c before (e ∷ later) all (inr among) = elim (in_split c (commits_by decl e) (records_in decl later) among) [
+    stands c before (e ∷ later) all (inr among) = elim (In-either c (commits_by decl e) (records_in decl later) among) [
       | inl now ↦ stands c (before ++ e ∷ []) later (append_assoc before (e ∷ []) later ∙ all)
           (inl (arrives c before e now))
       | inr after ↦ stands c (before ++ e ∷ []) later (append_assoc before (e ∷ []) later ∙ all) (inr after)

@@ -27,14 +27,7 @@ use Rattle.laws_due.proofs.Fallings.{as_record}
 use Rattle.laws_due.proofs.Happenings.{takes_to}
 use Rattle.laws_due.proofs.Lifelong.{client_lives}
 use Rattle.laws_due.proofs.Standing.{IsAtRest, IsFallen, IsTied, Stands, actor_more, turn_is}
-
-first_all : (P : Deed → Type 0) (xs ys : List Deed) → Every P (xs ++ ys) → Every P xs
-first_all P [] ys all = tt
-first_all P (x ∷ xs) ys all = (all.0, first_all P xs ys all.1)
-
-rest_all : (P : Deed → Type 0) (xs ys : List Deed) → Every P (xs ++ ys) → Every P ys
-rest_all P [] ys all = all
-rest_all P (x ∷ xs) ys all = rest_all P xs ys all.1
+use Rattle.laws_due.proofs.Telling.{first_all, rest_all}
 
 -- what it becomes as it rises
 pub rises_to : (decl : Declaration) (a : ℕ) → is_client decl a ≡ true → (ds : List Deed) (kept : List Record)

@@ -18,12 +18,12 @@ use Rattle.qc_promise.specs.Vocabulary.{with_response}
 use Rattle.qc_promise.specs.Rows.{pending_with}
 use Rattle.laws_reach.specs.Vocabulary.{Finds, IsNoCommit, Responds, Says}
 use Rattle.laws_reach.proofs.Gists.{Gist, Going, finished, gist, going, replied}
-use Rattle.laws_reach.proofs.Bases.{Base, Both, IsPast, Settled, answered, begins, both_as, ends, none_some, some_is}
-use Rattle.laws_reach.proofs.Bases.{adds}
+use Rattle.laws_reach.proofs.Bases.{Base, Both, IsPast, Settled, answered, begins, both_as, ends, none_some, adds}
 use Rattle.laws_reach.proofs.DealingsTurning.{IsSaid, is_off}
 use Rattle.laws_reach.proofs.CarriedRecords.{commit_or, Known, Ongoing, recorded, said}
 use Rattle.laws_reach.proofs.Owners.{told_owner}
 use Rattle.laws_reach.proofs.ToldCases.{account_by, deal_by, stays_same, told_cases}
+use Rattle.qc_list.proofs.Options.{some_same}
 
 -- a command that isn't Commit
 
@@ -35,7 +35,7 @@ no_commit : (d : Account) (command : Command) → d.command ≡ Some command →
     → (gist d).begun ≡ Some o → (gist d).command ≡ Some commands.Commit → ⊥
 no_commit d command is not o begun commits =
     let t : (t : Current) × (d.current ≡ Some t) = some_current d.current o begun in
-    not t.0 t.1 (some_is command commands.Commit (sym is ∙ commits))
+    not t.0 t.1 (some_same command commands.Commit (sym is ∙ commits))
 
 do_not : (d : Account) (object inv : ℕ) → d.command ≡ Some (commands.Do object inv)
     → (gist d).command ≡ Some commands.Commit → ⊥
@@ -142,7 +142,7 @@ module _ (decl : Declaration) (c : CommitRecord) (p q : Place) (d : Account) (x 
 
       written : (o : Option CommitRecord) → option_map Commit o ≡ Some (Commit c) → o ≡ Some c
       written None is = absurd (none_some (Commit c) None refl is)
-      written (Some e) is = ap (λ (r : Record). Some (commit_or decl c r)) (some_is (Commit e) (Commit c) is)
+      written (Some e) is = ap (λ (r : Record). Some (commit_or decl c r)) (some_same (Commit e) (Commit c) is)
 
       base : Base c.tx c.ops (is_off q) (gist d) x
       base = subst (λ (b : Bool). Base c.tx c.ops b (gist d) x) (sym same_off) s.base

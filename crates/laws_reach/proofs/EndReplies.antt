@@ -22,11 +22,12 @@ use Rattle.laws_reach.specs.Vocabulary.{Finds, HasRecord, IsToldOf, Responds, Sa
 use Rattle.laws_reach.proofs.EndTies.{AwaitsReply, IsOver, EndTie, IsGoing, closed_begin, finishes, goes_on, going_one}
 use Rattle.laws_reach.proofs.EndTies.{told_of}
 use Rattle.laws_reach.proofs.Gists.{Gist, Going, finished, gist, going, replied}
-use Rattle.laws_reach.proofs.Bases.{Base, none_some, some_is}
+use Rattle.laws_reach.proofs.Bases.{Base, none_some}
 use Rattle.laws_reach.proofs.DealingsTurning.{IsSaid, is_off}
 use Rattle.laws_reach.proofs.CarriedRecords.{Known, Ongoing, commit_or, said}
 use Rattle.laws_reach.proofs.DealingsTelling.{absent_gist, neither_up, response_gist, some_current, still}
 use Rattle.laws_reach.proofs.ToldCases.{account_by, deal_by, stays_same, told_cases}
+use Rattle.qc_list.proofs.Options.{some_same}
 
 -- the record of the account: its stamp, and its transaction
 
@@ -34,14 +35,14 @@ same_stamp : (stamp : Stamp) (c : CommitRecord) (o : Option Current)
     → option_map (λ (t : Current). record { stamp = stamp; tx = t.tx; ops = t.ops }) o ≡ Some c → stamp ≡ c.stamp
 same_stamp stamp c None row = absurd (none_some c None refl row)
 same_stamp stamp c (Some t) row = ap (λ (e : CommitRecord). e.stamp)
-    (some_is (record { stamp = stamp; tx = t.tx; ops = t.ops }) c row)
+    (some_same (record { stamp = stamp; tx = t.tx; ops = t.ops }) c row)
 
 same_begun : (stamp : Stamp) (c : CommitRecord) (o : Option Current)
     → option_map (λ (t : Current). record { stamp = stamp; tx = t.tx; ops = t.ops }) o ≡ Some c
     → option_map (λ (e : Going). e.tx) (option_map going o) ≡ Some c.tx
 same_begun stamp c None row = absurd (none_some c None refl row)
 same_begun stamp c (Some t) row = ap (λ (e : CommitRecord). Some e.tx)
-    (some_is (record { stamp = stamp; tx = t.tx; ops = t.ops }) c row)
+    (some_same (record { stamp = stamp; tx = t.tx; ops = t.ops }) c row)
 
 module _ (decl : Declaration) (c : CommitRecord) where
   abbrev pub Ending : Place → Account → Dealing → Journal → List Deed → Type 0
@@ -98,7 +99,7 @@ module _ (decl : Declaration) (c : CommitRecord) where
           (record {
             past = z.past;
             gone = λ o some named. z.gone (going t) (ap (option_map going) current)
-                (ap (λ (e : Going). e.tx) (some_is (record { tx = t.tx; ops = ops }) o some) ∙ named);
+                (ap (λ (e : Going). e.tx) (some_same (record { tx = t.tx; ops = ops }) o some) ∙ named);
           }))
 
       -- one that gives the transaction up
@@ -156,7 +157,7 @@ module _ (decl : Declaration) (c : CommitRecord) where
               commit = record { stamp = stamp; tx = t.0.tx; ops = t.0.ops };
               listed = s.written (record { stamp = stamp; tx = t.0.tx; ops = t.0.ops })
                   (wrote ∙ ap (option_map (λ (v : Current). record { stamp = stamp; tx = v.tx; ops = v.ops })) t.1);
-              named = ap (λ (e : Going). e.tx) (some_is (going t.0) o.going (sym (ap (option_map going) t.1) ∙ o.is))
+              named = ap (λ (e : Going). e.tx) (some_same (going t.0) o.going (sym (ap (option_map going) t.1) ∙ o.is))
                   ∙ o.named;
               stamped = sym (same_reply other stamp same);
             }
@@ -173,7 +174,7 @@ module _ (decl : Declaration) (c : CommitRecord) where
       where
         written : (o : Option CommitRecord) → option_map Commit o ≡ Some (Commit c) → o ≡ Some c
         written None is = absurd (none_some (Commit c) None refl is)
-        written (Some e) is = ap (λ (r : Record). Some (commit_or decl c r)) (some_is (Commit e) (Commit c) is)
+        written (Some e) is = ap (λ (r : Record). Some (commit_or decl c r)) (some_same (Commit e) (Commit c) is)
 
         old : IsToldOf c x.ends ⊎ AwaitsReply c (gist d) x (Unit {0})
             → IsToldOf c x.ends ⊎ ((is_begun c.tx x.begun ≡ true) × IsToldOf c (replies.Unknown ∷ []))

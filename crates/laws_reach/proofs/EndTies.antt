@@ -15,9 +15,10 @@ use Rattle.qc_msg.specs.declared.reply.Reply.TheVariants as replies
 use Rattle.qc_promise.specs.Vocabulary.{Dealing, ended, is_begun}
 use Rattle.laws_reach.specs.Vocabulary.{HasRecord, IsToldOf}
 use Rattle.laws_reach.proofs.Gists.{Gist, Going, finished}
-use Rattle.laws_reach.proofs.Bases.{Base, IsPast, begun_with, next_past, none_some, not_new, off_past, some_is}
-use Rattle.laws_reach.proofs.Bases.{true_false}
+use Rattle.laws_reach.proofs.Bases.{Base, IsPast, begun_with, next_past, none_some, not_new, off_past}
 use Rattle.laws_reach.proofs.Steps.{past_life, past_risen, risen_with}
+use Rattle.qc_list.proofs.Booleans.{not_both}
+use Rattle.qc_list.proofs.Options.{some_same}
 
 -- a list with one more item, or as it was
 last_in : (es : List Reply) (b : Bool) (e r : Reply) → In r (es ++ cond b (e ∷ []) [])
@@ -64,7 +65,7 @@ module _ (c : CommitRecord) where
   closed_begin g other life number z = record {
     past = next_past c.tx c.ops g other z.past;
     gone = λ o is named. not_new c.tx c.ops g other life number
-        (ap (λ (e : Going). e.tx) (some_is (record { tx = other; ops = [] }) o is) ∙ named) z.past;
+        (ap (λ (e : Going). e.tx) (some_same (record { tx = other; ops = [] }) o is) ∙ named) z.past;
   }
 
   pub closed_life : (g : Gist) → IsOver true g → IsOver false (record g { life = g.life + 1 })
@@ -131,7 +132,7 @@ module _ (c : CommitRecord) where
   going_one off g x base is = by g.begun refl (ap (is_begun c.tx) (sym base.begun) ∙ is)
     where
       by : (o : Option Going) → g.begun ≡ o → is_begun c.tx (option_map (λ (e : Going). e.tx) o) ≡ true → IsGoing g c.tx
-      by None none begun = absurd (true_false false begun refl)
+      by None none begun = absurd (not_both false begun refl)
       by (Some o) some begun = record { going = o; is = some; named = same_tx_is o.tx c.tx begun }
 
   module _ (off : Bool) (g : Gist) (x : Dealing) (rs : List Record) (K L A B : Type 0) (reply : Reply)

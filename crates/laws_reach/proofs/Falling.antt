@@ -1,6 +1,6 @@
 -- What clients were told through falls: wrong ends and wrong records are refused, right ones are taken.
-use Rattle.std.proofs.Common.{◌≡◌, ◌⊎◌, ◌<◌, inl, inr, ℕ, Bool, true, false, cond, List, [], ◌∷◌, Option, Some, None}
-use Rattle.std.proofs.Common.{refl, sym, ap, subst, arith}
+use Rattle.std.proofs.Common.{◌≡◌, ◌⊎◌, ◌<◌, inl, inr, ℕ, Bool, true, false, cond, List, [], ◌∷◌, Option, None, refl}
+use Rattle.std.proofs.Common.{sym, ap, subst, arith}
 use Rattle.qc_entry.specs.declared.line.Op.{Op}
 use Rattle.qc_entry.specs.declared.record.Commit.{Commit as CommitRecord}
 use Rattle.qc_list.specs.Vocabulary.{In}
@@ -16,6 +16,7 @@ use Rattle.qc_stamp.specs.Vocabulary.{same_tx}
 use Rattle.qc_stamp.proofs.Orders.{same_tx_is}
 use Rattle.qc_stamp.specs.declared.stamp.Stamp.{Stamp}
 use Rattle.qc_stamp.specs.declared.stamp.TxId.{TxId}
+use Rattle.laws_turns.proofs.WrongOnes.{none_some}
 
 -- the record of the transaction
 abbrev its : List Op → CommitRecord
@@ -63,9 +64,6 @@ unsaid t = neither (t.each (its (read_it ∷ [])) (inl refl))
 abbrev first_resp : List Op → Option ℕ
 first_resp [] = None
 first_resp (o ∷ ops) = o.resp
-
-none_some : (x : Option ℕ) → x ≡ None → x ≡ Some 0 → ⊥
-none_some x none some = let no : ⊥ = cc in no
 
 pub other : Deals (fallen replies.Unknown (record_of (none_read ∷ []) ∷ [])) → ⊥
 other d = none_some (first_resp (none_read ∷ [])) refl (ap first_resp (d (its (none_read ∷ [])) (inl refl)))

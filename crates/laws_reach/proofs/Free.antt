@@ -29,12 +29,12 @@ use Rattle.qc_client.specs.Vocabulary.{IsFree, client_takes}
 use Rattle.qc_front.specs.Vocabulary.{is_idle}
 use Rattle.qc_front.specs.declared.doing.Doing.{Doing}
 use Rattle.qc_front.specs.declared.doing.Doing.TheVariants.{Idle, Reading, Appending}
-use Rattle.laws_turns.proofs.Downs.{due}
 use Rattle.laws_turns.specs.Vocabulary.{is_waiting}
-use Rattle.laws_turns.proofs.TurnReplies.{running_more, running_turn}
+use Rattle.laws_turns.proofs.TurnReplies.{running_more, running_turn, ended_waits}
 use Rattle.laws_turns.proofs.ClientCases.{command_cases}
 use Rattle.laws_turns.proofs.Waiting.{IsNoCall, are_clients, called_ends, epoch_rests, round_none, sent_waits}
 use Rattle.laws_turns.proofs.Waiting.{takes_ends, takes_rests, votes_none}
+use Rattle.qc_core.proofs.PostsByTurns.{called_turn}
 
 -- whether an actor waits for votes, or for what its running `do` asked
 
@@ -47,11 +47,6 @@ waits_in actor.Down = false
 -- after an input it waits only where a command runs that its turn doesn't end
 abbrev Ended : Bool → ActorMove → Type 0
 Ended r m = (r && not (is_some m.turn.told)) ≡ false → waits_in m.actor ≡ false
-
-ended_waits : (told waits : Bool) → told ≡ not waits → (true && not told) ≡ false → waits ≡ false
-ended_waits true true ends is = absurd (let never : ⊥ = cc in never)
-ended_waits true false ends is = refl
-ended_waits false waits ends is = absurd (let never : ⊥ = cc in never)
 
 called_ended : (decl : Declaration) (c : Client) (command : Command) → is_waiting c ≡ false
     → Ended true (by_client (client_takes decl c (inputs.Called command)))
@@ -204,7 +199,7 @@ module _ (decl : Declaration) (a : ℕ) where
   life_ends ds t n lives.starts = λ none. new_rests
   life_ends ds t n (lives.takes before g m life may reach) = take_ends before g may (life_ends before false m life)
   life_ends ds t n (lives.posts before turn m first life low law) =
-      post_rests before turn first turn.append (due decl a before turn law) (life_ends before true m life)
+      post_rests before turn first turn.append (called_turn decl a before turn law) (life_ends before true m life)
   life_ends ds t n (lives.crashes before m life up) = λ none. after_fall before causes.Script None
   life_ends ds t n (lives.rises before rs turn m first life down low law) =
       λ none. rise_rests before rs turn first turn.append

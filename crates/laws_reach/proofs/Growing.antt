@@ -19,6 +19,7 @@ use Rattle.qc_msg.specs.Vocabulary.{Deed, Falls, Sends, deeds_as, sends_of, tell
 use Rattle.laws_refinement.specs.Vocabulary.{sent_all}
 use Rattle.laws_refinement.specs.Net as nets
 use Rattle.qc_promise.specs.Vocabulary.{Journal, no_journal, pending_with}
+use Rattle.qc_core.proofs.SiteLives.{sends_stay, tells_stay, told_stay}
 
 -- whether it is up
 
@@ -27,30 +28,17 @@ ended_up Done up = up
 ended_up Failed up = false
 ended_up Stopped up = false
 
-up_sends : (u : Bool) (n : ℕ) (ps : List Posting) (ds : List Deed)
-    → fold up_at u (sends_of n ps ++ ds) ≡ fold up_at u ds
-up_sends u n [] ds = refl
-up_sends u n (p ∷ ps) ds = up_sends u (n + 1) ps ds
-
-up_tells : (u : Bool) (o : Option Reply) (ds : List Deed) → fold up_at u (tells_of o ++ ds) ≡ fold up_at u ds
-up_tells u None ds = refl
-up_tells u (Some reply) ds = refl
-
-up_told : (u : Bool) (o : Option Reply) → fold up_at u (tells_of o) ≡ u
-up_told u None = refl
-up_told u (Some reply) = refl
-
 up_writes : (u : Bool) (o : Option Record) (ds : List Deed) → fold up_at u (writes_of o ++ ds) ≡ fold up_at u ds
 up_writes u None ds = refl
 up_writes u (Some written) ds = refl
 
 up_ended : (u : Bool) (end : Appended) (n : ℕ) (turn : Turn) → fold up_at u (deeds_as end n turn) ≡ ended_up end u
 up_ended u Done n turn = up_writes u turn.write (sends_of n turn.sends ++ tells_of turn.told)
-    ∙ up_sends u n turn.sends (tells_of turn.told) ∙ up_told u turn.told
-up_ended u Failed n turn = up_sends u n turn.failed_sends
+    ∙ sends_stay u n turn.sends (tells_of turn.told) ∙ told_stay u turn.told
+up_ended u Failed n turn = sends_stay u n turn.failed_sends
     (tells_of turn.failed_told ++ Falls causes.Disk turn.write ∷ [])
-    ∙ up_tells u turn.failed_told (Falls causes.Disk turn.write ∷ [])
-up_ended u Stopped n turn = up_tells u turn.failed_told (Falls causes.Stop turn.write ∷ [])
+    ∙ tells_stay u turn.failed_told (Falls causes.Disk turn.write ∷ [])
+up_ended u Stopped n turn = tells_stay u turn.failed_told (Falls causes.Stop turn.write ∷ [])
 
 pub up_posted : (ds : List Deed) (end : Appended) (n : ℕ) (turn : Turn)
     → is_up (ds ++ deeds_as end n turn) ≡ ended_up end (is_up ds)

@@ -24,10 +24,7 @@ use Rattle.qc_core.proofs.KeptBack.{back_second}
 use Rattle.laws_reach.proofs.Standing.{up_not}
 use Rattle.laws_reach.proofs.Turning.{AtRest, StandsAt, after, call_stands, fall_stands, rise_stands, take_stands}
 use Rattle.laws_reach.proofs.Turning.{down_turn_stands, turn_stands}
-
-first_all : (P : Deed → Type 0) (xs ys : List Deed) → Every P (xs ++ ys) → Every P xs
-first_all P [] ys all = tt
-first_all P (x ∷ xs) ys all = (all.0, first_all P xs ys all.1)
+use Rattle.laws_due.proofs.Telling.{first_all}
 
 module _ (decl : Declaration) (a : ℕ) (client : is_client decl a ≡ true) (planned : IsPlanned decl first_epoch)
     (commits : List Commit) (tx : TxId) where

@@ -1,7 +1,6 @@
 -- The commit records that a client's deeds make: those that it wrote, and those that it was writing as it fell. A
 -- journal that rises give back loses none of its records.
-use Rattle.std.proofs.Common.{◌≡◌, ◌⊎◌, List, [], ◌∷◌, inl, inr, fold, Some, option_and_then, option_to_list, sym}
-use Rattle.std.proofs.Common.{subst}
+use Rattle.std.proofs.Common.{◌≡◌, ◌⊎◌, List, [], ◌∷◌, inl, inr, fold, Some, option_and_then, subst}
 use Rattle.std.specs.List.{cons_option}
 use Rattle.qc_list.specs.Vocabulary.{In}
 use Rattle.qc_list.proofs.Members.{In-first, In-last}
@@ -10,7 +9,8 @@ use Rattle.qc_entry.specs.declared.record.Commit.{Commit}
 use Rattle.qc_msg.specs.declared.record.Record.{Record}
 use Rattle.qc_msg.specs.declared.record.Record.TheVariants as records
 use Rattle.qc_msg.specs.Vocabulary.{Deed, Falls, Rises, Sends, Takes, Tells, Writes, commit_of}
-use Rattle.qc_promise.specs.Vocabulary.{IsGivenBack, Journal}
+use Rattle.qc_promise.specs.Vocabulary.{Journal}
+use Rattle.laws_reach.proofs.Committing.{given_back}
 
 abbrev pub made_at : List Commit → Deed → List Commit
 made_at made (Takes given) = made
@@ -23,11 +23,6 @@ made_at made (Rises kept) = made
 -- a record that a journal has, or that was being written as its actor fell last
 abbrev pub IsHad : Commit → Journal → Type 0
 IsHad c j = In (records.Commit c) j.records ⊎ (j.pending ≡ Some (records.Commit c))
-
--- what is given back has all that the journal had
-pub given_back : (w : Record) (j : Journal) (kept : List Record) → IsGivenBack j kept → In w j.records → In w kept
-given_back w j kept (inl same) among = subst (In w) (sym same) among
-given_back w j kept (inr more) among = subst (In w) (sym more) (In-first w j.records (option_to_list j.pending) among)
 
 stays : (w : Record) (j : Journal) (d : Deed) → IsGivenBackAt j d → In w j.records → In w (journal_at j d).records
 stays w j (Takes given) back among = among

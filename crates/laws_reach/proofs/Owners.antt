@@ -1,22 +1,20 @@
 -- The account of a client stays that client's.
-use Rattle.std.proofs.Common.{◌≡◌, ℕ, ◌+◌, Bool, true, false, cond, Option, Some, None, option_and_then, refl, ap}
-use Rattle.std.specs.Option.{option_map_or}
+use Rattle.std.proofs.Common.{◌≡◌, ℕ, Bool, true, false, Option, Some, None, option_and_then, refl, ap}
 use Rattle.qc_stamp.specs.declared.stamp.Stamp.{Stamp}
 use Rattle.qc_stamp.specs.declared.stamp.TxId.{TxId}
-use Rattle.qc_entry.specs.declared.record.Commit.{Commit}
 use Rattle.qc_decl.specs.declared.declaration.Declaration.{Declaration}
-use Rattle.qc_msg.specs.declared.record.Record.{Record}
 use Rattle.qc_msg.specs.declared.reply.Half.{Half}
 use Rattle.qc_msg.specs.declared.reply.Reply.{Reply}
 use Rattle.qc_msg.specs.declared.step.Command.{Command}
 use Rattle.qc_msg.specs.declared.step.Input.TheVariants as inputs
-use Rattle.qc_msg.specs.Vocabulary.{Deed, Falls, Invocation, Rises, Sends, Takes, Tells, Writes, began_in, commit_of}
-use Rattle.qc_msg.specs.Vocabulary.{committed_in, do_in, is_end, is_life, is_refused, response_in, short_in}
-use Rattle.qc_promise.specs.Vocabulary.{Account, Current, account_at, account_told, account_written, answer_of}
-use Rattle.qc_promise.specs.Vocabulary.{found_absent, responded, short_of, with_absent, with_current, with_response}
+use Rattle.qc_msg.specs.Vocabulary.{Deed, Falls, Invocation, Rises, Sends, Takes, Tells, Writes, began_in, committed_in}
+use Rattle.qc_msg.specs.Vocabulary.{do_in, is_end, is_refused, response_in, short_in}
+use Rattle.qc_promise.specs.Vocabulary.{Account, Current, account_at, account_told, answer_of, found_absent, responded}
+use Rattle.qc_promise.specs.Vocabulary.{short_of, with_absent, with_current, with_response}
 use Rattle.laws_turns.proofs.ReadingCases.{mapped}
 use Rattle.laws_reach.proofs.Gists.{Gist, counted_same, heard_same, sent_same, short_same}
 use Rattle.laws_reach.proofs.ToldCases.{account_by}
+use Rattle.laws_due.proofs.Anew.{written_client}
 
 -- whose it is, and in which life
 abbrev pub SameOwner : Account → Account → Type 0
@@ -52,20 +50,11 @@ told_owner decl d reply =
     by None None None None false true = (refl, refl)
     by None None None None false false = (refl, refl)
 
-client_written : (d : Account) (w : Record) → (account_written d w).client ≡ d.client
-client_written d w = by (is_life w) (commit_of w)
-  where
-    by : (life : Bool) (o : Option Commit) → (cond life (record d { life = d.life + 1 })
-        (option_map_or (λ (c : Commit). record d { written = Some c }) o d)).client ≡ d.client
-    by true o = refl
-    by false None = refl
-    by false (Some c) = refl
-
 pub same_client : (decl : Declaration) (d : Account) (x : Deed) → (account_at decl d x).client ≡ d.client
 same_client decl d (Takes (inputs.Called command)) = refl
 same_client decl d (Takes (inputs.Got envelope)) = ap (λ (g : Gist). g.client) (heard_same d envelope.message)
 same_client decl d (Takes (inputs.Lost number)) = ap (λ (g : Gist). g.client) (counted_same d number None)
-same_client decl d (Writes w) = client_written d w
+same_client decl d (Writes w) = written_client d w
 same_client decl d (Sends number to message) = ap (λ (g : Gist). g.client) (sent_same decl d number to message)
 same_client decl d (Tells reply) = (told_owner decl d reply).0
 same_client decl d (Falls cause pending) = refl

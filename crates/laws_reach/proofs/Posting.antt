@@ -12,7 +12,7 @@ use Rattle.qc_decl.specs.declared.declaration.Declaration.{Declaration}
 use Rattle.qc_decl.specs.Vocabulary.{is_client, is_site}
 use Rattle.qc_client.specs.Vocabulary.{ClientMove, client_takes}
 use Rattle.qc_mailbox.specs.Vocabulary.{is_down}
-use Rattle.laws_turns.proofs.Downs.{due, who_is_down_only_tells, up_is}
+use Rattle.laws_turns.proofs.Downs.{who_is_down_only_tells, up_is}
 use Rattle.qc_msg.specs.declared.message.Envelope.{Envelope}
 use Rattle.qc_msg.specs.declared.record.Record.{Record}
 use Rattle.qc_msg.specs.declared.turn.Appended.{Appended}
@@ -35,6 +35,7 @@ use Rattle.laws_reach.specs.Vocabulary.{HasTaken}
 use Rattle.laws_reach.proofs.Growing.{actor_posted, all_sent, ended_journal, ended_up}
 use Rattle.laws_reach.proofs.Stood.{Stands, Stood, in_client, in_site, itself}
 use Rattle.laws_reach.proofs.PostedTurns.{fell_leaves, never_up, Shows, turned}
+use Rattle.qc_core.proofs.PostsByTurns.{called_turn}
 
 -- a post
 
@@ -104,7 +105,7 @@ module _ (decl : Declaration) (h : List Entry) (inputs : List Bool) (old : Stood
     moved_is = x.is ∙ ap (λ (v : Actor). actor_takes decl v x.given) (in_site decl old.net a site)
 
     turn_is : move.turn ≡ with_record turn
-    turn_is = ap (λ (m : ActorMove). m.turn) (sym moved_is) ∙ due decl a ds turn law
+    turn_is = ap (λ (m : ActorMove). m.turn) (sym moved_is) ∙ called_turn decl a ds turn law
 
     site_fails : (end : Appended) (r : Record) → turn.write ≡ Some r → ended_up end true ≡ false
         → ended_journal end turn.write (journal_after ds)
@@ -168,7 +169,7 @@ module _ (decl : Declaration) (h : List Entry) (inputs : List Bool) (old : Stood
     step_is = y.is ∙ ap (λ (v : Actor). actor_takes decl v y.given) (in_client decl old.net a client)
 
     turn_was : step.turn ≡ with_record turn
-    turn_was = ap (λ (m : ActorMove). m.turn) (sym step_is) ∙ due decl a ds turn law
+    turn_was = ap (λ (m : ActorMove). m.turn) (sym step_is) ∙ called_turn decl a ds turn law
 
     client_fails : (end : Appended) (r : Record) → turn.write ≡ Some r → ended_up end true ≡ false
         → ended_journal end turn.write (journal_after ds)

@@ -1,7 +1,7 @@
 -- The records that steps put into journals: where these are kept, and all that are written or were being written are
 -- such, so are all that rise.
 use Rattle.std.proofs.Common.{ℕ, ◌+◌, ◌==◌, inl, inr, Bool, true, false, cond, List, [], ◌∷◌, ◌++◌, filter, fold, map}
-use Rattle.std.proofs.Common.{Option, Some, None, option_to_list, sym, subst, append_assoc, ap, ◌∙◌}
+use Rattle.std.proofs.Common.{Option, Some, None, option_to_list, sym, subst}
 use Rattle.std.specs.Prelude.{MatchOption}
 use Rattle.std.specs.List.{AllByRecursion as Every}
 use Rattle.qc_list.proofs.Members.{every-append, every-weaker}
@@ -17,13 +17,8 @@ use Rattle.qc_msg.specs.declared.turn.Posting.{Posting}
 use Rattle.qc_msg.specs.declared.turn.Turn.{Turn}
 use Rattle.qc_msg.specs.Vocabulary.{Entry, Fallen, by, fell, fell_in, own, posted_as, rose_in, sents, step_of, told}
 use Rattle.qc_msg.specs.Vocabulary.{wrote, wrote_in}
-use Rattle.qc_promise.specs.Vocabulary.{IsGivenBack, Journal, Kept, journal_of, journal_with, no_journal, pending_with}
+use Rattle.qc_promise.specs.Vocabulary.{IsGivenBack, Journal, journal_of, journal_with, no_journal, pending_with}
 use Rattle.laws_reach.proofs.JournalCases.{journal_by, journal_cases}
-
--- of a longer history
-pub part_kept : (h k : List Entry) → Kept (h ++ k) → Kept h
-part_kept h k kept = λ before later e is. kept before (later ++ k) e
-    (sym (append_assoc before (e ∷ later) k) ∙ ap (λ (es : List Entry). es ++ k) is)
 
 module _ (P : Record → Type 0) where
   abbrev pub PutsBy : Option Record → Option Fallen → Option (List Record) → Type 0

@@ -36,8 +36,9 @@ use Rattle.qc_script.specs.Vocabulary.{posts, rises, takes, unopened}
 use Rattle.qc_script.specs.declared.script.Script.{Script}
 use Rattle.qc_stamp.specs.declared.stamp.TxId.{TxId}
 use Rattle.laws_reach.proofs.Asking.{IsTold, asks_as, lawful_asks}
-use Rattle.laws_reach.proofs.Putting.{AllPut, Puts, all_weaker, given_such, input_puts, part_kept, post_puts}
+use Rattle.laws_reach.proofs.Putting.{AllPut, Puts, all_weaker, given_such, input_puts, post_puts}
 use Rattle.laws_reach.proofs.SitesAsk.{AreAbout, IsAbout, PromisesFor, TurnAsks}
+use Rattle.qc_promise.proofs.Posts.{kept_part}
 
 -- something was asked for the transaction
 pub record IsRequested (ms : List Envelope) (tx : TxId) : Type 0 where
@@ -210,24 +211,24 @@ module _ (decl : Declaration) where
         → RunsWithFalls (IsLawfulWithFalls decl) fits decl script h open_inputs → Kept h → Asked h
     run_asked h open_inputs begins kept = record { all = tt; puts = tt }
     run_asked h open_inputs (takes a g before older run free rdy) kept =
-        grows older (marked a (step_of g) ∷ []) (run_asked older before run (part_kept older _ kept))
+        grows older (marked a (step_of g) ∷ []) (run_asked older before run (kept_part older _ kept))
         (input_silent older a g) (input_puts (Put (mail older)) g, tt)
     run_asked h open_inputs (posts a turn before older run taken law) kept =
-        let asked : Asked older = run_asked older before run (part_kept older _ kept) in
+        let asked : Asked older = run_asked older before run (kept_part older _ kept) in
         turn_asked older a (length (mail older)) turn asked
         (lawful_asks decl (IsRequested (mail older)) a (deeds a [] older) turn (told_in a older asked) law)
     run_asked h open_inputs (phase before older run none done quiet further) kept =
         grows older (marked (controller decl) (steps.Phase (phase_of older + 1)) ∷ [])
-        (run_asked older before run (part_kept older _ kept)) tt (tt, tt)
+        (run_asked older before run (kept_part older _ kept)) tt (tt, tt)
     run_asked h open_inputs (control line lines step before older run left is) kept =
-        line_asked older (controller decl) line step is (run_asked older before run (part_kept older _ kept))
+        line_asked older (controller decl) line step is (run_asked older before run (kept_part older _ kept))
     run_asked h open_inputs (falls a lines before older run left) kept =
         grows older (marked a (steps.Fell causes.Script None) ∷ [])
-        (run_asked older before run (part_kept older _ kept)) tt (tt, tt)
+        (run_asked older before run (kept_part older _ kept)) tt (tt, tt)
     run_asked h open_inputs (rises a back turn lines before older run left fit has law) kept =
         let post : List Entry = by a (posted_as turn.append (length (mail older)) turn) in
         let asked : Asked older = run_asked older before run
-        (part_kept older (marked a (steps.Rose back) ∷ post) kept) in
+        (kept_part older (marked a (steps.Rose back) ∷ post) kept) in
         let such : Every (Put (mail older)) back =
         given_such (Put (mail older)) a older back asked.puts (kept older post (marked a (steps.Rose back)) refl) in
         let risen : Asked (older ++ marked a (steps.Rose back) ∷ []) =
@@ -238,8 +239,8 @@ module _ (decl : Declaration) where
         (deeds a [] (older ++ marked a (steps.Rose back) ∷ [])) turn
         (told_in a (older ++ marked a (steps.Rose back) ∷ []) risen) law))
     run_asked h open_inputs (damaged a offset lines before older run left) kept =
-        grows older (marked a (steps.Damaged offset) ∷ []) (run_asked older before run (part_kept older _ kept)) tt
+        grows older (marked a (steps.Damaged offset) ∷ []) (run_asked older before run (kept_part older _ kept)) tt
         (tt, tt)
     run_asked h open_inputs (unopened a cause lines before older run left disk) kept =
-        grows older (marked a (steps.Fell cause None) ∷ []) (run_asked older before run (part_kept older _ kept)) tt
+        grows older (marked a (steps.Fell cause None) ∷ []) (run_asked older before run (kept_part older _ kept)) tt
         (tt, tt)

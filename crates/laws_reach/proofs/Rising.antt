@@ -26,7 +26,6 @@ use Rattle.qc_msg.specs.Vocabulary.{sends_as}
 use Rattle.qc_msg.proofs.GrownMail.{mail-append}
 use Rattle.qc_msg.proofs.DeedsGrow.{deeds-append, deeds-other, deeds-rose}
 use Rattle.qc_msg.proofs.Growth.{deeds-posted_as, mail-posted_as}
-use Rattle.laws_turns.proofs.Downs.{due}
 use Rattle.laws_refinement.specs.Vocabulary.{Net, Reaches, after_client_rise, after_site_rise, after_vain_rise}
 use Rattle.laws_refinement.specs.Net as nets
 use Rattle.laws_refinement.proofs.Machine.{put_other}
@@ -37,6 +36,7 @@ use Rattle.qc_site.specs.Vocabulary.{SiteState}
 use Rattle.laws_reach.proofs.Growing.{actor_posted, all_sent, ended_journal, ended_up}
 use Rattle.laws_reach.proofs.PostedTurns.{Shows, never_up, turned}
 use Rattle.laws_reach.proofs.Stood.{Stands, Stood, in_client, in_site}
+use Rattle.qc_core.proofs.PostsByTurns.{called_turn}
 
 -- what is given back: the records, and the pending one or none
 pub record Back (j : Journal) (given : List Record) : Type 0 where
@@ -94,7 +94,7 @@ module _ (decl : Declaration) (h : List Entry) (inputs : List Bool) (old : Stood
 
   pub turn_is : (actor_rises decl a records).turn ≡ with_record turn
   turn_is = ap (λ (m : ActorMove). m.turn) (sym risen) ∙ ap (λ (v : List Deed). (actor_after decl a v).turn) (sym rose)
-      ∙ due decl a (deeds a [] (h ++ marked a (steps.Rose records) ∷ [])) turn law
+      ∙ called_turn decl a (deeds a [] (h ++ marked a (steps.Rose records) ∷ [])) turn law
 
   pub up_now : is_up ds ≡ true
   up_now = fold-append up_at true (deeds a [] h) (Rises records ∷ [])

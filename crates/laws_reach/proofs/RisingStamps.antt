@@ -11,6 +11,7 @@ use Rattle.qc_msg.specs.declared.record.Record.{Record}
 use Rattle.qc_msg.specs.Vocabulary.{commit_of, is_life}
 use Rattle.qc_recover.specs.Clients.{Kept, keeps, with_commit}
 use Rattle.laws_reach.proofs.RecordCases.{record_cases}
+use Rattle.qc_recover.proofs.ClientLaws.{clocks_grow}
 
 abbrev pub commits_of : List Record → List Commit
 commits_of rs = filter_map commit_of rs
@@ -66,12 +67,6 @@ grown_one k r = by (is_life r) (commit_of r)
     by false None = (omega arith, omega arith)
     by false (Some c) = (omega arith, omega arith)
 
-clock_up : (k : Kept) (rs : List Record) → k.clock ≤ (fold keeps k rs).clock
-clock_up k [] = omega arith
-clock_up k (r ∷ rs) =
-    let one : k.clock ≤ (keeps k r).clock = (grown_one k r).1 in
-    let rest : (keeps k r).clock ≤ (fold keeps (keeps k r) rs).clock = clock_up (keeps k r) rs in omega arith
-
 pub all_passed : (k : Kept) (rs : List Record) → Every (IsUpTo (fold keeps k rs).clock) (commits_of rs)
 all_passed k [] = tt
 all_passed k (r ∷ rs) =
@@ -80,7 +75,7 @@ all_passed k (r ∷ rs) =
     record k { commits = with_commit k.commits c; clock = max k.clock c.stamp.clock }) o k) in
     next.clock ≤ (fold keeps next rs).clock → Every (IsUpTo (fold keeps next rs).clock) (commits_of rs)
     → Every (IsUpTo (fold keeps next rs).clock) (cons_option o (commits_of rs))))
-    (λ up rest. rest) (λ c up rest. (omega arith, rest)) (λ r none up rest. rest) r (clock_up (keeps k r) rs)
+    (λ up rest. rest) (λ c up rest. (omega arith, rest)) (λ r none up rest. rest) r (clocks_grow (keeps k r) rs)
     (all_passed (keeps k r) rs)
 
 -- so each is below each later one

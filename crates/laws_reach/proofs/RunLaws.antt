@@ -39,7 +39,7 @@ use Rattle.laws_reach.proofs.Sorted.{apart_too, sorted_alike}
 use Rattle.laws_reach.proofs.Stood.{in_site}
 use Rattle.laws_reach.proofs.Written.{Agree, written_are}
 
-same_site : (s t : SiteState) → actor.Site s ≡ actor.Site t → s ≡ t
+pub same_site : (s t : SiteState) → actor.Site s ≡ actor.Site t → s ≡ t
 same_site s t is = let same : s ≡ t = cc in same
 
 module _ (fits : ℕ → List Record → Type 0) (decl : Declaration) (script : Script) (h : List Entry)

@@ -1,6 +1,6 @@
 -- Each run with falls whose records are kept is one of the net.
 use Rattle.std.proofs.Common.{◌≡◌, ℕ, ◌+◌, Bool, true, false, List, [], ◌∷◌, ◌++◌, length, Some, slice_get, refl, sym}
-use Rattle.std.proofs.Common.{ap, ◌∙◌, subst, append_assoc}
+use Rattle.std.proofs.Common.{ap, ◌∙◌, subst}
 use Rattle.std.specs.Prelude.{replicate, slice_set}
 use Rattle.std.proofs.lemmas.List.{append-nil}
 use Rattle.std.proofs.lemmas.List.Sums.{fold-append}
@@ -15,7 +15,6 @@ use Rattle.qc_mailbox.proofs.FallLaws.{no_input_is_open_while_a_line_is_left, re
 use Rattle.qc_mailbox.proofs.FallMail.{ready_messages_were_sent_through_falls}
 use Rattle.laws_turns.proofs.Acted.{deeds-silent}
 use Rattle.laws_turns.proofs.Numbered.{IsSilent, mail-silent, phase_silent}
-use Rattle.laws_turns.proofs.Places.{replicate_at}
 use Rattle.laws_turns.specs.Vocabulary.{LivesIn}
 use Rattle.laws_turns.proofs.Commands.{may_take}
 use Rattle.laws_turns.proofs.LivedMoves.{line_silent}
@@ -49,11 +48,8 @@ use Rattle.laws_reach.proofs.AdminPosting as posting
 use Rattle.laws_reach.proofs.AdminRising as rise
 use Rattle.laws_reach.proofs.Stood.{Stands, Stood, in_client, itself, moves, stays}
 use Rattle.laws_reach.proofs.StandsFallen.{few, stands_fallen, stands_unopened, up_in}
-
--- the records of a shorter history are kept too
-pub kept_of_first : (h k : List Entry) → Kept (h ++ k) → Kept h
-kept_of_first h k kept before later e is =
-    kept before (later ++ k) e (sym (append_assoc before (e ∷ later) k) ∙ ap (λ (x : List Entry). x ++ k) is)
+use Rattle.qc_list.proofs.Places.{replicate_at}
+use Rattle.qc_promise.proofs.Posts.{kept_part}
 
 module _ (decl : Declaration) (script : Script) (fits : ℕ → List Record → Type 0) (accepted : IsAccepted decl)
     (sound : IsScriptFor decl script) where
@@ -193,23 +189,23 @@ module _ (decl : Declaration) (script : Script) (fits : ℕ → List Record → 
   pub runs_stand : (h : List Entry) (inputs : List Bool) → IsRun h inputs → Kept h → Stood decl h inputs
   runs_stand h inputs begins kept = first_stood
   runs_stand h inputs (takes a g before older run free rdy) kept =
-      stands_taken older before run (runs_stand older before run (kept_of_first older _ kept)) a g free rdy
+      stands_taken older before run (runs_stand older before run (kept_part older _ kept)) a g free rdy
   runs_stand h inputs (posts a turn before older run taken law) kept =
-      posting.posts decl older before (runs_stand older before run (kept_of_first older _ kept)) turn a taken law
+      posting.posts decl older before (runs_stand older before run (kept_part older _ kept)) turn a taken law
   runs_stand h inputs (phase before older run idle done quiet more) kept =
-      stands_still older before run (runs_stand older before run (kept_of_first older _ kept)) (controller decl)
+      stands_still older before run (runs_stand older before run (kept_part older _ kept)) (controller decl)
       (steps.Phase (phase_of older + 1)) (phase_silent (phase_of older + 1))
   runs_stand h inputs (control line lines acted before older run left is) kept =
-      stands_still older before run (runs_stand older before run (kept_of_first older _ kept)) (controller decl) acted
+      stands_still older before run (runs_stand older before run (kept_part older _ kept)) (controller decl) acted
       (line_silent line acted is)
   runs_stand h inputs (falls a lines before older run left) kept =
       stands_fallen decl script fits accepted sound older before run
-      (runs_stand older before run (kept_of_first older _ kept)) a lines left
+      (runs_stand older before run (kept_part older _ kept)) a lines left
   runs_stand h inputs (rises a records turn lines before older run left fit has law) kept =
-      stands_risen older before run (runs_stand older before run (kept_of_first older _ kept)) a records turn lines left
+      stands_risen older before run (runs_stand older before run (kept_part older _ kept)) a records turn lines left
       law (kept older _ (marked a (steps.Rose records)) refl)
   runs_stand h inputs (damaged a offset lines before older run left) kept =
       absurd (kept older [] (marked a (steps.Damaged offset)) refl)
   runs_stand h inputs (unopened a cause lines before older run left disk) kept =
       stands_unopened decl script fits accepted sound older before run
-      (runs_stand older before run (kept_of_first older _ kept)) a cause lines left
+      (runs_stand older before run (kept_part older _ kept)) a cause lines left

@@ -7,7 +7,7 @@ use Rattle.std.proofs.lemmas.List.Sums.{fold-append}
 use Rattle.qc_stamp.specs.declared.stamp.TxId.{TxId}
 use Rattle.qc_stamp.specs.Vocabulary.{first_life}
 use Rattle.qc_list.specs.Vocabulary.{In}
-use Rattle.qc_list.proofs.Members.{In-first, In-more}
+use Rattle.qc_list.proofs.Members.{In-first, In-more, In-either}
 use Rattle.qc_decl.specs.declared.declaration.Declaration.{Declaration}
 use Rattle.qc_entry.specs.declared.record.Commit.{Commit}
 use Rattle.qc_msg.specs.declared.record.Record.{Record}
@@ -21,11 +21,12 @@ use Rattle.qc_promise.specs.Vocabulary.{Account, IsGivenBack, Journal, Sight, ac
 use Rattle.qc_promise.specs.Vocabulary.{is_begun, life_with}
 use Rattle.laws_reach.proofs.CarriedRecords.{life_up}
 use Rattle.laws_atomic.proofs.Counted.{IsOpen, name_of}
-use Rattle.laws_atomic.proofs.Seeing.{IsUpTo, in_split}
-use Rattle.laws_reach.proofs.Making.{IsHad, given_back}
+use Rattle.laws_atomic.proofs.Seeing.{IsUpTo}
+use Rattle.laws_reach.proofs.Making.{IsHad}
 use Rattle.laws_reach.proofs.Naming.{named_as, named_down, named_lives, named_risen}
 use Rattle.laws_reach.proofs.SightPosting.{AfterAll}
 use Rattle.laws_reach.proofs.Standing.{IsAccount, IsRecorded, Stands, account_more, up_not}
+use Rattle.laws_reach.proofs.Committing.{given_back}
 
 -- the clock of records has passed the stamp of each
 
@@ -61,7 +62,7 @@ lives_up j kept (inr more) =
 -- what is given back, the journal had, or it was being written
 back_had : (c : Commit) (j : Journal) (kept : List Record) → IsGivenBack j kept → In (records.Commit c) kept → IsHad c j
 back_had c j kept (inl same) among = inl (subst (In (records.Commit c)) same among)
-back_had c j kept (inr more) among = by (in_split (records.Commit c) j.records (option_to_list j.pending)
+back_had c j kept (inr more) among = by (In-either (records.Commit c) j.records (option_to_list j.pending)
     (subst (In (records.Commit c)) more among))
   where
     last : (o : Option Record) → In (records.Commit c) (option_to_list o) → o ≡ Some (records.Commit c)

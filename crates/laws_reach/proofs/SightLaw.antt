@@ -11,7 +11,6 @@ use Rattle.qc_decl.specs.Vocabulary.{IsAccepted, actors, client_actor, is_client
 use Rattle.qc_decl.specs.declared.declaration.Declaration.{Declaration}
 use Rattle.qc_entry.specs.declared.line.Line.{Line}
 use Rattle.qc_entry.specs.declared.record.Commit.{Commit}
-use Rattle.laws_turns.proofs.Places.{slice_get-within}
 use Rattle.qc_link.specs.Vocabulary.{most_actors}
 use Rattle.laws_turns.specs.Vocabulary.{LivesIn}
 use Rattle.laws_turns.proofs.Lived.{actors_live_in_runs_with_falls, run_long}
@@ -23,8 +22,7 @@ use Rattle.qc_msg.specs.declared.message.Want.{Want}
 use Rattle.qc_msg.specs.declared.record.Record.{Record}
 use Rattle.qc_msg.specs.declared.record.Record.TheVariants as journals
 use Rattle.qc_msg.specs.declared.step.Input.TheVariants as inputs
-use Rattle.qc_msg.specs.Vocabulary.{Entry, Sends, Takes, deeds}
-use Rattle.qc_msg.specs.Vocabulary.{grant_with}
+use Rattle.qc_msg.specs.Vocabulary.{Entry, Sends, Takes, deeds, grant_with}
 use Rattle.laws_refinement.specs.Vocabulary.{IsGrantTo, IsGrantable, Refines, lines_in}
 use Rattle.laws_refinement.proofs.Refining.{nets_refine}
 use Rattle.theory_onecopy.specs.Vocabulary.{AreApart, IsLogged}
@@ -49,6 +47,7 @@ use Rattle.laws_reach.proofs.Founding.{IsFounded}
 use Rattle.laws_reach.proofs.Lifelong.{StandsNow, client_stands}
 use Rattle.laws_reach.proofs.Making.{made_at, wrote_stays}
 use Rattle.laws_reach.proofs.Naming.{IsNamed}
+use Rattle.qc_list.proofs.Places.{some_at}
 
 -- a client's number, by its actor
 
@@ -156,7 +155,7 @@ module _ (fits : ℕ → List Record → Type 0) (decl : Declaration) (script : 
   stands a client tx =
       let low : a < actors decl = client_within decl a client in
       let long : length open_inputs ≡ actors decl = run_long decl script fits few h open_inputs run in
-      let place : (t : Bool) × (slice_get open_inputs a ≡ Some t) = slice_get-within open_inputs a (omega arith) in
+      let place : (t : Bool) × (slice_get open_inputs a ≡ Some t) = some_at open_inputs a (omega arith) in
       let lived : LivesIn decl a h place.0 =
       actors_live_in_runs_with_falls decl script fits few h open_inputs run a place.0 place.1 in
       client_stands decl a client (declares a).first (committed decl h) tx

@@ -10,7 +10,7 @@ use Rattle.qc_list.specs.Vocabulary.{In}
 use Rattle.theory_onecopy.specs.Vocabulary.{AreApart, IsOrdered, IsStampedBefore, sorted}
 use Rattle.theory_onecopy.proofs.Committed.{records_are_sorted}
 
-never_itself : (c : Commit) → IsStampedBefore c c → ⊥
+pub never_itself : (c : Commit) → IsStampedBefore c c → ⊥
 never_itself c before = let tied : stamp_cmp c.stamp c.stamp ≡ Equal = tied_itself stamps_are_ordered.total c.stamp in
     let no : ⊥ = cc in no
 

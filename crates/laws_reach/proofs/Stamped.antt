@@ -1,5 +1,4 @@
--- Over all of a client's deeds, through its falls and rises, the stamps of its commit records rise, and its clock has
--- passed them.
+-- Over a client's deeds, through falls and rises, the stamps of its commit records rise, and its clock has passed them.
 use Rattle.std.proofs.Common.{[], ◌≡◌, ◌<◌, ℕ, ◌-◌, Bool, true, false, List, ◌∷◌, ◌++◌, fold, inl, inr, Option, Some}
 use Rattle.std.proofs.Common.{None, refl, sym, ap, ◌∙◌, subst, append_assoc, arith}
 use Rattle.std.specs.List.{AllByRecursion as Every}
@@ -33,7 +32,7 @@ use Rattle.laws_turns.proofs.Bounding.{turn-posts}
 use Rattle.qc_recover.specs.Vocabulary.{client_rises, rising}
 use Rattle.qc_recover.specs.Clients.{nothing_kept}
 use Rattle.laws_due.specs.Vocabulary.{IsDeclaredDeed, IsPlanned}
-use Rattle.laws_due.proofs.Standing.{IsAtRest, IsTied, actor_more, steady_client, steady_up, up_more}
+use Rattle.laws_due.proofs.Standing.{IsAtRest, IsTied, actor_more, up_more}
 use Rattle.laws_due.proofs.Writing.{IsClientTurn, IsCommitTurn, takes_turn}
 use Rattle.laws_reach.proofs.Clocks.{Stamps, clock_posts, takes_stamps}
 use Rattle.laws_reach.proofs.Courses.{IsNow, Lasts, course, rises_to}
@@ -42,6 +41,8 @@ use Rattle.laws_reach.proofs.VerdictsLifelong.{same_client}
 use Rattle.laws_reach.proofs.VerdictsPosting.{turn_journal}
 use Rattle.laws_reach.proofs.RisingStamps.{IsUpTo, Rise, all_passed, commits_more, commits_of, low_later}
 use Rattle.laws_reach.proofs.StampsUp.{UpTo, WithPending, none_pending, one_above, back_rise, with_life}
+use Rattle.qc_core.proofs.ActorLaws.{clients}
+use Rattle.qc_core.proofs.LivesOfActors.{steady_from}
 
 module _ (decl : Declaration) (a : ℕ) (client : is_client decl a ≡ true) where
   abbrev number : ℕ
@@ -149,14 +150,14 @@ module _ (decl : Declaration) (a : ℕ) (client : is_client decl a ≡ true) whe
             same_client (fold (client_does decl) move (turn_deeds first move.turn)).client c
             (sym (ap (λ (m : ActorMove). m.actor) (actor_more decl a ds (Takes g ∷ turn_deeds first move.turn)
             ∙ ap (λ (v : Actor). fold (actor_does decl a) (actor_takes decl v g) (turn_deeds first move.turn)) t.actor
-            ∙ steady_client decl a move (turn_deeds first move.turn) (turn_steady first move.turn))) ∙ is)
+            ∙ clients decl a move (turn_deeds first move.turn) (turn_steady first move.turn))) ∙ is)
 
         done_timed : (first : ℕ) → Timed ((ds ++ Takes g ∷ []) ++ turn_deeds first move.turn)
         done_timed first =
             subst Timed (sym (append_assoc ds (Takes g ∷ []) (turn_deeds first move.turn)))
             (timed_more ds (Takes g ∷ turn_deeds first move.turn) true
             (up_more decl a ds (Takes g ∷ turn_deeds first move.turn)
-            ∙ steady_up (is_up ds) (turn_deeds first move.turn) (turn_steady first move.turn) ∙ r.is ∙ same)
+            ∙ steady_from (is_up ds) (turn_deeds first move.turn) (turn_steady first move.turn) ∙ r.is ∙ same)
             (λ c is. subst (λ (j : Journal). UpTo j c.desk.clock.value)
             (sym (turn_journal (journal_after ds) first move.turn))
             (subst (UpTo (fold journal_at (journal_after ds) (writes_of move.turn.write)))

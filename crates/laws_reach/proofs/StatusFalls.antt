@@ -59,7 +59,7 @@ up_down tx s j k p o u pending = record {
 
 -- lives only grow
 
-grows : (k : Kept) (rs : List Record) → k.life ≤ (fold keeps k rs).life
+pub grows : (k : Kept) (rs : List Record) → k.life ≤ (fold keeps k rs).life
 grows k [] = omega arith
 grows k (r ∷ rs) =
     let one : k.life ≤ (keeps k r).life = (grown_one k r).0 in

@@ -5,7 +5,8 @@ use Rattle.qc_stamp.specs.declared.stamp.TxId.{TxId}
 use Rattle.qc_entry.specs.declared.line.Op.{Op}
 use Rattle.qc_promise.specs.Vocabulary.{Dealing}
 use Rattle.laws_reach.proofs.Gists.{Gist, Going}
-use Rattle.laws_reach.proofs.Bases.{none_some, true_false, Settled, Both}
+use Rattle.laws_reach.proofs.Bases.{none_some, Settled, Both}
+use Rattle.qc_list.proofs.Booleans.{not_both}
 
 module _ (tx : TxId) (ops : List Op) where
   abbrev IsBehind : Bool → Gist → Type 0
@@ -32,7 +33,7 @@ module _ (tx : TxId) (ops : List Op) where
     base = record {
       asked = s.base.asked;
       begun = s.base.begun;
-      down = λ is. absurd (true_false false is refl);
+      down = λ is. absurd (not_both false is refl);
       told = λ o is named. absurd (none_some o g.begun (s.base.down refl) is);
       fresh = fresh s.base.fresh;
     };

@@ -12,21 +12,15 @@ use Rattle.qc_decl.proofs.Clients.{client_no_site}
 use Rattle.qc_decl.specs.Vocabulary.{administrator, is_client, is_site}
 use Rattle.qc_client.specs.declared.client.Client.{Client}
 use Rattle.qc_msg.specs.declared.message.Envelope.{Envelope}
-use Rattle.qc_msg.specs.declared.step.Input.{Input}
 use Rattle.qc_msg.specs.declared.step.Input.TheVariants as given
 use Rattle.qc_msg.specs.Vocabulary.{Deed, Entry, WasSentTo, deeds, mail}
 use Rattle.laws_refinement.specs.Vocabulary.{MayCommand, Net, Reaches}
-use Rattle.laws_refinement.proofs.SiteNets.{place}
-use Rattle.laws_turns.proofs.Places.{slice_get-more}
 use Rattle.qc_epoch.specs.Vocabulary.{Admin}
 use Rattle.qc_site.specs.Vocabulary.{SiteState}
-use Rattle.laws_atomic.proofs.Stood.{apart}
+use Rattle.laws_atomic.proofs.Stood.{still_sent}
 use Rattle.laws_reach.specs.Vocabulary.{HasTaken, TakesInputs, actor_in}
-
-still_sent : (a : ℕ) (ms more : List Envelope) (g : Input) → WasSentTo a ms g → WasSentTo a (ms ++ more) g
-still_sent a ms more (given.Called command) sent = tt
-still_sent a ms more (given.Got envelope) sent = (slice_get-more ms more envelope.number envelope sent.0, sent.1)
-still_sent a ms more (given.Lost number) sent = tt
+use Rattle.laws_refinement.proofs.Lives.{same_or}
+use Rattle.qc_list.proofs.Numbers.{numbers_apart}
 
 module _ (decl : Declaration) where
   pub record Stands (net : Net) (a : ℕ) (h : List Entry) (open_input : Option Bool) : Type 0 where
@@ -118,9 +112,9 @@ module _ (decl : Declaration) where
     net = next;
     reached = reached;
     mail_is = mail_is;
-    actors = λ b is. elim (place b a) [
+    actors = λ b is. elim (same_or b a) [
       | inl at ↦ subst (λ (n : ℕ). Stands next n k (slice_get later n)) (sym at) (here (subst (TakesInputs decl) at is))
-      | inr other ↦ (let differs : (a == b) ≡ false = apart a b (λ at. other (sym at)) in
+      | inr other ↦ (let differs : (a == b) ≡ false = numbers_apart a b (λ at. other (sym at)) in
           stays old.net next b h k more (slice_get inputs b) (slice_get later b) is (leaves b other)
           (same b differs) grows (slots b differs) (old.actors b is))
     ];

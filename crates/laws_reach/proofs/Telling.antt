@@ -21,13 +21,14 @@ use Rattle.qc_promise.specs.Seen.{over}
 use Rattle.laws_reach.specs.Vocabulary.{SaysIn}
 use Rattle.laws_reach.proofs.Rows.{row_says}
 use Rattle.laws_atomic.proofs.Counted.{name_of}
-use Rattle.laws_atomic.proofs.Seeing.{Sees, in_split}
+use Rattle.laws_atomic.proofs.Seeing.{Sees}
 use Rattle.laws_atomic.proofs.Taking.{IsFree}
 use Rattle.laws_atomic.proofs.Tellings.{told_sees}
 use Rattle.laws_reach.proofs.Naming.{SameCounts, named_more, next_name, next_named, next_new, told_counts}
 use Rattle.laws_reach.proofs.Standing.{IsAccount, IsRecorded, SameSight, Stands, account_more, as_done, client_is, done}
 use Rattle.laws_reach.proofs.Standing.{keeps_on, keeps_so, up_not, with_status}
 use Rattle.laws_reach.proofs.ToldCases.{told_cases}
+use Rattle.qc_list.proofs.Members.{In-either}
 
 -- the transaction that begins has the next name
 begun_name : (decl : Declaration) (d : Account) (other : TxId) → running_row decl d false ≡ Some (replies.Began other)
@@ -83,7 +84,7 @@ module _ (decl : Declaration) (commits : List Commit) (tx : TxId) (client : ℕ)
   -- it is told that it committed: the record was written
   commits_it : (stamp : Stamp) → d.written ≡ commit_of d stamp → (x : TxId)
       → In x (s.committed ++ option_to_list s.begun) → IsRecorded x j.records
-  commits_it stamp is x among = by (in_split x s.committed (option_to_list s.begun) among)
+  commits_it stamp is x among = by (In-either x s.committed (option_to_list s.begun) among)
     where
       new : (o : Option Current) → d.written ≡ option_map
           (λ (t : Current). record { stamp = stamp; tx = t.tx; ops = t.ops }) o → In x (option_to_list (name_of o))

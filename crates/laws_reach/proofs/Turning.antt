@@ -34,7 +34,7 @@ use Rattle.qc_recover.specs.Vocabulary.{client_rises, rising}
 use Rattle.laws_due.specs.Vocabulary.{AreByRows, Goes}
 use Rattle.laws_due.proofs.Commands.{free_for}
 use Rattle.laws_due.proofs.Fallings.{as_record}
-use Rattle.laws_due.proofs.Standing.{IsFallen, IsTied, account_is, actor_more, steady_up, turn_is, up_more}
+use Rattle.laws_due.proofs.Standing.{IsFallen, IsTied, account_is, actor_more, turn_is, up_more}
 use Rattle.laws_due.proofs.Step.{inputs_are_answered_as_is_due}
 use Rattle.laws_due.proofs.Writing.{IsClientTurn, IsCommitTurn, takes_turn}
 use Rattle.laws_atomic.proofs.Alone.{replies_alone}
@@ -45,6 +45,7 @@ use Rattle.laws_reach.proofs.SightFalling.{calls_down, falls, falls_rising, live
 use Rattle.laws_reach.proofs.Making.{made_at}
 use Rattle.laws_reach.proofs.SightPosting.{AfterAll, fails, posts}
 use Rattle.laws_reach.proofs.Standing.{Stands, account_more, done, taken_keeps}
+use Rattle.qc_core.proofs.LivesOfActors.{steady_from}
 
 module _ (decl : Declaration) (a : ℕ) (client : is_client decl a ≡ true) (commits : List Commit) (tx : TxId) where
   abbrev pub StandsAt : Bool → List Deed → Type 0
@@ -122,7 +123,7 @@ module _ (decl : Declaration) (a : ℕ) (client : is_client decl a ≡ true) (co
         (journal_after ds) take_stands (goes first).due (takes_turn decl t.state g) there free
         (replies_alone decl t.state g))
         (up_more decl a ds (Takes g ∷ turn_deeds first move.turn)
-        ∙ steady_up (is_up ds) (turn_deeds first move.turn) (turn_steady first move.turn) ∙ up)
+        ∙ steady_from (is_up ds) (turn_deeds first move.turn) (turn_steady first move.turn) ∙ up)
 
     record_due : (c : IsCommitTurn move.turn)
         → IsRecordDue account (running_row decl account false) (records.Commit c.commit)

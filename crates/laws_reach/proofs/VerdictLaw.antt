@@ -11,11 +11,10 @@ use Rattle.qc_decl.specs.declared.declaration.Declaration.{Declaration}
 use Rattle.qc_mailbox.proofs.FallMail.{ready_messages_were_sent_through_falls}
 use Rattle.laws_turns.proofs.Acted.{deeds-silent}
 use Rattle.laws_turns.proofs.Numbered.{IsSilent, phase_silent}
-use Rattle.laws_turns.proofs.Places.{slice_get-within}
 use Rattle.qc_list.specs.Vocabulary.{In}
 use Rattle.qc_list.proofs.Members.{every-at}
 use Rattle.laws_turns.specs.Vocabulary.{LivesIn}
-use Rattle.laws_turns.proofs.LivedMoves.{deeds-fall, deeds-rise, line_silent}
+use Rattle.laws_turns.proofs.LivedMoves.{deeds-fall, line_silent}
 use Rattle.laws_turns.proofs.Lived.{actors_live_in_runs_with_falls, run_long}
 use Rattle.qc_msg.specs.declared.message.Envelope.{Envelope}
 use Rattle.qc_msg.specs.declared.message.Message.{Message}
@@ -27,7 +26,7 @@ use Rattle.qc_msg.specs.declared.step.Input.TheVariants as inputs
 use Rattle.qc_msg.specs.declared.step.Step.{Step}
 use Rattle.qc_msg.specs.declared.step.Step.TheVariants as steps
 use Rattle.qc_msg.specs.declared.turn.Turn.{Turn}
-use Rattle.qc_msg.proofs.DeedsGrow.{deeds-other}
+use Rattle.qc_msg.proofs.DeedsGrow.{deeds-other, deeds-rise}
 use Rattle.qc_msg.proofs.Growth.{deeds-posted_as, deeds-taken}
 use Rattle.laws_refinement.specs.Vocabulary.{Backed, Refines}
 use Rattle.laws_refinement.proofs.Refining.{nets_refine}
@@ -52,11 +51,13 @@ use Rattle.laws_reach.specs.Vocabulary.{IsReachedWithFalls, IsRecorded}
 use Rattle.laws_reach.proofs.Reaching.{runs_with_falls_reach_nets}
 use Rattle.laws_reach.proofs.Rightly.{Shows, course_shows}
 use Rattle.qc_core.proofs.KeptBack.{rises_give_back_journals_where_records_are_kept}
-use Rattle.laws_reach.proofs.Putting.{part_kept}
 use Rattle.laws_reach.proofs.Questions.{Asked, IsRequested, run_asked}
-use Rattle.laws_reach.proofs.Sent.{mail_deed}
 use Rattle.laws_reach.proofs.SitesAsk.{asked_of}
-use Rattle.laws_reach.proofs.VerdictPosts.{right_second, post_posts, few}
+use Rattle.laws_reach.proofs.VerdictPosts.{post_posts, few}
+use Rattle.laws_turns.proofs.DecisionLaws.{mail_deed}
+use Rattle.laws_atomic.proofs.Courses.{right-second}
+use Rattle.qc_list.proofs.Places.{some_at}
+use Rattle.qc_promise.proofs.Posts.{kept_part}
 
 module _ (decl : Declaration) (script : Script) (fits : ℕ → List Record → Type 0) (accepted : IsAccepted decl)
     (sound : IsScriptFor decl script) where
@@ -86,7 +87,7 @@ module _ (decl : Declaration) (script : Script) (fits : ℕ → List Record → 
       let low : a < actors decl = client_within decl a client in
       let long : length open_inputs ≡ actors decl =
       run_long decl script fits (few decl script fits accepted sound) h open_inputs run in
-      let place : (t : Bool) × (slice_get open_inputs a ≡ Some t) = slice_get-within open_inputs a (omega arith) in
+      let place : (t : Bool) × (slice_get open_inputs a ≡ Some t) = some_at open_inputs a (omega arith) in
       record {
         is_open = place.0;
         in_run =
@@ -175,12 +176,12 @@ module _ (decl : Declaration) (script : Script) (fits : ℕ → List Record → 
   all_known : (h : List Entry) (open_inputs : List Bool) → IsRun h open_inputs → Kept h → AreKnown h
   all_known h open_inputs begins kept a client tx = tt
   all_known h open_inputs (takes b g before older run free rdy) kept a client tx =
-      let known : AreKnown older = all_known older before run (part_kept older _ kept) in
+      let known : AreKnown older = all_known older before run (kept_part older _ kept) in
       let was : WasSentTo b (mail older) g =
       ready_messages_were_sent_through_falls (IsLawfulWithFalls decl) fits decl script older before run b g rdy in
       by_actor b a tx older (step_of g ∷ []) (Takes g ∷ []) (deeds-taken b older g was) (known a client tx)
       (λ same. (
-        known_given older before run (part_kept older _ kept) known b (ap (is_client decl) same ∙ client) tx g
+        known_given older before run (kept_part older _ kept) known b (ap (is_client decl) same ∙ client) tx g
             was,
         tt,
       ))
@@ -188,32 +189,32 @@ module _ (decl : Declaration) (script : Script) (fits : ℕ → List Record → 
       by_actor b a tx older (posted_as turn.append (length (mail older)) turn)
       (deeds_as turn.append (length (mail older)) turn)
       (deeds-posted_as turn.append b (length (mail older)) older turn)
-      (all_known older before run (part_kept older _ kept) a client tx)
+      (all_known older before run (kept_part older _ kept) a client tx)
       (λ same. known-posts tx (status (deeds b [] older) tx) (deeds_as turn.append (length (mail older)) turn)
       (post_posts turn.append (length (mail older)) turn))
   all_known h open_inputs (phase before older run none done quiet more) kept a client tx =
       silent a (controller decl) tx older (steps.Phase (phase_of older + 1)) (phase_silent (phase_of older + 1))
-      (all_known older before run (part_kept older _ kept) a client tx)
+      (all_known older before run (kept_part older _ kept) a client tx)
   all_known h open_inputs (control line lines step before older run left is) kept a client tx =
       silent a (controller decl) tx older step (line_silent line step is)
-      (all_known older before run (part_kept older _ kept) a client tx)
+      (all_known older before run (kept_part older _ kept) a client tx)
   all_known h open_inputs (falls b lines before older run left) kept a client tx =
       by_actor b a tx older (steps.Fell causes.Script None ∷ []) (Falls causes.Script None ∷ [])
-      (deeds-fall b older causes.Script) (all_known older before run (part_kept older _ kept) a client tx)
+      (deeds-fall b older causes.Script) (all_known older before run (kept_part older _ kept) a client tx)
       (λ same. tt)
   all_known h open_inputs (rises b back turn lines before older run left fit has law) kept a client tx =
       by_actor b a tx older (steps.Rose back ∷ posted_as turn.append (length (mail older)) turn)
       (Rises back ∷ deeds_as turn.append (length (mail older)) turn) (risen b older back turn)
-      (all_known older before run (part_kept older _ kept) a client tx)
+      (all_known older before run (kept_part older _ kept) a client tx)
       (λ same. known-posts tx (status (deeds b [] older) tx)
       (Rises back ∷ deeds_as turn.append (length (mail older)) turn)
       (tt, post_posts turn.append (length (mail older)) turn))
   all_known h open_inputs (damaged b offset lines before older run left) kept a client tx =
       silent a b tx older (steps.Damaged offset) (record { sends = λ x. refl; deeds = λ ms. refl })
-      (all_known older before run (part_kept older _ kept) a client tx)
+      (all_known older before run (kept_part older _ kept) a client tx)
   all_known h open_inputs (unopened b cause lines before older run left disk) kept a client tx =
       by_actor b a tx older (steps.Fell cause None ∷ []) (Falls cause None ∷ []) (deeds-fall b older cause)
-      (all_known older before run (part_kept older _ kept) a client tx) (λ same. tt)
+      (all_known older before run (kept_part older _ kept) a client tx) (λ same. tt)
 
   -- each deed is right
 
@@ -258,7 +259,7 @@ module _ (decl : Declaration) (script : Script) (fits : ℕ → List Record → 
       subst (λ (ds : List Deed). status ds tx ≡ status before tx) is
       (fold-append (status_at tx) Unborn before later
       ∙ ended_on tx (status before tx) later (as_end tx (status before tx) ended)
-      (right_second tx Unborn before later right))
+      (right-second tx Unborn before later right))
 
   -- a client is asked about begun transactions alone
   pub clients_are_asked_about_begun_ones_through_falls : (h : List Entry) (open_inputs : List Bool)

@@ -1,8 +1,8 @@
 -- A post takes nothing, whatever becomes of its record; begun transactions alone are asked about.
-use Rattle.std.proofs.Common.{[], ◌≡◌, ◌-◌, ◌≤◌, ℕ, ◌+◌, Bool, true, List, ◌∷◌, ◌++◌, fold, Option, Some, None, arith}
+use Rattle.std.proofs.Common.{[], ◌≡◌, ◌-◌, ◌≤◌, ℕ, ◌+◌, Bool, true, List, ◌∷◌, ◌++◌, Option, Some, None, arith}
 use Rattle.std.specs.List.{AllByRecursion as Every}
 use Rattle.qc_core.specs.Vocabulary.{IsLawfulWithFalls}
-use Rattle.qc_msg.specs.Vocabulary.{Deed, Entry, Falls, deeds, deeds_as, sends_of, tells_of}
+use Rattle.qc_msg.specs.Vocabulary.{Entry, Falls, deeds, deeds_as, sends_of, tells_of}
 use Rattle.qc_decl.specs.Vocabulary.{IsAccepted, actors, is_client}
 use Rattle.qc_decl.specs.declared.declaration.Declaration.{Declaration}
 use Rattle.qc_link.specs.Vocabulary.{most_actors}
@@ -14,18 +14,13 @@ use Rattle.qc_msg.specs.declared.turn.Appended.{Appended}
 use Rattle.qc_msg.specs.declared.turn.Appended.TheVariants.{Done, Failed, Stopped}
 use Rattle.qc_msg.specs.declared.turn.Posting.{Posting}
 use Rattle.qc_msg.specs.declared.turn.Turn.{Turn}
-use Rattle.qc_promise.specs.Vocabulary.{AreRightFrom, Status, Unborn, status_at}
+use Rattle.qc_promise.specs.Vocabulary.{Unborn}
 use Rattle.laws_turns.proofs.Bounding.{turn-posts}
 use Rattle.laws_turns.proofs.ClientsWithin.{IsPost}
 use Rattle.laws_turns.proofs.KnownDeeds.{KnownFrom}
 use Rattle.qc_script.specs.Vocabulary.{IsScriptFor, RunsWithFalls}
 use Rattle.qc_script.specs.declared.script.Script.{Script}
 use Rattle.qc_stamp.specs.declared.stamp.TxId.{TxId}
-
-pub right_second : (tx : TxId) (s : Status) (xs ys : List Deed) → AreRightFrom tx s (xs ++ ys)
-    → AreRightFrom tx (fold (status_at tx) s xs) ys
-right_second tx s [] ys right = right
-right_second tx s (x ∷ xs) ys right = right_second tx (status_at tx s x) xs ys right.1
 
 -- a post takes nothing, whatever becomes of its record
 

@@ -24,12 +24,15 @@ use Rattle.laws_turns.proofs.TurnsGoOn.{TurnRight}
 use Rattle.laws_turns.proofs.StatusInputs.{input_right, page_of}
 use Rattle.laws_turns.proofs.Statuses.{Page}
 use Rattle.laws_due.specs.Vocabulary.{Ties, appends, reads, rests, votes}
-use Rattle.laws_due.proofs.Standing.{IsAtRest, IsTied, actor_more, steady_client, steady_up, up_more}
+use Rattle.laws_due.proofs.Standing.{IsAtRest, IsTied, actor_more, up_more}
 use Rattle.qc_stamp.specs.declared.stamp.TxId.{TxId}
 use Rattle.laws_reach.specs.Vocabulary.{AreRightButWritten}
-use Rattle.laws_reach.proofs.Changes.{input_changes, page_posts}
+use Rattle.laws_reach.proofs.Changes.{input_changes}
 use Rattle.laws_reach.proofs.VerdictsPosting.{but_append, but_steady, posts_up}
 use Rattle.laws_reach.proofs.StatusFalls.{Down, Up}
+use Rattle.qc_core.proofs.ActorLaws.{clients}
+use Rattle.qc_core.proofs.LivesOfActors.{steady_from}
+use Rattle.laws_turns.proofs.StatusActs.{page_posts}
 
 -- a tied client votes on its begun transaction alone
 pub in_hand : (decl : Declaration) (d : Account) (c : Client) → Ties decl d c
@@ -97,7 +100,7 @@ module _ (decl : Declaration) (a : ℕ) (client : is_client decl a ≡ true) (tx
             (turn_steady first (client_takes decl t.state g).turn) (w.right first),
       )
       (up_more decl a ds (Takes g ∷ turn_deeds first (client_takes decl t.state g).turn)
-      ∙ steady_up (is_up ds) (turn_deeds first (client_takes decl t.state g).turn)
+      ∙ steady_from (is_up ds) (turn_deeds first (client_takes decl t.state g).turn)
       (turn_steady first (client_takes decl t.state g).turn) ∙ r.is ∙ same)
       (λ c is. subst (λ (p : Page). Up tx (fold (status_at tx) (status ds tx)
       (turn_deeds first (client_takes decl t.state g).turn))
@@ -110,7 +113,7 @@ module _ (decl : Declaration) (a : ℕ) (client : is_client decl a ≡ true) (tx
       (Takes g ∷ turn_deeds first (client_takes decl t.state g).turn)
       ∙ ap (λ (v : Actor). fold (actor_does decl a) (actor_takes decl v g)
       (turn_deeds first (client_takes decl t.state g).turn)) t.actor
-      ∙ steady_client decl a (client_takes decl t.state g) (turn_deeds first (client_takes decl t.state g).turn)
+      ∙ clients decl a (client_takes decl t.state g) (turn_deeds first (client_takes decl t.state g).turn)
       (turn_steady first (client_takes decl t.state g).turn))) ∙ is)))
       (posts_up tx (status ds tx) (journal_after ds) (a - decl.sites) (page_of t.state)
       (page_of (client_takes decl t.state g).client) (client_takes decl t.state g).turn first u

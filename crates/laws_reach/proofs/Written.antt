@@ -5,7 +5,7 @@ use Rattle.std.specs.List.{cons_option, filter_map}
 use Rattle.std.proofs.lemmas.List.{append-nil}
 use Rattle.std.proofs.lemmas.List.Elements.{filter_map-append}
 use Rattle.qc_list.specs.Vocabulary.{In}
-use Rattle.qc_list.proofs.Members.{In-first, In-second}
+use Rattle.qc_list.proofs.Members.{In-first, In-second, In-either}
 use Rattle.qc_client.specs.Vocabulary.{client_takes}
 use Rattle.qc_decl.specs.Vocabulary.{IsAccepted, administrator, is_client, is_site}
 use Rattle.qc_decl.specs.declared.declaration.Declaration.{Declaration}
@@ -17,14 +17,13 @@ use Rattle.laws_refinement.specs.Vocabulary.{IsPendingAt, IsPendingRule, Net, Re
 use Rattle.laws_refinement.specs.Net as nets
 use Rattle.laws_refinement.proofs.Kepts.{no_client, no_ruling}
 use Rattle.laws_refinement.proofs.Machine.{put_other}
-use Rattle.laws_refinement.proofs.SiteNets.{place}
-use Rattle.theory_onecopy.proofs.Lists.{in_split}
 use Rattle.laws_refinement.proofs.Refining.{nets_refine}
 use Rattle.theory_machine.specs.Vocabulary.{Deed, State, put}
 use Rattle.qc_recover.specs.Vocabulary.{Kept}
 use Rattle.theory_machine.proofs.Names.{put_here}
 use Rattle.laws_reach.specs.Vocabulary.{IsOfClient}
 use Rattle.laws_reach.proofs.RecordCases.{commit_cases}
+use Rattle.laws_refinement.proofs.Lives.{same_or}
 
 -- the commit records among records
 
@@ -99,7 +98,7 @@ module _ (decl : Declaration) where
       → is_client decl a ≡ true → next a ≡ rs a ++ more → ((b : ℕ) → b ≢ a → next b ≡ rs b) → new ≡ commits_of more
       → Agree rs written → Agree next (written ++ new)
   grows rs next written new a more client here there are old = record {
-    each = λ c among. elim (in_split c written new among) [
+    each = λ c among. elim (In-either c written new among) [
       | inl before ↦ keeps c (old.each c before)
       | inr now ↦ record {
         actor = a;
@@ -108,8 +107,8 @@ module _ (decl : Declaration) where
             (In-second (records.Commit c) (rs a) more (is_among c more (subst (In c) are now)));
       }
     ];
-    all = λ c is. elim (place is.actor a) [
-      | inl same ↦ elim (in_split (records.Commit c) (rs a) more
+    all = λ c is. elim (same_or is.actor a) [
+      | inl same ↦ elim (In-either (records.Commit c) (rs a) more
           (subst (In (records.Commit c)) (ap next same ∙ here) is.listed)) [
             | inl before ↦ In-first c written new (old.all c (record { actor = a; client = client; listed = before }))
             | inr now ↦ In-second c written new (subst (In c) (sym are) (among_is c more now))
@@ -124,7 +123,7 @@ module _ (decl : Declaration) where
   }
     where
       keeps : (c : CommitRecord) → IsOfClient decl rs c → IsOfClient decl next c
-      keeps c is = elim (place is.actor a) [
+      keeps c is = elim (same_or is.actor a) [
         | inl same ↦ record {
           actor = a;
           client = client;

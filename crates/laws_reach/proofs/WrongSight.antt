@@ -1,6 +1,5 @@
 -- Each wrong order through falls is refused, and the right ones are taken.
 use Rattle.std.proofs.Common.{◌≡◌, ◌≢◌, ℕ, true, List, [], ◌∷◌, inl, inr, refl, sym, ap, ◌∙◌, subst, arith}
-use Rattle.std.specs.declared.cmp.Ordering.{Ordering}
 use Rattle.std.specs.declared.cmp.Ordering.TheVariants.{Less, Greater}
 use Rattle.qc_entry.specs.declared.record.Commit.{Commit}
 use Rattle.qc_list.specs.Vocabulary.{In}
@@ -14,6 +13,7 @@ use Rattle.qc_stamp.specs.Vocabulary.{stamp_cmp}
 use Rattle.qc_stamp.specs.declared.stamp.Stamp.{Stamp}
 use Rattle.qc_stamp.specs.declared.stamp.TxId.{TxId}
 use Rattle.laws_atomic.specs.Vocabulary.{commit, decl, first, stamp, theirs}
+use Rattle.laws_atomic.proofs.WrongOnes.{not_less}
 
 other_life : first ≢ anew
 other_life same = let e : first.life ≡ anew.life = ap (λ (t : TxId). t.life) same in omega arith
@@ -23,9 +23,6 @@ other_client same = let e : theirs.client ≡ first.client = ap (λ (t : TxId). 
 
 other_client_too : theirs ≢ anew
 other_client_too same = let e : theirs.client ≡ anew.client = ap (λ (t : TxId). t.client) same in omega arith
-
-not_less : (o : Ordering) → o ≡ Greater → o ≡ Less → ⊥
-not_less o more less = let never : ⊥ = cc in never
 
 -- of two records, the one of this transaction isn't before
 none_before : (a b : Commit) (tx : TxId) (at : Stamp) → tx ≢ a.tx → stamp_cmp b.stamp at ≡ Greater

@@ -20,6 +20,7 @@ use Rattle.laws_turns.specs.Vocabulary.{asks, begun, commit, committed, first, s
 use Rattle.qc_stamp.specs.declared.stamp.Stamp.{Stamp}
 use Rattle.qc_stamp.specs.declared.stamp.TxId.{TxId}
 use Rattle.laws_reach.specs.WrongVerdicts.{anew}
+use Rattle.laws_turns.proofs.WrongOnes.{neither}
 
 -- courses
 
@@ -56,10 +57,6 @@ pub rises_too_late : AreRight tx (begun ∷ falls_writing first ∷ rises [] ∷
 rises_too_late w = either Dead first (λ e. let no : ⊥ = cc in no) (λ e. let no : ⊥ = cc in no) (w.1.1.1.1.0.0 refl)
 
 -- verdicts
-
-neither : (s : Status) → (s ≡ Begun → ⊥) → (s ≡ Dead → ⊥) → (s ≡ Begun) ⊎ (s ≡ Dead) → ⊥
-neither s live died (inl is) = live is
-neither s live died (inr is) = died is
 
 pub no_record : AreRight tx (begun ∷ falls_writing first ∷ rises [] ∷ lives ∷ says (outcomes.Committed first) ∷ []) → ⊥
 no_record w = let e : Dead ≡ Committed first = w.1.1.1.1.0 refl in let no : ⊥ = cc in no

@@ -3,7 +3,7 @@ use Rattle.std.specs.Option.{option_map_or}
 use Rattle.std.proofs.Common.{[], ◌≡◌, ◌≤◌, ℕ, suc, ◌+◌, ◌==◌, Bool, true, false, cond, inl, inr, List, ◌∷◌, ◌++◌}
 use Rattle.std.proofs.Common.{length, map, Option, Some, None, refl, sym, ◌∙◌, subst, eqb-true, arith}
 use Rattle.qc_list.specs.Vocabulary.{In}
-use Rattle.qc_list.proofs.Members.{In-second, In-unfiltered}
+use Rattle.qc_list.proofs.Members.{In-second, In-unfiltered, In-either}
 use Rattle.qc_entry.specs.declared.line.Line.{Line}
 use Rattle.qc_entry.specs.declared.record.Prepared.{Prepared}
 use Rattle.qc_plan.specs.declared.plan.Plan.{Plan}
@@ -16,7 +16,7 @@ use Rattle.qc_plan.proofs.Least.{close_weight_is_least}
 use Rattle.qc_plan.proofs.RoundsMet.{met_weighs}
 use Rattle.qc_decl.specs.declared.declaration.Declaration.{Declaration}
 use Rattle.qc_decl.specs.Vocabulary.{administrator}
-use Rattle.theory_onecopy.proofs.Lists.{Mapped, in_split, map_in}
+use Rattle.theory_onecopy.proofs.Lists.{Mapped, map_in}
 use Rattle.qc_msg.specs.declared.call.Call.{Call}
 use Rattle.qc_msg.specs.declared.message.Answer.{Answer}
 use Rattle.qc_msg.specs.declared.payload.Snapshot.{Snapshot}
@@ -37,11 +37,12 @@ use Rattle.laws_refinement.proofs.AnswerCases.{answer_cases}
 use Rattle.laws_refinement.proofs.Asks.{IsCalled, called, order_among, order_told}
 use Rattle.laws_refinement.proofs.MessagesStay.{message_later}
 use Rattle.laws_refinement.proofs.Posts.{at_number}
-use Rattle.laws_refinement.proofs.AdminRounds.{asked_need, asked_told, asked_weights, calls_sent, closes_more}
-use Rattle.laws_refinement.proofs.AdminRounds.{closing_sent, granted_told, noted_told, told_more}
+use Rattle.laws_refinement.proofs.AdminRounds.{asked_told, calls_sent, closes_more, closing_sent, granted_told}
+use Rattle.laws_refinement.proofs.AdminRounds.{noted_told, told_more}
 use Rattle.laws_refinement.proofs.AdminStands.{Goes, again_case, ended, nothing, rests}
 use Rattle.laws_refinement.proofs.AdminTurns.{asks_case}
 use Rattle.laws_refinement.proofs.OpenRequests.{message_same}
+use Rattle.qc_front.proofs.Awaited.{weights_stay, need_stays}
 
 module _ (decl : Declaration) (acts : List Act) (net : Net) (run : IsRun decl acts) (m : Mirrors decl (state acts) net)
     (up : net.up (administrator decl) ≡ true) where
@@ -80,8 +81,8 @@ module _ (decl : Declaration) (acts : List Act) (net : Net) (run : IsRun decl ac
               record {
                 plan = r.plan;
                 planned = r.planned;
-                weights = asked_weights round (wanted round) ∙ r.weights;
-                need = asked_need round (wanted round) ∙ r.need;
+                weights = weights_stay round (wanted round) ∙ r.weights;
+                need = need_stays round (wanted round) ∙ r.need;
                 granted = asked_told shuts round (wanted round) r.granted;
               },
               told,
@@ -191,7 +192,7 @@ module _ (decl : Declaration) (acts : List Act) (net : Net) (run : IsRun decl ac
                 (λ a among granted. told_more shuts (s ∷ []) a.site (h.3.granted a among granted))
                 (λ e. (s, In-second s shuts (s ∷ []) (inl refl), refl));
           })
-          (λ t among. elim (in_split t shuts (s ∷ []) among) [
+          (λ t among. elim (In-either t shuts (s ∷ []) among) [
             | inl old ↦ h.4 t old
             | inr new ↦
                 elim new [

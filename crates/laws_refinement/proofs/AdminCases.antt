@@ -6,7 +6,7 @@ use Rattle.qc_stamp.specs.declared.stamp.TxId.{TxId}
 use Rattle.qc_list.specs.Vocabulary.{In}
 use Rattle.qc_decl.specs.declared.declaration.Declaration.{Declaration}
 use Rattle.qc_decl.specs.Vocabulary.{administrator, client_actor}
-use Rattle.theory_onecopy.proofs.Lists.{Mapped, in_map, map_in}
+use Rattle.theory_onecopy.proofs.Lists.{Mapped, map_in}
 use Rattle.qc_msg.specs.declared.call.Call.{Call}
 use Rattle.qc_msg.specs.declared.message.Answer.{Answer}
 use Rattle.qc_msg.specs.declared.message.Message.{Message}
@@ -18,9 +18,8 @@ use Rattle.qc_msg.specs.declared.step.Input.TheVariants.{Called, Got, Lost}
 use Rattle.qc_msg.specs.Vocabulary.{Answered, quiet, site_called, without_call}
 use Rattle.theory_machine.specs.Vocabulary.{Act, IsRun, state}
 use Rattle.qc_epoch.specs.Vocabulary.{Asking, Doing, Installing, Question, Resting, ShutSite, admin_takes, all_taken}
-use Rattle.qc_epoch.specs.Vocabulary.{answered, answered_in, asking_takes, doing, heard, installing_takes}
-use Rattle.qc_epoch.specs.Vocabulary.{is_number, moved}
-use Rattle.qc_epoch.specs.Vocabulary.{outcome_in, replies_with, settles, site_set, taken_for, with_installed}
+use Rattle.qc_epoch.specs.Vocabulary.{answered, answered_in, asking_takes, doing, heard, installing_takes, is_number}
+use Rattle.qc_epoch.specs.Vocabulary.{moved, outcome_in, replies_with, settles, site_set, taken_for, with_installed}
 use Rattle.qc_epoch.specs.Admin as admins
 use Rattle.laws_refinement.specs.Vocabulary.{Backed, DoingMirrors, IsAnswerBacked, IsCovered, IsMessage, IsNumbered}
 use Rattle.laws_refinement.specs.Vocabulary.{IsTaken, IsVerdictBacked, MayAdminister, MayCome, Mirrors, Net}
@@ -31,6 +30,7 @@ use Rattle.laws_refinement.proofs.AnswerCases.{answer_cases}
 use Rattle.laws_refinement.proofs.MessageCases.{message_cases}
 use Rattle.laws_refinement.proofs.OpenRequests.{message_same}
 use Rattle.laws_refinement.proofs.AdminAnswers.{called_case, closing_case}
+use Rattle.qc_list.proofs.Members.{In-map}
 
 module _ (decl : Declaration) (acts : List Act) (net : Net) (run : IsRun decl acts) (m : Mirrors decl (state acts) net)
     (up : net.up (administrator decl) ≡ true) where
@@ -110,7 +110,7 @@ module _ (decl : Declaration) (acts : List Act) (net : Net) (run : IsRun decl ac
       covered s p among has =
           let c : (q : Question) × In q qs × (q.tx ≡ p.tx) = h.4 s p among has in (
             taken_for number (outcome_in answer) c.0,
-            in_map (taken_for number (outcome_in answer)) c.0 qs c.1,
+            In-map (taken_for number (outcome_in answer)) c.0 qs c.1,
             same_tx_of c.0 ∙ c.2,
           )
 

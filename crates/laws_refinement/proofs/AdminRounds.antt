@@ -2,7 +2,7 @@
 use Rattle.std.proofs.Common.{◌≡◌, ◌≤◌, ◌<◌, ℕ, ◌+◌, ◌==◌, ◌&&◌, ◌||◌, Bool, true, false, cond, inl, inr, List, [], ◌∷◌}
 use Rattle.std.proofs.Common.{◌++◌, drop, map, Option, Some, None, is_none, refl, sym, ap, ◌∙◌, subst, eqb-true, arith}
 use Rattle.qc_list.specs.Vocabulary.{In}
-use Rattle.qc_list.proofs.Members.{In-first}
+use Rattle.qc_list.proofs.Members.{In-first, In-either}
 use Rattle.qc_plan.specs.declared.plan.Plan.{Plan}
 use Rattle.qc_plan.specs.declared.standing.Asked.{Asked}
 use Rattle.qc_plan.specs.declared.standing.Standing.{Standing}
@@ -11,15 +11,12 @@ use Rattle.qc_plan.specs.Vocabulary.{Closes as Closing, RoundState, asking_all, 
 use Rattle.qc_plan.specs.Vocabulary.{note_in, total}
 use Rattle.qc_decl.specs.declared.declaration.Declaration.{Declaration}
 use Rattle.qc_decl.specs.Vocabulary.{client_actor}
-use Rattle.theory_onecopy.proofs.Lists.{in_split}
 use Rattle.qc_msg.specs.declared.call.Call.{Call}
 use Rattle.qc_msg.specs.declared.message.Envelope.{Envelope}
 use Rattle.qc_msg.specs.declared.message.Message.TheVariants as messages
 use Rattle.qc_msg.specs.Vocabulary.{with_call}
 use Rattle.theory_machine.specs.Vocabulary.{State}
-use Rattle.qc_epoch.specs.Vocabulary.{Admin, AdminMove, Asking, Doing, Installing, Question, Resting, ShutSite}
-use Rattle.qc_msg.specs.declared.payload.EpochStart.{EpochStart}
-use Rattle.qc_epoch.specs.Vocabulary.{ask_of, close_of, doing, moved, numbered_first}
+use Rattle.qc_epoch.specs.Vocabulary.{Admin, Asking, Question, ShutSite, ask_of, close_of, doing, numbered_first}
 use Rattle.qc_epoch.specs.Admin as admins
 use Rattle.laws_refinement.specs.Vocabulary.{HasTold, IsMessage, QuestionMirrors, all_sent}
 use Rattle.laws_refinement.proofs.Asks.{IsBeginning, number_all, numbered_after}
@@ -35,7 +32,7 @@ pub asked_told : (shuts : List ShutSite) (r : RoundState) (sites : List ℕ) →
 asked_told shuts r [] h = h
 asked_told shuts r (site ∷ sites) h = asked_told shuts
     (record r { asked = r.asked ++ record { site = site; standing = None } ∷ []; rest = drop 1 r.rest }) sites
-    (λ x among is. elim (in_split x r.asked (record { site = site; standing = None } ∷ []) among) [
+    (λ x among is. elim (In-either x r.asked (record { site = site; standing = None } ∷ []) among) [
       | inl old ↦ h x old is
       | inr new ↦ elim new [
         | inl same ↦ absurd
@@ -44,16 +41,6 @@ asked_told shuts r (site ∷ sites) h = asked_told shuts
         | inr never ↦ absurd never
       ]
     ])
-
-pub asked_weights : (r : RoundState) (sites : List ℕ) → (asking_all r sites).weights ≡ r.weights
-asked_weights r [] = refl
-asked_weights r (site ∷ sites) = asked_weights
-    (record r { asked = r.asked ++ record { site = site; standing = None } ∷ []; rest = drop 1 r.rest }) sites
-
-pub asked_need : (r : RoundState) (sites : List ℕ) → (asking_all r sites).need ≡ r.need
-asked_need r [] = refl
-asked_need r (site ∷ sites) = asked_need
-    (record r { asked = r.asked ++ record { site = site; standing = None } ∷ []; rest = drop 1 r.rest }) sites
 
 pub noted_told : (shuts : List ShutSite) (site : ℕ) (standing : Standing) (xs : List Asked) → AreTold shuts xs
     → (standing ≡ standings.Granted → HasTold shuts site) → AreTold shuts (note_in site standing xs)
@@ -123,7 +110,7 @@ calls_sent ms a k calls n (site ∷ sites) old at c among =
     calls_sent ms a k (with_call calls n site) (n + 1) sites new at.1 c among
   where
     new : (x : Call) → In x (with_call calls n site) → IsMessage ms x.number x.site (messages.Close k)
-    new x h = elim (in_split x calls (record { number = n; site = site } ∷ []) h) [
+    new x h = elim (In-either x calls (record { number = n; site = site } ∷ []) h) [
       | inl o ↦ old x o
       | inr i ↦ elim i [
         | inl same ↦ subst (λ (y : Call). IsMessage ms y.number y.site (messages.Close k)) (sym same)
@@ -146,7 +133,7 @@ pub asks_sent : (decl : Declaration) (w : State) (ms : List Envelope) (a n : ℕ
     → AtNumber ms a n (map (ask_of decl) ts) → (q : Question) → In q (number_all (done ++ rest) n ts)
     → QuestionMirrors decl w ms q
 asks_sent decl w ms a n [] done rest begins old new at q among =
-    elim (in_split q done rest among) [ inl h ↦ (old q h).1 | inr h ↦ (new q h).1 ]
+    elim (In-either q done rest among) [ inl h ↦ (old q h).1 | inr h ↦ (new q h).1 ]
 asks_sent decl w ms a n (t ∷ ts) done [] begins old new at q among = absurd begins
 asks_sent decl w ms a n (t ∷ ts) done (x ∷ rest) begins old new at q among =
     asks_sent decl w ms a (n + 1) ts (done ++ record x { number = Some n } ∷ []) rest begins.1 olds
@@ -156,7 +143,7 @@ asks_sent decl w ms a n (t ∷ ts) done (x ∷ rest) begins old new at q among =
   where
     olds : (y : Question) → In y (done ++ record x { number = Some n } ∷ [])
         → (is_none y.number ≡ false) × QuestionMirrors decl w ms y
-    olds y h = elim (in_split y done (record x { number = Some n } ∷ []) h) [
+    olds y h = elim (In-either y done (record x { number = Some n } ∷ []) h) [
       | inl o ↦ old y o
       | inr i ↦ elim i [
         | inl same ↦ subst (λ (z : Question). (is_none z.number ≡ false) × QuestionMirrors decl w ms z) (sym same) (

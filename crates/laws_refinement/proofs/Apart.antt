@@ -6,10 +6,9 @@ use Rattle.std.specs.declared.cmp.Ordering.{Ordering}
 use Rattle.std.specs.declared.cmp.Ordering.TheVariants.{Less, Equal, Greater}
 use Rattle.qc_stamp.specs.declared.stamp.TxId.{TxId}
 use Rattle.qc_stamp.specs.Vocabulary.{same_tx, tx_cmp}
-use Rattle.qc_stamp.proofs.Orders.{other_tx_sym, same_tx_is, transactions_are_ordered}
+use Rattle.qc_stamp.proofs.Orders.{other_tx_sym, same_tx_is, transactions_are_ordered, same_tx_test}
 use Rattle.qc_list.specs.Vocabulary.{In, by_order, inserted}
 use Rattle.qc_entry.specs.declared.record.Prepared.{Prepared}
-use Rattle.theory_machine.proofs.Names.{tx_test}
 use Rattle.qc_site.specs.Vocabulary.{is_prepared, prepared_of, promise_cmp, promises_in_order, without_prepared}
 use Rattle.laws_refinement.specs.Vocabulary.{AreApart, IsApart}
 
@@ -64,7 +63,7 @@ aparts_dropped tx (p ∷ ps) a = by (same_tx p.tx tx) (aparts_dropped tx ps a.1)
 pub apart_found : (p : Prepared) (ps : List Prepared) → AreApart ps → In p ps → prepared_of ps p.tx ≡ Some p
 apart_found p [] a h = absurd h
 apart_found p (q ∷ qs) a (inl same) = subst (λ (x : Prepared). prepared_of (q ∷ qs) x.tx ≡ Some x) (sym same)
-    (rw (tx_test q.tx q.tx refl) refl)
+    (rw (same_tx_test q.tx q.tx refl) refl)
 apart_found p (q ∷ qs) a (inr h) = rw (other qs a.0 h) (apart_found p qs a.1 h)
   where
     other : (xs : List Prepared) → IsApart q.tx xs → In p xs → same_tx q.tx p.tx ≡ false
@@ -142,7 +141,8 @@ insert_found p (x ∷ xs) t a = by (tx_cmp p.tx x.tx) refl (insert_found p xs t 
         (cond (same_tx p.tx t) (Some p) None)
     by Less is rest = here (same_tx p.tx t) refl
     by Equal is rest = absurd (let same : same_tx x.tx p.tx ≡ true =
-        tx_test x.tx p.tx (sym (transactions_are_ordered.apart p.tx x.tx is)) in let other : same_tx x.tx p.tx ≡ false =
+        same_tx_test x.tx p.tx (sym (transactions_are_ordered.apart p.tx x.tx is)) in let other : same_tx x.tx p.tx
+        ≡ false =
         a.0 in
         let never : ⊥ = cc in never)
     by Greater is rest = ap (λ (o : Option Prepared). cond (same_tx x.tx t) (Some x) o) rest

@@ -3,7 +3,7 @@ use Rattle.std.proofs.Common.{◌≡◌, ℕ, true, inl, inr, List, [], ◌∷�
 use Rattle.std.proofs.Common.{subst}
 use Rattle.qc_stamp.specs.declared.stamp.TxId.{TxId}
 use Rattle.qc_list.specs.Vocabulary.{In}
-use Rattle.qc_list.proofs.Members.{In-second}
+use Rattle.qc_list.proofs.Members.{In-second, In-map}
 use Rattle.qc_plan.specs.Vocabulary.{RoundState, note, verdict}
 use Rattle.qc_plan.specs.declared.standing.Standing.{Standing}
 use Rattle.qc_plan.specs.declared.standing.Standing.TheVariants as standings
@@ -15,7 +15,6 @@ use Rattle.qc_msg.specs.declared.message.Answer.TheVariants as answers
 use Rattle.qc_msg.specs.declared.message.Want.{Want}
 use Rattle.qc_msg.specs.declared.payload.Grant.{Grant}
 use Rattle.qc_msg.specs.Vocabulary.{life_of, site_called, with_life, without_call}
-use Rattle.theory_onecopy.proofs.Lists.{in_map}
 use Rattle.theory_machine.specs.Vocabulary.{Act, Count, IsRun, Item, Own, state}
 use Rattle.qc_front.specs.declared.doing.Doing.{Doing}
 use Rattle.qc_front.specs.declared.doing.Doing.TheVariants.{Appending}
@@ -168,7 +167,7 @@ module _ (decl : Declaration) where
               its = g.its;
               from = g.by;
               has = subst (λ (xs : List Item). In (Own (next_own t object event)) xs) (sym g.items_are)
-                  (in_map own_item (next_own t object event) (own_appended decl t object event)
+                  (In-map own_item (next_own t object event) (own_appended decl t object event)
                   (In-second (next_own t object event) (filter (weighs decl t.begun.epoch object) t.own)
                   (next_own t object event ∷ []) (inl refl)));
             }))

@@ -7,9 +7,8 @@ use Rattle.qc_stamp.specs.declared.stamp.TxId.{TxId}
 use Rattle.qc_stamp.specs.Vocabulary.{same_tx}
 use Rattle.qc_stamp.proofs.Orders.{same_tx_is}
 use Rattle.qc_list.specs.Vocabulary.{In}
-use Rattle.qc_list.proofs.Members.{In-first, In-second}
+use Rattle.qc_list.proofs.Members.{In-first, In-second, In-either}
 use Rattle.qc_entry.specs.declared.record.Prepared.{Prepared}
-use Rattle.theory_onecopy.proofs.Lists.{in_split}
 use Rattle.qc_plan.specs.declared.standing.Asked.{Asked}
 use Rattle.qc_msg.specs.declared.call.Call.{Call}
 use Rattle.qc_msg.specs.Vocabulary.{site_called}
@@ -111,7 +110,7 @@ one_new ss s p qs among has old q = by (is_questioned qs p.tx)
     by : (b : Bool) → In q (cond b qs (qs ++ record { tx = p.tx; site = s.site; number = None; taken = None } ∷ []))
         → IsNew ss q
     by true h = old q h
-    by false h = elim (in_split q qs _ h) [
+    by false h = elim (In-either q qs _ h) [
       | inl k ↦ old q k
       | inr k ↦ elim k [
         | inl same ↦ subst (λ (y : Question). IsNew ss y) (sym same) (refl, refl, (s, p, among, has, refl))
@@ -163,7 +162,7 @@ told_found (x ∷ ss) site t = by (x.site == site) refl (told_found ss site)
 
 pub order_among : (asked : List Asked) (ss : List ShutSite) (s : ShutSite) → In s (in_asked_order asked ss) → In s ss
 order_among [] ss s h = absurd h
-order_among (a ∷ asked) ss s h = elim (in_split s (shut_list (shut_at ss a.site)) (in_asked_order asked ss) h) [
+order_among (a ∷ asked) ss s h = elim (In-either s (shut_list (shut_at ss a.site)) (in_asked_order asked ss) h) [
   | inl k ↦ by (shut_at ss a.site) refl k
   | inr k ↦ order_among asked ss s k
 ]

@@ -1,17 +1,16 @@
 -- The machine's acts in a client's turn: those of an operation.
-use Rattle.std.proofs.Common.{◌≡◌, ◌<◌, ℕ, suc, ◌==◌, ◌&&◌, ◌+◌, nat_lt, Bool, true, false, ◌⊎◌, inl, inr, List, []}
-use Rattle.std.proofs.Common.{◌∷◌, ◌++◌, map, filter, length, Option, Some, None, refl, sym, ap, ◌∙◌, subst, eqb-true}
-use Rattle.std.proofs.Common.{arith}
+use Rattle.std.proofs.Common.{◌≡◌, ◌<◌, ℕ, suc, ◌==◌, ◌&&◌, ◌+◌, nat_lt, true, ◌⊎◌, inl, inr, List, [], ◌∷◌, ◌++◌, map}
+use Rattle.std.proofs.Common.{filter, length, Option, Some, None, refl, sym, ap, ◌∙◌, subst, eqb-true, arith}
 use Rattle.std.proofs.lemmas.Bool.{lt-ltb}
 use Rattle.qc_list.specs.Vocabulary.{In}
-use Rattle.qc_list.proofs.Members.{In-filter, In-first, In-passes, In-unfiltered}
+use Rattle.qc_list.proofs.Members.{In-filter, In-first, In-passes, In-unfiltered, In-either, In-map}
 use Rattle.qc_entry.specs.declared.line.Op.{Op}
 use Rattle.qc_entry.specs.declared.line.OwnLine.{OwnLine}
 use Rattle.qc_table.specs.declared.kind.Kind.{Kind}
 use Rattle.qc_decl.specs.declared.declaration.Declaration.{Declaration}
 use Rattle.qc_decl.specs.Vocabulary.{append_need_of, read_need_of}
 use Rattle.theory_onecopy.specs.Vocabulary.{IsAnswered}
-use Rattle.theory_onecopy.proofs.Lists.{Mapped, in_map, in_split, map_in}
+use Rattle.theory_onecopy.proofs.Lists.{Mapped, map_in}
 use Rattle.theory_machine.specs.Vocabulary.{Act, Active, Choose, Count, Execute, ExecuteAbsent, Granted, HasQuorum}
 use Rattle.theory_machine.specs.Vocabulary.{IsAppendOf, IsExecutedFrom, Lock, Own, SendAppend, State, chosen_list}
 use Rattle.theory_machine.specs.Vocabulary.{op_of, state}
@@ -21,10 +20,7 @@ use Rattle.qc_client.specs.declared.client.Client.{Client}
 use Rattle.laws_refinement.specs.Vocabulary.{IsNamedAt, absent_of, append_of, chosen_of, own_item}
 use Rattle.laws_refinement.proofs.ClientSteps.{Core, Mid, elsewhere, mid_more, mine}
 use Rattle.laws_refinement.proofs.Machine.{put_other}
-
-both_first : (x y : Bool) → (x && y) ≡ true → x ≡ true
-both_first true y h = refl
-both_first false y h = h
+use Rattle.qc_list.proofs.Booleans.{and_first}
 
 length_of : {A B : Type 0} (f : A → B) (xs : List A) → length (map f xs) ≡ length xs
 length_of f [] = refl
@@ -35,11 +31,11 @@ module _ (decl : Declaration) where
 
   pub appended_own : (t : Transaction) (object event : ℕ) (o : OwnLine) → In o (own_appended decl t object event)
       → (o ≡ next_own t object event) ⊎ In o (own_on t.own object)
-  appended_own t object event o h = elim (in_split o (filter (weighs decl t.begun.epoch object) t.own)
+  appended_own t object event o h = elim (In-either o (filter (weighs decl t.begun.epoch object) t.own)
       (next_own t object event ∷ []) h) [
         | inl old ↦ inr (In-filter (λ (l : OwnLine). l.object == object) o t.own
             (In-unfiltered (weighs decl t.begun.epoch object) o t.own old)
-            (both_first (o.object == object) (nat_lt 0 (append_need_of decl t.begun.epoch object o.event))
+            (and_first (o.object == object) (nat_lt 0 (append_need_of decl t.begun.epoch object o.event))
             (In-passes (weighs decl t.begun.epoch object) o t.own old)))
         | inr new ↦ elim new [ inl same ↦ inl same | inr never ↦ absurd never ]
       ]
@@ -58,7 +54,7 @@ module _ (decl : Declaration) where
     items = λ x among. (let r : Mapped own_item x (own_appended decl t object event) =
         map_in own_item x (own_appended decl t object event) among in
         (r.from, r.is, appended_own t object event r.from r.listed));
-    whole = λ o among heavy. in_map own_item o (own_appended decl t object event)
+    whole = λ o among heavy. In-map own_item o (own_appended decl t object event)
         (In-first o (filter (weighs decl t.begun.epoch object) t.own) (next_own t object event ∷ [])
         (In-filter (weighs decl t.begun.epoch object) o t.own
         (In-unfiltered (λ (l : OwnLine). l.object == object) o t.own among) (test o among heavy)));

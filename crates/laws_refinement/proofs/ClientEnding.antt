@@ -3,7 +3,7 @@ use Rattle.std.proofs.Common.{◌≡◌, ◌≢◌, ◌≤◌, ◌<◌, ℕ, Boo
 use Rattle.std.proofs.Common.{refl, sym, ap, ◌∙◌, subst, arith}
 use Rattle.qc_stamp.specs.Vocabulary.{same_tx}
 use Rattle.qc_stamp.specs.declared.stamp.TxId.{TxId}
-use Rattle.qc_stamp.proofs.Orders.{same_tx_is}
+use Rattle.qc_stamp.proofs.Orders.{same_tx_is, same_tx_test}
 use Rattle.qc_list.specs.Vocabulary.{In}
 use Rattle.qc_entry.specs.declared.record.Commit.{Commit as CommitRecord}
 use Rattle.qc_plan.specs.declared.plan.Plan.{Plan}
@@ -12,7 +12,7 @@ use Rattle.qc_decl.specs.Vocabulary.{client_actor, plan_in}
 use Rattle.qc_msg.specs.declared.message.Envelope.{Envelope}
 use Rattle.theory_machine.specs.Vocabulary.{Abort, Aborted, Act, Active, Announce, Begin, Commit, Committed, IsLive}
 use Rattle.theory_machine.specs.Vocabulary.{MayCommit, NotBegun, Pending, Prepare, State, Status, Voting, put_tx, state}
-use Rattle.theory_machine.proofs.Names.{put_tx_here, tx_test}
+use Rattle.theory_machine.proofs.Names.{put_tx_here}
 use Rattle.qc_commit.specs.declared.desk.Voting.{Voting as DeskVoting}
 use Rattle.qc_commit.specs.Vocabulary.{record_of}
 use Rattle.qc_front.specs.declared.transaction.Transaction.{Transaction}
@@ -124,7 +124,7 @@ module _ (decl : Declaration) where
           let stays : v.status u ≡ w.status u =
           ap (λ (g : TxId → Status). g u) status
           ∙ put_tx_other w.status t.begun.tx s u
-          (λ same. (let k : same_tx t.begun.tx u ≡ true = tx_test t.begun.tx u (sym same) in
+          (λ same. (let k : same_tx t.begun.tx u ≡ true = same_tx_test t.begun.tx u (sym same) in
           let never : ⊥ = cc in never)) in
           stays ∙ e.own.aborted u (mine ∙ r.client) (λ k. born (stays ∙ k)) is (fewer u none)
 

@@ -16,7 +16,6 @@ use Rattle.qc_msg.specs.declared.message.Outcome.{Outcome}
 use Rattle.qc_msg.specs.declared.message.Outcome.TheVariants as outcomes
 use Rattle.qc_msg.specs.declared.turn.Posting.{Posting}
 use Rattle.qc_msg.specs.Vocabulary.{decisions}
-use Rattle.theory_onecopy.proofs.Lists.{in_split}
 use Rattle.theory_machine.specs.Vocabulary.{Abort, Aborted, Act, Announce, Commit, Committed, Granted, MayCommit, State}
 use Rattle.theory_machine.specs.Vocabulary.{Status, Voting, put, put_tx, state, verdict_of}
 use Rattle.theory_machine.proofs.Names.{put_here, put_tx_here}
@@ -32,6 +31,7 @@ use Rattle.laws_refinement.proofs.RequestsSent.{IsAsking}
 use Rattle.laws_refinement.proofs.ClientSteps.{Mid, Turned, turns}
 use Rattle.laws_refinement.proofs.ClientEnding.{Ending, ends_mine, Remains, own_put, mid_abort, mid_announce}
 use Rattle.laws_refinement.proofs.ClientEnding.{mid_commit}
+use Rattle.qc_list.proofs.Members.{In-either}
 
 module _ (decl : Declaration) where
   -- decisions
@@ -145,7 +145,7 @@ module _ (decl : Declaration) where
       (by_desk c (decides c.desk t.begun)).client t (Committed (commit_of (next_stamp c.desk) t.begun)) None e refl
       remains clock_is
       (λ r h.
-      elim (in_split r c.desk.commits (commit_of (next_stamp c.desk) t.begun ∷ []) h) [
+      elim (In-either r c.desk.commits (commit_of (next_stamp c.desk) t.begun ∷ []) h) [
         | inl old ↦ inl old
         | inr new ↦ elim new [
           | inl same ↦ inr (ap (λ (y : CommitRecord). y.tx) same, ap Committed (sym same))

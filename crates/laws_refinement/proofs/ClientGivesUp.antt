@@ -17,7 +17,7 @@ use Rattle.theory_onecopy.specs.Vocabulary.{Executed}
 use Rattle.theory_machine.specs.Vocabulary.{Act, Active, Begin, Committed, IsRun, NotBegun, State, op_of, own_on, state}
 use Rattle.theory_machine.proofs.Keeps.{laws}
 use Rattle.theory_machine.proofs.LogKeeps.{log_laws}
-use Rattle.theory_machine.proofs.Names.{put_tx_here, tx_test}
+use Rattle.theory_machine.proofs.Names.{put_tx_here}
 use Rattle.qc_commit.specs.declared.desk.Voting.{Voting}
 use Rattle.qc_view.specs.declared.view.View.{View}
 use Rattle.qc_view.specs.Vocabulary.{empty_view}
@@ -34,10 +34,8 @@ use Rattle.laws_refinement.proofs.ClientEnding.{Ending, ending_of, mid_begin}
 use Rattle.laws_refinement.proofs.ClientEnds.{aborts_it}
 use Rattle.laws_refinement.proofs.ClientRounds.{no_asks, no_sends, nothing}
 use Rattle.laws_refinement.proofs.ClientSteps.{mid_first, put_tx_other, refined, turns}
-
-none_in : {A : Type 0} (xs : List A) → ((x : A) → In x xs → ⊥) → xs ≡ []
-none_in [] none = refl
-none_in (x ∷ xs) none = absurd (none x (inl refl))
+use Rattle.qc_list.proofs.Members.{In-none}
+use Rattle.qc_stamp.proofs.Orders.{same_tx_test}
 
 empty_log : (n object : ℕ) → option_map_or (λ (v : View). v.log) (slice_get (replicate n empty_view) object) [] ≡ []
 empty_log zero object = refl
@@ -132,7 +130,7 @@ module _ (decl : Declaration) (acts : List Act) (net : Net) (a : ℕ) (run : IsR
               );
           aborted = λ t its born other none.
               (let apart : t ≡ tx → ⊥ =
-              (λ e. (let s : same_tx tx t ≡ true = tx_test tx t (sym e) in let never : ⊥ = cc in never)) in
+              (λ e. (let s : same_tx tx t ≡ true = same_tx_test tx t (sym e) in let never : ⊥ = cc in never)) in
               put_tx_other w.status tx Active t apart
               ∙ own.aborted t its (λ e. born (put_tx_other w.status tx Active t apart ∙ e))
               (subst (λ (x : Option Transaction). is_begun t x ≡ false) (sym is) refl) none);
@@ -197,7 +195,7 @@ module _ (decl : Declaration) (acts : List Act) (net : Net) (a : ℕ) (run : IsR
 
       no_operations : (state acts).executed (next_tx (net.clients a).front) ≡ []
       no_operations =
-          none_in ((state acts).executed (next_tx (net.clients a).front))
+          In-none ((state acts).executed (next_tx (net.clients a).front))
           (λ d among. (log_laws decl accepted acts run).begun (next_tx (net.clients a).front) d (inl among) fresh_tx)
 
       nothing_chosen : (state acts).chosen (next_tx (net.clients a).front) ≡ None

@@ -6,7 +6,7 @@ use Rattle.std.proofs.lemmas.List.{append-nil}
 use Rattle.qc_stamp.specs.declared.stamp.TxId.{TxId}
 use Rattle.qc_stamp.specs.Vocabulary.{same_tx}
 use Rattle.qc_list.specs.Vocabulary.{In}
-use Rattle.qc_list.proofs.Members.{In-first, In-second, In-unfiltered}
+use Rattle.qc_list.proofs.Members.{In-first, In-second, In-unfiltered, In-either}
 use Rattle.qc_entry.specs.declared.record.Commit.{Commit as CommitRecord}
 use Rattle.qc_decl.specs.declared.declaration.Declaration.{Declaration}
 use Rattle.qc_decl.specs.Vocabulary.{administrator, is_client}
@@ -17,7 +17,6 @@ use Rattle.qc_msg.specs.declared.message.Want.TheVariants.{Read, Append, Prepare
 use Rattle.qc_msg.specs.declared.record.Record.{Record}
 use Rattle.qc_msg.specs.declared.record.Record.TheVariants as records
 use Rattle.qc_msg.specs.declared.turn.Posting.{Posting}
-use Rattle.theory_onecopy.proofs.Lists.{in_split}
 use Rattle.theory_machine.specs.Vocabulary.{put}
 use Rattle.theory_machine.proofs.Names.{put_here}
 use Rattle.qc_commit.specs.declared.desk.Voting.{Voting}
@@ -34,8 +33,8 @@ use Rattle.laws_refinement.specs.Net as nets
 use Rattle.laws_refinement.proofs.ClientRecords.{client_kept_more, found_with}
 use Rattle.laws_refinement.proofs.Kepts.{no_client, no_ruling}
 use Rattle.laws_refinement.proofs.Machine.{put_other}
-use Rattle.laws_refinement.proofs.SiteNets.{place}
 use Rattle.laws_refinement.proofs.ClientTurnsKeep.{IsKept, Keeping, take_keeps, nothing, commits_one}
+use Rattle.laws_refinement.proofs.Lives.{same_or}
 
 module _ (decl : Declaration) where
   -- numbers of messages change neither
@@ -96,7 +95,7 @@ module _ (decl : Declaration) where
           subst (λ (x : Kept). IsClientKeptBy d x) (sym (client_kept_more rs (records.Commit r))) (record {
             life = life ∙ k.life ∙ m.life;
             commits = λ x among. subst (λ (cs : List CommitRecord). In x cs) (sym (same ∙ more))
-                (elim (in_split x (filter (λ (y : CommitRecord). not (same_tx y.tx r.tx)) (kept_by rs).commits)
+                (elim (In-either x (filter (λ (y : CommitRecord). not (same_tx y.tx r.tx)) (kept_by rs).commits)
                 (r ∷ []) among) [
                   | inl old ↦
                       In-first x c.desk.commits (r ∷ [])
@@ -117,7 +116,7 @@ module _ (decl : Declaration) where
       → ((b : ℕ) → is_client decl b ≡ true → net.up b ≡ true → IsClientKeptBy (net.clients b) (kept_by (net.records b)))
       → (b : ℕ) → is_client decl b ≡ true → next.up b ≡ true
       → IsClientKeptBy (next.clients b) (kept_by (next.records b))
-  at_one net next a others here old b is u = elim (place b a) [
+  at_one net next a others here old b is u = elim (same_or b a) [
     | inl e ↦
         subst (λ (x : ℕ). IsClientKeptBy (next.clients x) (kept_by (next.records x))) (sym e)
         (here (subst (λ (x : ℕ). next.up x ≡ true) e u))

@@ -3,9 +3,8 @@ use Rattle.std.proofs.Common.{[], ◌≡◌, ◌≢◌, ℕ, ◌==◌, ◌+◌, 
 use Rattle.std.proofs.Common.{Some, None, slice_get, refl, sym, ap, ◌∙◌, subst, eq-eqb, eqb-true}
 use Rattle.qc_stamp.specs.declared.stamp.TxId.{TxId}
 use Rattle.qc_list.specs.Vocabulary.{In}
-use Rattle.qc_list.proofs.Members.{In-first, In-second}
+use Rattle.qc_list.proofs.Members.{In-first, In-second, In-either}
 use Rattle.qc_entry.specs.declared.record.Commit.{Commit as CommitRecord}
-use Rattle.theory_onecopy.proofs.Lists.{in_split}
 use Rattle.qc_decl.specs.declared.declaration.Declaration.{Declaration}
 use Rattle.qc_decl.specs.Vocabulary.{client_actor, is_client}
 use Rattle.qc_msg.specs.declared.message.Envelope.{Envelope}
@@ -210,12 +209,12 @@ module _ (decl : Declaration) where
       })
       (record {
         records = λ c among. subst (λ (cs : List CommitRecord). In c cs) (sym g.records)
-            (elim (in_split c net.written (commits_in move.turn.write) among) [
+            (elim (In-either c net.written (commits_in move.turn.write) among) [
               | inl old ↦ In-second c (commits_in move.turn.write) w.records (m.records c old)
               | inr new ↦ In-first c (commits_in move.turn.write) w.records new
             ]);
         written =
-            λ c among. elim (in_split c (commits_in move.turn.write) w.records
+            λ c among. elim (In-either c (commits_in move.turn.write) w.records
             (subst (λ (cs : List CommitRecord). In c cs) g.records among)) [
               | inl new ↦ In-second c net.written (commits_in move.turn.write) new
               | inr old ↦ In-first c net.written (commits_in move.turn.write) (m.written c old)

@@ -1,17 +1,15 @@
 -- What a client's records give, with one more: its commit records, and a clock that has passed their stamps.
 use Rattle.std.proofs.Common.{◌≡◌, ◌≤◌, not, Bool, true, false, cond, ◌⊎◌, inl, inr, List, [], ◌∷◌, ◌++◌, Option, Some}
-use Rattle.std.specs.Option.{option_map_or}
 use Rattle.std.proofs.Common.{◌+◌, max, None, filter, fold, refl, sym, ap, ◌∙◌, subst, arith}
+use Rattle.std.specs.Option.{option_map_or}
 use Rattle.qc_stamp.specs.declared.stamp.TxId.{TxId}
 use Rattle.qc_stamp.specs.Vocabulary.{same_tx}
-use Rattle.qc_stamp.proofs.Orders.{same_tx_is}
+use Rattle.qc_stamp.proofs.Orders.{same_tx_is, same_tx_test}
 use Rattle.qc_list.specs.Vocabulary.{In}
-use Rattle.qc_list.proofs.Members.{In-unfiltered}
+use Rattle.qc_list.proofs.Members.{In-unfiltered, In-either}
 use Rattle.qc_entry.specs.declared.record.Commit.{Commit as CommitRecord}
 use Rattle.qc_msg.specs.declared.record.Record.{Record}
 use Rattle.qc_msg.specs.Vocabulary.{commit_of, is_life}
-use Rattle.theory_onecopy.proofs.Lists.{in_split}
-use Rattle.theory_machine.proofs.Names.{tx_test}
 use Rattle.qc_commit.specs.Vocabulary.{record_of}
 use Rattle.qc_recover.specs.Vocabulary.{with_commit}
 use Rattle.qc_recover.specs.Clients.{Kept, keeps, kept_by, nothing_kept}
@@ -37,7 +35,7 @@ passes_one k r p = by (is_life r) (commit_of r)
         → In x (filter (λ (y : CommitRecord). not (same_tx y.tx c.tx)) k.commits ++ c ∷ [])
         → x.stamp.clock ≤ max k.clock c.stamp.clock
     with_it c x among = elim
-        (in_split x (filter (λ (y : CommitRecord). not (same_tx y.tx c.tx)) k.commits) (c ∷ []) among) [
+        (In-either x (filter (λ (y : CommitRecord). not (same_tx y.tx c.tx)) k.commits) (c ∷ []) among) [
           | inl old ↦ (let l : x.stamp.clock ≤ k.clock =
               p x (In-unfiltered (λ (y : CommitRecord). not (same_tx y.tx c.tx)) x k.commits old) in omega arith)
           | inr new ↦ elim new [
@@ -79,7 +77,8 @@ found_with (x ∷ xs) c t none = by (same_tx x.tx c.tx) (same_tx x.tx t) refl re
         → (cond d (Some x) (record_of xs t) ≡ None) × (same_tx c.tx t ≡ false)
     by true true is at e rest =
         let r : (record_of xs t ≡ None) × (same_tx c.tx t ≡ false) = rest e in
-        absurd (let k : same_tx c.tx t ≡ true = tx_test c.tx t (sym (same_tx_is x.tx c.tx is) ∙ same_tx_is x.tx t at) in
+        absurd (let k : same_tx c.tx t ≡ true =
+        same_tx_test c.tx t (sym (same_tx_is x.tx c.tx is) ∙ same_tx_is x.tx t at) in
         let never : ⊥ = cc in never)
     by true false is at e rest = rest e
     by false true is at e rest =

@@ -5,13 +5,12 @@ use Rattle.std.proofs.Common.{None, refl, sym, ap, ◌∙◌, subst, arith}
 use Rattle.std.proofs.lemmas.List.{append-nil}
 use Rattle.qc_stamp.specs.declared.stamp.TxId.{TxId}
 use Rattle.qc_list.specs.Vocabulary.{In}
-use Rattle.qc_list.proofs.Members.{In-first, In-second}
+use Rattle.qc_list.proofs.Members.{In-first, In-second, In-either}
 use Rattle.qc_entry.specs.declared.record.Commit.{Commit as CommitRecord}
 use Rattle.qc_decl.specs.declared.declaration.Declaration.{Declaration}
 use Rattle.qc_decl.specs.Vocabulary.{client_actor, is_client}
 use Rattle.qc_msg.specs.declared.record.Record.{Record}
 use Rattle.qc_msg.specs.declared.record.Record.TheVariants as records
-use Rattle.theory_onecopy.proofs.Lists.{in_split}
 use Rattle.theory_machine.specs.Vocabulary.{Aborted, Act, Active, Committed, HasRecord, IsLive, IsRun, NotBegun}
 use Rattle.theory_machine.specs.Vocabulary.{Pending, RiseClient, State, Status, Voting, put, state}
 use Rattle.theory_machine.proofs.Keeps.{laws}
@@ -25,11 +24,11 @@ use Rattle.laws_refinement.specs.Vocabulary.{after_client_rise, after_vain_rise,
 use Rattle.laws_refinement.proofs.ClientSteps.{Mid, mid_more}
 use Rattle.laws_refinement.proofs.Kepts.{client_place}
 use Rattle.laws_refinement.proofs.Machine.{put_other}
-use Rattle.laws_refinement.proofs.SiteNets.{place}
 use Rattle.laws_refinement.proofs.Nets.{Settles, client_net}
 use Rattle.laws_refinement.proofs.ClientRecords.{client_kept_more, find_some}
 use Rattle.laws_refinement.proofs.ClientFalls.{at_client}
 use Rattle.laws_refinement.proofs.PendingStood as pending
+use Rattle.laws_refinement.proofs.Lives.{same_or}
 
 module _ (decl : Declaration) (planned : IsPlanned decl 1) where
   module _ (net : Net) (h : Refines decl net) (a : ℕ) (client : is_client decl a ≡ true) where
@@ -48,17 +47,17 @@ module _ (decl : Declaration) (planned : IsPlanned decl 1) where
           → (state acts).status t ≡ (state h.acts).status t) → Settles decl (state acts) next
       settles acts run next same records others = record {
         records = λ r among. subst (λ (rs : List CommitRecord). In r rs) (sym records)
-            (elim (in_split r net.written (commits_in back) (subst (λ (rs : List CommitRecord). In r rs) same among)) [
+            (elim (In-either r net.written (commits_in back) (subst (λ (rs : List CommitRecord). In r rs) same among)) [
               | inl old ↦ In-second r (commits_in back) (state h.acts).records (h.agrees.records r old)
               | inr new ↦ In-first r (commits_in back) (state h.acts).records new
             ]);
         written = λ r among. subst (λ (rs : List CommitRecord). In r rs) (sym same)
-            (elim (in_split r (commits_in back) (state h.acts).records
+            (elim (In-either r (commits_in back) (state h.acts).records
             (subst (λ (rs : List CommitRecord). In r rs) records among)) [
               | inl new ↦ In-second r net.written (commits_in back) new
               | inr old ↦ In-first r net.written (commits_in back) (h.agrees.written r old)
             ]);
-        of_client = λ r among. of_client r among (place r.tx.client (a - decl.sites));
+        of_client = λ r among. of_client r among (same_or r.tx.client (a - decl.sites));
         settled = (laws decl acts run).writes;
       }
         where

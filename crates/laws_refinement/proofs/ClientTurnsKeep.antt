@@ -1,6 +1,6 @@
 -- A client's turn writes nothing, or one commit record that its desk then has.
-use Rattle.std.proofs.Common.{[], ◌≡◌, ℕ, ◌==◌, Bool, true, false, cond, List, ◌∷◌, ◌++◌, Option, Some, None}
-use Rattle.std.proofs.Common.{is_some, length, map, refl, sym, subst}
+use Rattle.std.proofs.Common.{[], ◌≡◌, ℕ, ◌==◌, Bool, true, false, cond, List, ◌∷◌, ◌++◌, Option, Some, None, is_some}
+use Rattle.std.proofs.Common.{length, map, refl, sym, subst}
 use Rattle.qc_entry.specs.declared.record.Commit.{Commit as CommitRecord}
 use Rattle.qc_decl.specs.declared.declaration.Declaration.{Declaration}
 use Rattle.qc_msg.specs.declared.begun.Begun.{Begun}
@@ -26,7 +26,8 @@ use Rattle.qc_front.specs.Vocabulary.{FrontMove, ended}
 use Rattle.qc_client.specs.Vocabulary.{ClientMove, answered_by, by_desk, by_front, called, client_takes, commits, heard}
 use Rattle.qc_client.specs.declared.client.Client.{Client}
 use Rattle.qc_front.proofs.Unwritten.{IsCalm, front_called, front_takes}
-use Rattle.laws_refinement.proofs.ClientCases.{called_cases, heard_cases}
+use Rattle.laws_refinement.proofs.ClientCases.{called_cases}
+use Rattle.qc_client.proofs.HeardCases.{heard_cases}
 
 -- a turn writes nothing, or one commit record that its desk then has
 pub data IsKept (before after : List CommitRecord) : Option Record → Type 0 where

@@ -8,7 +8,6 @@ use Rattle.qc_entry.specs.declared.line.Line.{Line}
 use Rattle.qc_entry.specs.declared.record.Prepared.{Prepared}
 use Rattle.qc_decl.specs.declared.declaration.Declaration.{Declaration}
 use Rattle.qc_decl.specs.Vocabulary.{IsAccepted, is_site}
-use Rattle.theory_onecopy.proofs.Lists.{in_split}
 use Rattle.qc_entry.specs.declared.line.OwnLine.{OwnLine}
 use Rattle.qc_lock.specs.Vocabulary.{is_held}
 use Rattle.qc_msg.specs.declared.message.Answer.TheVariants as answers
@@ -27,13 +26,15 @@ use Rattle.laws_refinement.proofs.Apart.{order_apart, order_found}
 use Rattle.qc_recover.specs.Vocabulary.{Kept, kept_by}
 use Rattle.laws_refinement.proofs.KeptLists.{kept_more}
 use Rattle.laws_refinement.proofs.KeptSteps.{kept_closes}
-use Rattle.laws_refinement.proofs.Machine.{done_last, epoch_after, put_other, shut_after, single_more, site_more}
+use Rattle.laws_refinement.proofs.Machine.{done_last, put_other, single_more, site_more}
 use Rattle.laws_refinement.proofs.Nets.{site_goes}
 use Rattle.laws_refinement.proofs.SiteGrants.{says}
 use Rattle.laws_refinement.proofs.SiteSteps.{one_answer}
 use Rattle.laws_refinement.proofs.HeldByPromises.{by_promises_held, by_promises_holder, by_promises_owned}
 use Rattle.laws_refinement.proofs.Known.{known_ascends}
 use Rattle.laws_refinement.proofs.ClosedAlready.{again, epoch_kept, in_ordered, promised_begun, snap}
+use Rattle.theory_machine.proofs.Epochs.{epoch-append, shut-append}
+use Rattle.qc_list.proofs.Members.{In-either}
 
 module _ (decl : Declaration) (accepted : IsAccepted decl) (acts : List Act) (net : Net) (a : ℕ) (run : IsRun decl acts)
     (m : Mirrors decl (state acts) net) (site : is_site decl a ≡ true) (up : net.up a ≡ true) where
@@ -160,7 +161,7 @@ module _ (decl : Declaration) (accepted : IsAccepted decl) (acts : List Act) (ne
       k0 = site_after ((state acts).deeds a)
 
       shut : shut_from false more ≡ true
-      shut = shut_after ((state acts).deeds a) (Closes ∷ []) false
+      shut = shut-append ((state acts).deeds a) (Closes ∷ []) false
 
       passes : (x : DoneRecord) → In x (done_records empty_site ((state acts).deeds a ++ Closes ∷ []))
           → x.stamp.clock ≤ (net.sites a).clock
@@ -170,7 +171,7 @@ module _ (decl : Declaration) (accepted : IsAccepted decl) (acts : List Act) (ne
 
       passes_installs : (n c : ℕ) (log : List Line) → In (Installs n c log) ((state acts).deeds a ++ Closes ∷ [])
           → c ≤ (net.sites a).clock
-      passes_installs n c log among = elim (in_split (Installs n c log) ((state acts).deeds a) (Closes ∷ []) among) [
+      passes_installs n c log among = elim (In-either (Installs n c log) ((state acts).deeds a) (Closes ∷ []) among) [
         | inl old ↦ ms.installs n c log old
         | inr new ↦ elim new [ inl same ↦ absurd (let never : ⊥ = cc in never) | inr never ↦ absurd never ]
       ]
@@ -197,7 +198,7 @@ module _ (decl : Declaration) (accepted : IsAccepted decl) (acts : List Act) (ne
       here = record {
         life = (let e : (net.sites a).life ≡ (state acts).life a = ms.life in omega arith);
         some = omega arith;
-        epoch = epoch_after ((state acts).deeds a) (Closes ∷ []) 1 ∙ ms.epoch;
+        epoch = epoch-append ((state acts).deeds a) (Closes ∷ []) 1 ∙ ms.epoch;
         planned = ms.planned;
         shut = shut;
         closing = (next, planned);

@@ -4,7 +4,7 @@ use Rattle.std.proofs.Common.{None, refl, sym, ap, ◌∙◌, subst, eq-eqb, eqb
 use Rattle.qc_stamp.specs.declared.stamp.TxId.{TxId}
 use Rattle.qc_stamp.specs.Vocabulary.{same_tx}
 use Rattle.qc_list.specs.Vocabulary.{In}
-use Rattle.qc_list.proofs.Members.{In-filter, In-first, In-passes, In-second, In-unfiltered}
+use Rattle.qc_list.proofs.Members.{In-filter, In-first, In-passes, In-second, In-unfiltered, In-map}
 use Rattle.qc_entry.specs.declared.line.Line.{Line}
 use Rattle.qc_entry.specs.declared.line.OwnLine.{OwnLine}
 use Rattle.qc_entry.specs.declared.line.ReadLock.{ReadLock}
@@ -18,7 +18,7 @@ use Rattle.qc_lock.specs.Vocabulary.{append_clash, held_of, read_clash, with_hel
 use Rattle.qc_msg.specs.declared.message.Want.{Want}
 use Rattle.qc_msg.specs.declared.message.Want.TheVariants.{Read, Append, Prepare}
 use Rattle.theory_onecopy.specs.Vocabulary.{depends_at}
-use Rattle.theory_onecopy.proofs.Lists.{Mapped, in_map, map_in}
+use Rattle.theory_onecopy.proofs.Lists.{Mapped, map_in}
 use Rattle.theory_machine.specs.Vocabulary.{Act, Conflict, Deed, Grant, Grants, IsRun, Item, Lock, NotBegun, Own, Site}
 use Rattle.theory_machine.specs.Vocabulary.{each_held, items_of, site_after, state}
 use Rattle.theory_machine.proofs.Holdings.{held_lines_are_one_an_operation}
@@ -196,7 +196,7 @@ module _ (decl : Declaration) (accepted : IsAccepted decl) (acts : List Act) (ne
           (subst (λ (y : Item). In y (items_of t (site_after ((state acts).deeds a)).held)) is among))) one)
           (ms.held t x among)) new
           (λ t o h. elim (given_back (net.sites a).held tx t [] own o h)
-          [ inl old ↦ inl old | inr given ↦ inr (given.0, in_map own_item o own given.1) ]) passes
+          [ inl old ↦ inl old | inr given ↦ inr (given.0, In-map own_item o own given.1) ]) passes
           (λ l h. learned_in l (net.sites a).began (net.sites a).log view (inr h))
           (λ l h. learned_in l (net.sites a).began (net.sites a).log view (inl h))
           (λ l h. learned_from l (net.sites a).began (net.sites a).log view h)
@@ -240,14 +240,14 @@ module _ (decl : Declaration) (accepted : IsAccepted decl) (acts : List Act) (ne
               ⊎ In (Own x) (items_of tx (site_after ((state acts).deeds a)).held) → In l own → x.op ≡ l.op → x ≡ l
           agree x l h among same = held_lines_are_one_an_operation decl accepted
               (Grant (grant_of decl (state acts) a clock tx (own_items own) view) ∷ acts) going a tx x l (all_held x h)
-              (all_held l (inl (in_map own_item l own among))) same
+              (all_held l (inl (In-map own_item l own among))) same
 
           new : (x : Item) → In x (own_items own) → IsHeld (held_of (with_held (net.sites a).held tx [] own) tx) x
           new x among =
               let r : Mapped own_item x own = map_in own_item x own among in
               subst (λ (y : Item). IsHeld (held_of (with_held (net.sites a).held tx [] own) tx) y) (sym r.is)
               (own_given_here (net.sites a).held tx own r.from
-              (λ l one same. agree r.from l (inl (in_map own_item r.from own r.listed)) one same) r.listed)
+              (λ l one same. agree r.from l (inl (In-map own_item r.from own r.listed)) one same) r.listed)
 
       clashes : (c : Clash) → append_clash (relation_at decl object) (net.sites a).held tx own ≡ Some c
           → Continues decl acts (after_site net a (moved (record (net.sites a) { clock = clock })

@@ -1,6 +1,6 @@
 -- The participants, and the transaction, with what was granted.
 use Rattle.std.proofs.Common.{[], ◌≡◌, ◌≢◌, ◌≤◌, ℕ, ◌==◌, ◌||◌, max, Bool, true, false, cond, inr, List, ◌∷◌, ◌++◌, map}
-use Rattle.std.proofs.Common.{Option, Some, None, slice_get, refl, sym, ap, ◌∙◌, subst, eq-eqb, arith}
+use Rattle.std.proofs.Common.{Option, Some, None, slice_get, refl, sym, ap, ◌∙◌, subst, arith}
 use Rattle.std.specs.Prelude.{option_map}
 use Rattle.std.specs.Option.{option_map_or}
 use Rattle.qc_stamp.specs.declared.stamp.TxId.{TxId}
@@ -26,6 +26,7 @@ use Rattle.qc_client.specs.declared.client.Client.{Client}
 use Rattle.laws_refinement.specs.Vocabulary.{IsGrant, LivesMirror}
 use Rattle.laws_refinement.proofs.ClientSteps.{Core}
 use Rattle.laws_refinement.proofs.Recorded.{log_here, log_there, views_keep_own}
+use Rattle.laws_refinement.proofs.Lives.{has_last}
 
 -- participants
 
@@ -39,16 +40,6 @@ any_more (x ∷ xs) l site h = by (x.site == site) h (any_more xs l site)
         → (b || has_granted (xs ++ l ∷ []) site) ≡ true
     by true k rest = refl
     by false k rest = rest k
-
-any_last : (lives : List LifeAt) (site life : ℕ)
-    → has_granted (lives ++ record { site = site; life = life } ∷ []) site ≡ true
-any_last [] site life = rw (eq-eqb site site refl) refl
-any_last (x ∷ xs) site life = by (x.site == site) (any_last xs site life)
-  where
-    by : (b : Bool) → has_granted (xs ++ record { site = site; life = life } ∷ []) site ≡ true
-        → (b || has_granted (xs ++ record { site = site; life = life } ∷ []) site) ≡ true
-    by true rest = refl
-    by false rest = rest
 
 life_kept : (lives : List LifeAt) (site life other : ℕ) → has_granted lives other ≡ true
     → has_granted (with_life lives site life) other ≡ true
@@ -64,7 +55,7 @@ life_new lives site life = by (has_granted lives site) refl
     by : (b : Bool) → has_granted lives site ≡ b
         → has_granted (cond b lives (lives ++ record { site = site; life = life } ∷ [])) site ≡ true
     by true is = is
-    by false is = any_last lives site life
+    by false is = has_last lives site life
 
 -- the transaction with what was granted
 pub record IsGiven (t u : Transaction) (site life : ℕ) : Type 0 where

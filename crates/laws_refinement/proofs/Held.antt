@@ -3,10 +3,9 @@ use Rattle.std.proofs.Common.{◌≡◌, ℕ, ◌⊎◌, inl, inr, Bool, true, f
 use Rattle.std.proofs.Common.{unwrap_or, is_some, refl, sym, ap, ◌∙◌, subst}
 use Rattle.std.specs.declared.cmp.Ordering.{Ordering}
 use Rattle.std.specs.declared.cmp.Ordering.TheVariants.{Less, Equal, Greater}
-use Rattle.std.specs.Ordering.{nat_cmp}
 use Rattle.qc_stamp.specs.declared.stamp.TxId.{TxId}
 use Rattle.qc_stamp.specs.Vocabulary.{same_tx}
-use Rattle.qc_stamp.proofs.Orders.{nat_apart, first_Equal, second_Equal, same_tx_is, same_tx_itself}
+use Rattle.qc_stamp.proofs.Orders.{nat_apart, same_tx_is, same_tx_itself}
 use Rattle.qc_list.specs.Vocabulary.{In, by_order, inserted}
 use Rattle.qc_entry.specs.declared.line.OwnLine.{OwnLine}
 use Rattle.qc_entry.specs.declared.line.ReadLock.{ReadLock}
@@ -21,6 +20,7 @@ use Rattle.qc_lock.proofs.Conflicts as conflicts
 use Rattle.qc_lock.proofs.Entries.{entry-without, entry-without_other, locks_given, own_given, others_stay}
 use Rattle.theory_machine.specs.Vocabulary.{Item, Lock, Own}
 use Rattle.laws_refinement.specs.Vocabulary.{IsHeld}
+use Rattle.qc_site.proofs.Holding.{locks_more}
 
 to_among : {A : Type 0} (x : A) (xs : List A) → In x xs → IsAmong x xs
 to_among x [] h = h
@@ -34,12 +34,6 @@ from_among x (y ∷ ys) (inr h) = inr (from_among x ys h)
 
 -- locks: a new one, and those that there were
 
-lock_apart : (a b : ReadLock) → lock_cmp a b ≡ Equal → a ≡ b
-lock_apart a b h =
-    let object : a.object ≡ b.object = nat_apart _ _ (first_Equal _ _ h) in
-    let inv : a.inv ≡ b.inv = nat_apart _ _ (second_Equal (nat_cmp a.object b.object) _ h) in
-    λ i. record { object = object i; inv = inv i }
-
 pub lock_new : (ls : List ReadLock) (lock : ReadLock) → In lock (with_lock ls lock)
 lock_new [] lock = inl refl
 lock_new (l ∷ ls) lock = by (lock_cmp lock l) (lock_new ls lock) where
@@ -48,17 +42,6 @@ lock_new (l ∷ ls) lock = by (lock_cmp lock l) (lock_new ls lock) where
   by Less rest = inl refl
   by Equal rest = inl refl
   by Greater rest = inr rest
-
-pub lock_more : (ls : List ReadLock) (lock x : ReadLock) → In x ls → In x (with_lock ls lock)
-lock_more [] lock x member = absurd member
-lock_more (l ∷ ls) lock x member = by (lock_cmp lock l) refl (lock_more ls lock x) member where
-  by : (order : Ordering) → lock_cmp lock l ≡ order → (In x ls → In x (inserted lock_cmp ls lock)) → In x (l ∷ ls)
-      → In x (by_order order (lock ∷ l ∷ ls) (lock ∷ ls) (l ∷ inserted lock_cmp ls lock))
-  by Less is rest member = inr member
-  by Equal is rest (inl same) = inl (same ∙ sym (lock_apart lock l is))
-  by Equal is rest (inr member) = inr member
-  by Greater is rest (inl same) = inl same
-  by Greater is rest (inr member) = inr (rest member)
 
 -- own lines besides others, where lines of one operation are one
 
@@ -245,17 +228,13 @@ append_holder relation held tx own c e =
     subst (λ (t : TxId). is_held held t ≡ true) (sym (ap (λ (x : Clash). x.holder) s.0.told))
     (entry_held held s.0.holder (from_among s.0.holder held s.0.holds))
 
-locks_keep : (ls locks : List ReadLock) (x : ReadLock) → In x ls → In x (with_locks ls locks)
-locks_keep ls [] x member = member
-locks_keep ls (l ∷ locks) x member = locks_keep (with_lock ls l) locks x (lock_more ls l x member)
-
 -- what was held stays, where own lines of one operation are one
 pub given_keeps : (held : List Held) (tx t : TxId) (locks : List ReadLock) (own : List OwnLine) (x : Item)
     → ((o l : OwnLine) → x ≡ Own o → tx ≡ t → In l own → o.op ≡ l.op → o ≡ l) → IsHeld (held_of held t) x
     → IsHeld (held_of (with_held held tx locks own) t) x
 given_keeps held tx t locks own (Lock lock) agree h =
     given_case (λ (ls : List ReadLock) (os : List OwnLine). In lock ls) held tx t locks own
-    (λ same. locks_keep (held_of held tx).locks locks lock
+    (λ same. locks_more (held_of held tx).locks locks lock
     (subst (λ (u : TxId). In lock (held_of held u).locks) (sym same) h)) h
 given_keeps held tx t locks own (Own o) agree h =
     given_case (λ (ls : List ReadLock) (os : List OwnLine). In o os) held tx t locks own

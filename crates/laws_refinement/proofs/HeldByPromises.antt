@@ -3,24 +3,23 @@ use Rattle.std.proofs.Common.{◌≡◌, ◌≢◌, Bool, true, false, ◌⊎◌
 use Rattle.std.proofs.Common.{sym, ap, ◌∙◌, subst}
 use Rattle.qc_stamp.specs.declared.stamp.TxId.{TxId}
 use Rattle.qc_stamp.specs.Vocabulary.{same_tx}
-use Rattle.qc_stamp.proofs.Orders.{same_tx_is}
+use Rattle.qc_stamp.proofs.Orders.{same_tx_is, same_tx_test}
 use Rattle.qc_list.specs.Vocabulary.{In}
-use Rattle.qc_list.proofs.Members.{In-first, In-second}
+use Rattle.qc_list.proofs.Members.{In-first, In-second, In-either}
 use Rattle.qc_entry.specs.declared.line.OwnLine.{OwnLine}
 use Rattle.qc_entry.specs.declared.line.ReadLock.{ReadLock}
 use Rattle.qc_entry.specs.declared.record.Prepared.{Prepared}
 use Rattle.qc_lock.specs.declared.held.Held.{Held}
 use Rattle.qc_lock.specs.Vocabulary.{held_of, is_held, with_lock, with_locks}
 use Rattle.qc_lock.proofs.Entries.{locks_given, own_given}
-use Rattle.theory_onecopy.proofs.Lists.{in_split}
 use Rattle.theory_machine.specs.Vocabulary.{Item, Lock, Own, Promise, each_held, held_by_promises, items_of, promise_of}
-use Rattle.theory_machine.proofs.Names.{tx_test}
 use Rattle.theory_machine.proofs.SiteLists.{found, items_of-append, items_of-each_held, items_of-other}
 use Rattle.qc_site.specs.Vocabulary.{held_by, holds, prepared_of}
 use Rattle.laws_refinement.specs.Vocabulary.{AreApart, AreSingle, IsApart, IsHeld, IsPromiseOf, IsPromised}
-use Rattle.laws_refinement.proofs.Held.{given_back, given_held, given_other, lock_more, lock_new, owns_new}
+use Rattle.laws_refinement.proofs.Held.{given_back, given_held, given_other, lock_new, owns_new}
 use Rattle.laws_refinement.proofs.Machine.{single_found}
 use Rattle.laws_refinement.proofs.Apart.{apart_found, found_in}
+use Rattle.qc_site.proofs.Holding.{locks_more}
 
 -- what is held by promises
 
@@ -32,7 +31,7 @@ record HeldBy (ps : List Promise) (t : TxId) (x : Item) : Type 0 where
 
 held_from : (ps : List Promise) (t : TxId) (x : Item) → In x (items_of t (held_by_promises ps)) → HeldBy ps t x
 held_from [] t x h = absurd h
-held_from (p ∷ ps) t x h = elim (in_split x (items_of t (each_held p.tx p.items)) (items_of t (held_by_promises ps))
+held_from (p ∷ ps) t x h = elim (In-either x (items_of t (each_held p.tx p.items)) (items_of t (held_by_promises ps))
     (subst (λ (xs : List Item). In x xs) (items_of-append t (each_held p.tx p.items) (held_by_promises ps)) h)) [
       | inl here ↦ at (same_tx t p.tx) refl here
       | inr rest ↦ (let r : HeldBy ps t x = held_from ps t x rest in
@@ -65,13 +64,9 @@ from_held (q ∷ ps) p x among has = subst (λ (xs : List Item). In x xs)
 
 -- the same at the site
 
-locks_stay : (ls locks : List ReadLock) (x : ReadLock) → In x ls → In x (with_locks ls locks)
-locks_stay ls [] x member = member
-locks_stay ls (l ∷ locks) x member = locks_stay (with_lock ls l) locks x (lock_more ls l x member)
-
-locks_new : (ls locks : List ReadLock) (x : ReadLock) → In x locks → In x (with_locks ls locks)
+pub locks_new : (ls locks : List ReadLock) (x : ReadLock) → In x locks → In x (with_locks ls locks)
 locks_new ls [] x member = absurd member
-locks_new ls (l ∷ locks) x (inl same) = locks_stay (with_lock ls l) locks x
+locks_new ls (l ∷ locks) x (inl same) = locks_more (with_lock ls l) locks x
     (subst (λ (k : ReadLock). In k (with_lock ls l)) (sym same) (lock_new ls l))
 locks_new ls (l ∷ locks) x (inr rest) = locks_new (with_lock ls l) locks x rest
 
@@ -104,7 +99,7 @@ others_hold (q ∷ qs) held t x other h =
 apart_others : (p : Prepared) (qs : List Prepared) → IsApart p.tx qs → (r : Prepared) → In r qs → r.tx ≢ p.tx
 apart_others p [] a r among same = absurd among
 apart_others p (q ∷ qs) a r (inl is) same =
-    (let k : same_tx q.tx p.tx ≡ true = tx_test q.tx p.tx (sym (ap (λ (y : Prepared). y.tx) is) ∙ same) in
+    (let k : same_tx q.tx p.tx ≡ true = same_tx_test q.tx p.tx (sym (ap (λ (y : Prepared). y.tx) is) ∙ same) in
     let f : same_tx q.tx p.tx ≡ false = a.0 in let never : ⊥ = cc in never)
 apart_others p (q ∷ qs) a r (inr more) same = apart_others p qs a.1 r more same
 

@@ -5,26 +5,28 @@ use Rattle.qc_list.specs.Vocabulary.{In}
 use Rattle.qc_entry.specs.declared.line.Line.{Line}
 use Rattle.qc_decl.specs.declared.declaration.Declaration.{Declaration}
 use Rattle.qc_decl.specs.Vocabulary.{is_site, most_record_bytes}
-use Rattle.theory_onecopy.proofs.Lists.{in_split}
 use Rattle.qc_msg.specs.declared.message.Answer.TheVariants as answers
 use Rattle.qc_msg.specs.declared.record.Record.TheVariants as records
 use Rattle.theory_machine.specs.Vocabulary.{Act, Deed, Install, Installs, IsRun, Site, State, after_act, empty_site}
 use Rattle.theory_machine.specs.Vocabulary.{epoch_from, items_of, promise_of, state}
 use Rattle.theory_machine.proofs.Names.{put_here}
 use Rattle.qc_site.specs.Vocabulary.{SiteState, answers as answers_with, installed, installs, latest, moved, recording}
-use Rattle.qc_msg.specs.Vocabulary.{epoch_length}
-use Rattle.qc_msg.specs.Vocabulary.{start_with}
+use Rattle.qc_msg.specs.Vocabulary.{epoch_length, start_with}
 use Rattle.laws_refinement.specs.Vocabulary.{Continues, IsDecided, IsKeptBy, IsPromiseOf, KeptMirrors, Mirrors, Net}
 use Rattle.laws_refinement.specs.Vocabulary.{SiteMirrors, after_site}
 use Rattle.qc_recover.specs.Vocabulary.{Kept, keeps, kept_by}
 use Rattle.laws_refinement.proofs.KeptLists.{kept_more}
-use Rattle.laws_refinement.proofs.Known.{known_from, known_in}
 use Rattle.laws_refinement.proofs.KeptSteps.{kept_installs}
-use Rattle.laws_refinement.proofs.Machine.{done_last, epoch_after, put_other, shut_after, single_more, site_more}
+use Rattle.laws_refinement.proofs.Machine.{done_last, put_other, single_more, site_more}
 use Rattle.laws_refinement.proofs.Nets.{site_goes}
 use Rattle.laws_refinement.proofs.SiteGrants.{says}
-use Rattle.laws_refinement.proofs.SiteSteps.{latest_grows, latest_passes, one_answer}
+use Rattle.laws_refinement.proofs.SiteSteps.{latest_passes, one_answer}
 use Rattle.laws_refinement.proofs.BothPromises.{deed_is}
+use Rattle.qc_site.proofs.Clocks.{latest_later}
+use Rattle.qc_entry.proofs.Members.{in_union}
+use Rattle.qc_entry.proofs.Union.{in_either}
+use Rattle.theory_machine.proofs.Epochs.{epoch-append, shut-append}
+use Rattle.qc_list.proofs.Members.{In-either}
 
 module _ (decl : Declaration) (acts : List Act) (net : Net) (a : ℕ) (run : IsRun decl acts)
     (m : Mirrors decl (state acts) net) (site : is_site decl a ≡ true) (up : net.up a ≡ true) where
@@ -116,29 +118,30 @@ module _ (decl : Declaration) (acts : List Act) (net : Net) (a : ℕ) (run : IsR
       here = record {
         life = (m.sites a site up).life;
         some = (m.sites a site up).some;
-        epoch = epoch_after ((state acts).deeds a) (Installs d.decision.epoch d.decision.clock d.decision.log ∷ []) 1
+        epoch = epoch-append ((state acts).deeds a) (Installs d.decision.epoch d.decision.clock d.decision.log ∷ []) 1
             ∙ d.epoch_is;
         planned = d.planned;
-        shut = shut_after ((state acts).deeds a) (Installs d.decision.epoch d.decision.clock d.decision.log ∷ []) false;
+        shut =
+            shut-append ((state acts).deeds a) (Installs d.decision.epoch d.decision.clock d.decision.log ∷ []) false;
         closing = tt;
         held = λ t x among. absurd (subst (λ (q : Site). In x (items_of t q.held))
             (site_more ((state acts).deeds a) deed) among);
         owned = λ t o among. absurd among;
-        installs = λ n c ls among. by n c ls (in_split (Installs n c ls) ((state acts).deeds a) (deed ∷ []) among);
+        installs = λ n c ls among. by n c ls (In-either (Installs n c ls) ((state acts).deeds a) (deed ∷ []) among);
         done = λ x among. elim (done_last ((state acts).deeds a) deed empty_site x among) [
           | inl old ↦ (let c : x.stamp.clock ≤ (net.sites a).clock = (m.sites a site up).done x old in
-              let g : (net.sites a).clock ≤ latest (net.sites a).clock log = latest_grows (net.sites a).clock log in
+              let g : (net.sites a).clock ≤ latest (net.sites a).clock log = latest_later (net.sites a).clock log in
               omega arith)
           | inr never ↦ absurd never
         ];
         passed = λ l among. (let c : l.stamp.clock ≤ latest (net.sites a).clock log =
             latest_passes (net.sites a).clock log l (lines l
             (subst (λ (q : Site). In l q.volatile) (site_more ((state acts).deeds a) deed) among)) in omega arith);
-        log = λ l among. known_in l log [] (inl (lines l
+        log = λ l among. in_union l log [] (inl (lines l
             (subst (λ (q : Site). In l q.volatile) (site_more ((state acts).deeds a) deed) among)));
         logged = λ l among. subst (λ (q : Site). In l q.volatile) (sym (site_more ((state acts).deeds a) deed))
             (subst (λ (ls : List Line). In l ls) (sym d.log_is)
-            (elim (known_from l log [] among) [ inl first ↦ first | inr never ↦ absurd never ]));
+            (elim (in_either l log [] among) [ inl first ↦ first | inr never ↦ absurd never ]));
         sorted = (d.sorted, tt);
         promised = λ t. subst (λ (q : Site). IsPromiseOf (promise_of t q.prepared) None)
             (sym (site_more ((state acts).deeds a) deed)) tt;
@@ -151,7 +154,7 @@ module _ (decl : Declaration) (acts : List Act) (net : Net) (a : ℕ) (run : IsR
           by : (n c : ℕ) (ls : List Line) → In (Installs n c ls) ((state acts).deeds a)
               ⊎ In (Installs n c ls) (deed ∷ []) → c ≤ max (latest (net.sites a).clock log) clock
           by n c ls (inl old) = let e : c ≤ (net.sites a).clock = (m.sites a site up).installs n c ls old in
-              let g : (net.sites a).clock ≤ latest (net.sites a).clock log = latest_grows (net.sites a).clock log in
+              let g : (net.sites a).clock ≤ latest (net.sites a).clock log = latest_later (net.sites a).clock log in
               omega arith
           by n c ls (inr (inl same)) = let e : c ≡ d.decision.clock = cc in
               let f : d.decision.clock ≡ clock = d.clock_is in omega arith
@@ -175,7 +178,7 @@ module _ (decl : Declaration) (acts : List Act) (net : Net) (a : ℕ) (run : IsR
           (moved (record (net.sites a) { clock = latest (net.sites a).clock log })
           (answers_with from number (answers.Behind (net.sites a).epoch))))))
       by true c p = says decl acts net a run m site up (latest (net.sites a).clock log) from number answers.Installed
-          (latest_grows (net.sites a).clock log) tt
+          (latest_later (net.sites a).clock log) tt
       by false true p = begins from number k clock log d (leb-false k (net.sites a).epoch p)
       by false false p = says decl acts net a run m site up (latest (net.sites a).clock log) from number
-          (answers.Behind (net.sites a).epoch) (latest_grows (net.sites a).clock log) tt
+          (answers.Behind (net.sites a).epoch) (latest_later (net.sites a).clock log) tt

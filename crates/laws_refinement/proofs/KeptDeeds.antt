@@ -5,14 +5,13 @@ use Rattle.qc_stamp.specs.declared.stamp.TxId.{TxId}
 use Rattle.qc_stamp.specs.Vocabulary.{same_tx}
 use Rattle.qc_stamp.proofs.Orders.{same_tx_is}
 use Rattle.qc_list.specs.Vocabulary.{In}
-use Rattle.qc_list.proofs.Members.{In-first, In-second, In-unfiltered}
+use Rattle.qc_list.proofs.Members.{In-first, In-second, In-unfiltered, In-either}
 use Rattle.qc_decl.specs.declared.declaration.Declaration.{Declaration}
 use Rattle.qc_entry.specs.declared.line.Line.{Line}
 use Rattle.qc_entry.specs.declared.record.Prepared.{Prepared}
 use Rattle.qc_entry.specs.Vocabulary.{IsAscending, union}
 use Rattle.qc_entry.proofs.Union.{ascending-union}
 use Rattle.qc_msg.specs.declared.record.Record.TheVariants as records
-use Rattle.theory_onecopy.proofs.Lists.{in_split}
 use Rattle.theory_machine.specs.Vocabulary.{Closes, Deed, DoneRecord, Grants, Installs, LearnsAbort, LearnsCommit}
 use Rattle.theory_machine.specs.Vocabulary.{NotBegun, Prepares, Promise, Rises, Site, Status, after_commit, after_deed}
 use Rattle.theory_machine.specs.Vocabulary.{after_prepare, done_record, done_records, empty_site, epoch_from, items_of}
@@ -23,11 +22,13 @@ use Rattle.qc_site.proofs.Votes.{prepared-without, prepared-without_other}
 use Rattle.qc_recover.specs.Vocabulary.{Kept, keeps, with_promise}
 use Rattle.laws_refinement.specs.Vocabulary.{AreSingle, IsPromiseOf, KeptMirrors, kept_lines}
 use Rattle.laws_refinement.proofs.Known.{more_from, more_in}
-use Rattle.laws_refinement.proofs.Machine.{LeavesEpoch, epoch_after, epoch_stays, install_old, shut_after, shut_stays}
-use Rattle.laws_refinement.proofs.Machine.{single_from, singles_dropped, site_more}
+use Rattle.laws_refinement.proofs.Machine.{LeavesEpoch, epoch_stays, install_old, shut_stays, single_from}
+use Rattle.laws_refinement.proofs.Machine.{singles_dropped, site_more}
 use Rattle.laws_refinement.proofs.Apart.{apart_more, aparts_dropped}
 use Rattle.laws_refinement.proofs.Promises.{dropped_promise, found_last, found_other, gone, more_promise}
-use Rattle.laws_refinement.proofs.SiteSteps.{latest_grows, latest_passes}
+use Rattle.laws_refinement.proofs.SiteSteps.{latest_passes}
+use Rattle.qc_site.proofs.Clocks.{latest_later}
+use Rattle.theory_machine.proofs.Epochs.{epoch-append, shut-append}
 
 -- a Done record is one that was there, or one of the last deed
 done_more : (ds : List Deed) (d : Deed) (s : Site) (m : DoneRecord) → In m (done_records s (ds ++ d ∷ []))
@@ -36,7 +37,7 @@ done_more [] d s m h = inr h
 done_more (Grants tx items view ∷ ds) d s m h = done_more ds d (after_deed s (Grants tx items view)) m h
 done_more (Prepares tx ∷ ds) d s m h = done_more ds d (after_deed s (Prepares tx)) m h
 done_more (LearnsCommit tx stamp ∷ ds) d s m h =
-    by (in_split m (done_record tx stamp (promise_of tx s.prepared))
+    by (In-either m (done_record tx stamp (promise_of tx s.prepared))
     (done_records (after_deed s (LearnsCommit tx stamp)) (ds ++ d ∷ [])) h)
     (done_more ds d (after_deed s (LearnsCommit tx stamp)) m)
   where
@@ -82,10 +83,10 @@ pub leaves_life : (ds : List Deed) (d : Deed) → epoch_from (epoch_from 1 ds) (
     → shut_from (shut_from false ds) (d ∷ []) ≡ shut_from false ds
     → ((k c : ℕ) (log : List Line) → Installs k c log ≡ d → ⊥) → Leaves ds d
 leaves_life ds d epoch shut other = record {
-  epoch = epoch_after ds (d ∷ []) 1 ∙ epoch;
-  shut = shut_after ds (d ∷ []) false ∙ shut;
+  epoch = epoch-append ds (d ∷ []) 1 ∙ epoch;
+  shut = shut-append ds (d ∷ []) false ∙ shut;
   installs =
-      λ k c log among. elim (in_split (Installs k c log) ds (d ∷ []) among)
+      λ k c log among. elim (In-either (Installs k c log) ds (d ∷ []) among)
       [ inl old ↦ old | inr new ↦ elim new [ inl same ↦ absurd (other k c log same) | inr never ↦ absurd never ] ];
 }
 
@@ -163,7 +164,7 @@ kept_prepares decl k status life ds p m none same whole lines ascends begun = re
   installs =
       λ n c log among. (let c_low : c ≤ k.clock =
       m.installs n c log ((leaves_epoch ds (Prepares p.tx) tt).installs n c log among) in
-      let g : k.clock ≤ latest k.clock p.lines = latest_grows k.clock p.lines in omega arith);
+      let g : k.clock ≤ latest k.clock p.lines = latest_later k.clock p.lines in omega arith);
   stable = λ l among. into l (subst (λ (x : Site). In l x.stable) after among);
   kept = λ l among. subst (λ (x : Site). In l x.stable) (sym after) (elim (more_from l k.began k.lines p.lines among) [
     | inl old ↦ (site_laws ds).less l (m.kept l old)
@@ -173,13 +174,13 @@ kept_prepares decl k status life ds p m none same whole lines ascends begun = re
   done = λ x among. elim (done_more ds (Prepares p.tx) empty_site x among) [
     | inl old ↦
         (let c : x.stamp.clock ≤ k.clock = m.done x old in
-        let g : k.clock ≤ latest k.clock p.lines = latest_grows k.clock p.lines in omega arith)
+        let g : k.clock ≤ latest k.clock p.lines = latest_later k.clock p.lines in omega arith)
     | inr never ↦ absurd never
   ];
   passed = λ l among. elim (whole l (subst (λ (x : Site). In l x.stable) after among)) [
     | inl old ↦
         (let c : l.stamp.clock ≤ k.clock = m.passed l (m.kept l old) in
-        let g : k.clock ≤ latest k.clock p.lines = latest_grows k.clock p.lines in omega arith)
+        let g : k.clock ≤ latest k.clock p.lines = latest_later k.clock p.lines in omega arith)
     | inr new ↦ latest_passes k.clock p.lines l new
   ];
   promised =
@@ -193,7 +194,7 @@ kept_prepares decl k status life ds p m none same whole lines ascends begun = re
       apart_more p (without_prepared k.promises p.tx)
       (ap (λ (o : Option Prepared). is_some o) (prepared-without k.promises p.tx))
       (aparts_dropped p.tx k.promises m.apart);
-  lined = λ q among l has. elim (in_split q (without_prepared k.promises p.tx) (p ∷ []) among) [
+  lined = λ q among l has. elim (In-either q (without_prepared k.promises p.tx) (p ∷ []) among) [
     | inl old ↦
         more_in l k.began k.lines p.lines
         (inl (m.lined q (In-unfiltered (λ (x : Prepared). not (same_tx x.tx p.tx)) q k.promises old) l has))
@@ -204,7 +205,7 @@ kept_prepares decl k status life ds p m none same whole lines ascends begun = re
               absurd never
         ]
   ];
-  begun = λ q among. elim (in_split q (without_prepared k.promises p.tx) (p ∷ []) among) [
+  begun = λ q among. elim (In-either q (without_prepared k.promises p.tx) (p ∷ []) among) [
     | inl old ↦ m.begun q (In-unfiltered (λ (x : Prepared). not (same_tx x.tx p.tx)) q k.promises old)
     | inr new ↦
         elim new [ inl is ↦ subst (λ (x : Prepared). status x.tx ≢ NotBegun) (sym is) begun | inr never ↦ absurd never ]

@@ -6,27 +6,30 @@ use Rattle.qc_stamp.specs.declared.stamp.TxId.{TxId}
 use Rattle.qc_stamp.specs.Vocabulary.{same_tx}
 use Rattle.qc_stamp.proofs.Orders.{same_tx_is}
 use Rattle.qc_list.specs.Vocabulary.{In}
-use Rattle.qc_list.proofs.Members.{In-unfiltered}
+use Rattle.qc_list.proofs.Members.{In-unfiltered, In-either}
 use Rattle.qc_decl.specs.declared.declaration.Declaration.{Declaration}
 use Rattle.qc_entry.specs.declared.line.Line.{Line}
 use Rattle.qc_entry.specs.declared.record.Prepared.{Prepared}
 use Rattle.qc_entry.specs.Vocabulary.{IsAscending, union, without}
 use Rattle.qc_msg.specs.declared.record.Record.TheVariants as records
 use Rattle.qc_msg.specs.Vocabulary.{start_with}
-use Rattle.theory_onecopy.proofs.Lists.{in_split}
 use Rattle.theory_machine.specs.Vocabulary.{Closes, Deed, DoneRecord, Installs, LearnsCommit, Promise, Rises, Site}
 use Rattle.theory_machine.specs.Vocabulary.{Status, after_commit, empty_site, promise_of, site_after}
 use Rattle.qc_site.specs.Vocabulary.{SiteState, latest, lines_of, new_site, prepared_of, without_prepared}
 use Rattle.qc_site.proofs.Votes.{prepared-without, prepared-without_other}
 use Rattle.qc_recover.specs.Vocabulary.{Kept, done_lines, done_stamp, keeps}
 use Rattle.laws_refinement.specs.Vocabulary.{IsClosing, IsPlanned, IsPromiseOf, KeptMirrors}
-use Rattle.laws_refinement.proofs.Known.{known_from, known_in, learned_in}
-use Rattle.laws_refinement.proofs.Machine.{done_last, epoch_after, shut_after, site_more}
+use Rattle.laws_refinement.proofs.Known.{learned_in}
+use Rattle.laws_refinement.proofs.Machine.{done_last, site_more}
 use Rattle.laws_refinement.proofs.Apart.{aparts_dropped}
 use Rattle.laws_refinement.proofs.Promises.{commit_log, commit_logged, commit_passed, commit_sorted, dropped_promise}
 use Rattle.laws_refinement.proofs.Promises.{gone}
-use Rattle.laws_refinement.proofs.SiteSteps.{latest_grows, latest_passes}
+use Rattle.laws_refinement.proofs.SiteSteps.{latest_passes}
 use Rattle.laws_refinement.proofs.KeptDeeds.{leaves_epoch, leaves_life, kept_same}
+use Rattle.qc_site.proofs.Clocks.{latest_later}
+use Rattle.qc_entry.proofs.Members.{in_union}
+use Rattle.qc_entry.proofs.Union.{in_either}
+use Rattle.theory_machine.proofs.Epochs.{epoch-append, shut-append}
 
 -- it is written that a promised transaction is done
 pub kept_finishes : (decl : Declaration) (k : Kept) (status : TxId → Status) (life : ℕ) (ds : List Deed) (tx : TxId)
@@ -137,12 +140,12 @@ pub kept_closes : (decl : Declaration) (k : Kept) (status : TxId → Status) (li
     → KeptMirrors decl (keeps k (records.Close epoch)) status (suc life) (ds ++ Closes ∷ [])
 kept_closes decl k status life ds epoch m closing = record {
   life_is = (let e : k.life ≡ life = m.life_is in omega arith);
-  epoch = epoch_after ds (Closes ∷ []) 1 ∙ m.epoch;
+  epoch = epoch-append ds (Closes ∷ []) 1 ∙ m.epoch;
   planned = m.planned;
-  shut = shut_after ds (Closes ∷ []) false;
+  shut = shut-append ds (Closes ∷ []) false;
   closing = closing;
   installs =
-      λ n c log among. elim (in_split (Installs n c log) ds (Closes ∷ []) among) [
+      λ n c log among. elim (In-either (Installs n c log) ds (Closes ∷ []) among) [
         | inl old ↦ m.installs n c log old
         | inr new ↦ elim new
             [ inl same ↦ absurd (let never : ⊥ = cc in never) | inr never ↦ absurd never ]
@@ -168,23 +171,23 @@ pub kept_installs : (decl : Declaration) (k : Kept) (status : TxId → Status) (
     (ds ++ Installs epoch clock log ∷ [])
 kept_installs decl k status life ds epoch clock log m planned ascends = record {
   life_is = m.life_is;
-  epoch = epoch_after ds (Installs epoch clock log ∷ []) 1;
+  epoch = epoch-append ds (Installs epoch clock log ∷ []) 1;
   planned = planned;
-  shut = shut_after ds (Installs epoch clock log ∷ []) false;
+  shut = shut-append ds (Installs epoch clock log ∷ []) false;
   closing = tt;
-  installs = λ n c ls among. by n c ls (in_split (Installs n c ls) ds (Installs epoch clock log ∷ []) among);
+  installs = λ n c ls among. by n c ls (In-either (Installs n c ls) ds (Installs epoch clock log ∷ []) among);
   stable =
-      λ l among. known_in l log []
+      λ l among. in_union l log []
       (inl (subst (λ (s : Site). In l s.stable) (site_more ds (Installs epoch clock log)) among));
   kept =
       λ l among. subst (λ (s : Site). In l s.stable) (sym (site_more ds (Installs epoch clock log)))
-      (elim (known_from l log [] among) [ inl first ↦ first | inr never ↦ absurd never ]);
+      (elim (in_either l log [] among) [ inl first ↦ first | inr never ↦ absurd never ]);
   sorted = (ascends, tt);
   done =
       λ x among. elim (done_last ds (Installs epoch clock log) empty_site x among) [
         | inl old ↦
             (let c : x.stamp.clock ≤ k.clock = m.done x old in
-            let g : k.clock ≤ latest k.clock log = latest_grows k.clock log in omega arith)
+            let g : k.clock ≤ latest k.clock log = latest_later k.clock log in omega arith)
         | inr never ↦ absurd never
       ];
   passed =
@@ -205,6 +208,6 @@ kept_installs decl k status life ds epoch clock log m planned ascends = record {
         → c ≤ max (latest k.clock log) clock
     by n c ls (inl old) =
         let e : c ≤ k.clock = m.installs n c ls old in
-        let g : k.clock ≤ latest k.clock log = latest_grows k.clock log in omega arith
+        let g : k.clock ≤ latest k.clock log = latest_later k.clock log in omega arith
     by n c ls (inr (inl same)) = let e : c ≡ clock = cc in omega arith
     by n c ls (inr (inr never)) = absurd never

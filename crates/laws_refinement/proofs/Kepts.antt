@@ -1,6 +1,5 @@
 -- What agrees with the records of an actor stays so as others act.
-use Rattle.std.proofs.Common.{◌≡◌, ◌≤◌, ◌<◌, ◌+◌, ℕ, ◌-◌, true, inl, inr, List, Option, map, sym, ap, ◌∙◌}
-use Rattle.std.proofs.Common.{subst, arith}
+use Rattle.std.proofs.Common.{◌≡◌, ◌≤◌, ◌<◌, ◌+◌, ℕ, ◌-◌, true, inl, inr, List, Option, map, sym, ap, ◌∙◌, subst, arith}
 use Rattle.std.proofs.lemmas.Bool.{ltb-true}
 use Rattle.qc_decl.proofs.Clients.{client_below, client_past}
 use Rattle.qc_stamp.specs.declared.stamp.TxId.{TxId}

@@ -17,13 +17,6 @@ use Rattle.laws_refinement.specs.Vocabulary.{IsKeptBy, kept_lines}
 
 -- a line is known where the epoch began with it, or it was learned since
 
-pub known_in : (l : Line) (began log : List Line) → In l began ⊎ In l log → In l (union began log)
-known_in l began log (inl first) = in_first l began log first
-known_in l began log (inr since) = in_second l began log since
-
-pub known_from : (l : Line) (began log : List Line) → In l (union began log) → In l began ⊎ In l log
-known_from l began log among = in_either l began log among
-
 -- more lines since
 
 pub more_in : (l : Line) (began log more : List Line) → In l (union began log) ⊎ In l more

@@ -47,7 +47,7 @@ life_other (l ∷ ls) site life other ne = by (l.site == other) (life_other ls s
     by true rest = refl
     by false rest = rest
 
-has_last : (lives : List LifeAt) (site life : ℕ)
+pub has_last : (lives : List LifeAt) (site life : ℕ)
     → has_granted (lives ++ record { site = site; life = life } ∷ []) site ≡ true
 has_last [] site life = by (site == site) (eq-eqb site site refl)
   where
@@ -87,7 +87,7 @@ has_back (l ∷ ls) site life other ne h = by (l.site == other) h (has_back ls s
     by true e rest = refl
     by false e rest = rest e
 
-same_or : (a b : ℕ) → (a ≡ b) ⊎ (a ≢ b)
+pub same_or : (a b : ℕ) → (a ≡ b) ⊎ (a ≢ b)
 same_or a b = by (a == b) refl
   where
     by : (t : Bool) → (a == b) ≡ t → (a ≡ b) ⊎ (a ≢ b)

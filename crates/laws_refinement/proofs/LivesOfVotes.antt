@@ -24,18 +24,18 @@ use Rattle.laws_refinement.specs.Vocabulary.{Net, Reaches, Step}
 use Rattle.laws_refinement.specs.Net as nets
 use Rattle.laws_refinement.proofs.Machine.{put_other}
 use Rattle.laws_refinement.proofs.PendingCases.{kept_cases}
-use Rattle.laws_refinement.proofs.SiteNets.{place}
 use Rattle.laws_refinement.proofs.SiteVotes.{no_fault, one_answer}
 use Rattle.laws_refinement.specs.Steps as steps
+use Rattle.laws_refinement.proofs.Lives.{same_or}
 
 -- lives only grow
 
-life_one : (k : Kept) (r : Record) → k.life ≤ (keeps k r).life
+pub life_one : (k : Kept) (r : Record) → k.life ≤ (keeps k r).life
 life_one k =
     kept_cases k (λ r next. k.life ≤ next.life) (omega arith) (λ p. omega arith) (λ tx clock. omega arith)
     (λ epoch. omega arith) (λ start. omega arith) (λ r. omega arith)
 
-life_more : (k : Kept) (rs : List Record) → k.life ≤ (fold keeps k rs).life
+pub life_more : (k : Kept) (rs : List Record) → k.life ≤ (fold keeps k rs).life
 life_more k [] = omega arith
 life_more k (r ∷ rs) =
     let one : k.life ≤ (keeps k r).life = life_one k r in
@@ -54,7 +54,7 @@ life_twice rs more last =
 
 life_put : (f : ℕ → List Record) (x a : ℕ) (rs : List Record) → (kept_by (f x)).life ≤ (kept_by rs).life
     → (kept_by (f a)).life ≤ (kept_by (put f x rs a)).life
-life_put f x a rs more = elim (place a x) [
+life_put f x a rs more = elim (same_or a x) [
   | inl e ↦
       subst (λ (k : ℕ). (kept_by (f k)).life ≤ (kept_by (put f x rs k)).life) (sym e)
       (subst (λ (v : List Record). (kept_by (f x)).life ≤ (kept_by v).life) (sym (put_here f x rs)) more)

@@ -1,27 +1,20 @@
 -- One deed more at a site of the machine.
 use Rattle.std.proofs.Common.{◌≡◌, ◌≢◌, ℕ, ◌==◌, Bool, true, false, cond, ◌⊎◌, inl, inr, List, [], ◌∷◌, ◌++◌, Option}
-use Rattle.std.proofs.Common.{Some, None, refl, sym, subst, eqb-true, zero, suc, slice_get, eq-eqb}
+use Rattle.std.proofs.Common.{Some, None, refl, sym, subst, eqb-true, eq-eqb}
 use Rattle.qc_stamp.specs.declared.stamp.TxId.{TxId}
 use Rattle.qc_stamp.specs.declared.stamp.Stamp.{Stamp}
 use Rattle.qc_stamp.specs.Vocabulary.{same_tx}
-use Rattle.qc_stamp.proofs.Orders.{other_tx_sym}
+use Rattle.qc_stamp.proofs.Orders.{other_tx_sym, same_tx_test}
 use Rattle.qc_entry.specs.declared.line.Line.{Line}
 use Rattle.qc_list.specs.Vocabulary.{In}
-use Rattle.qc_list.proofs.Members.{In-first, In-second}
-use Rattle.theory_onecopy.proofs.Lists.{in_split}
+use Rattle.qc_list.proofs.Members.{In-first, In-second, In-either}
 use Rattle.theory_machine.specs.Vocabulary.{Closes, Deed, DoneRecord, Grants, Installs, LearnsAbort, LearnsCommit}
 use Rattle.theory_machine.specs.Vocabulary.{Prepares, Promise, Rises, Site, after_commit, after_deed, after_prepare}
 use Rattle.theory_machine.specs.Vocabulary.{done_record, done_records, empty_site, epoch_from, promise_of, put}
 use Rattle.theory_machine.specs.Vocabulary.{shut_from, site_after, without_promise}
-use Rattle.theory_machine.proofs.Names.{tx_test}
 use Rattle.theory_machine.proofs.SiteOrder.{after_append}
 use Rattle.laws_refinement.specs.Vocabulary.{AreSingle, IsSingle}
-
-pub slice_get-append : {X : Type 0} (xs ys : List X) (n : ℕ) (x : X) → slice_get xs n ≡ Some x
-    → slice_get (xs ++ ys) n ≡ Some x
-slice_get-append [] ys n x h = absurd (let never : ⊥ = cc in never)
-slice_get-append (y ∷ xs) ys zero x h = h
-slice_get-append (y ∷ xs) ys (suc n) x h = slice_get-append xs ys n x h
+use Rattle.theory_machine.proofs.Epochs.{epoch-append, shut-append}
 
 pub put_one : {A : Type 0} (P : ℕ → A → Type 0) (f : ℕ → A) (k : ℕ) (v : A) (n : ℕ) → P k v → ((n ≢ k) → P n (f n))
     → P n (put f k v n)
@@ -56,7 +49,7 @@ last_done : (d : Deed) (s : Site) (m : DoneRecord) → In m (done_records s (d �
 last_done (Grants tx items view) s m h = absurd h
 last_done (Prepares tx) s m h = absurd h
 last_done (LearnsCommit tx stamp) s m h =
-    elim (in_split m (done_record tx stamp (promise_of tx s.prepared)) [] h)
+    elim (In-either m (done_record tx stamp (promise_of tx s.prepared)) [] h)
     [ inl x ↦ in_done tx stamp (promise_of tx s.prepared) m x | inr n ↦ absurd n ]
 last_done (LearnsAbort tx) s m h = absurd h
 last_done Closes s m h = absurd h
@@ -69,7 +62,7 @@ done_last [] d s m h = inr (last_done d s m h)
 done_last (Grants tx items view ∷ ds) d s m h = done_last ds d (after_deed s (Grants tx items view)) m h
 done_last (Prepares tx ∷ ds) d s m h = done_last ds d (after_deed s (Prepares tx)) m h
 done_last (LearnsCommit tx stamp ∷ ds) d s m h =
-    by (in_split m (done_record tx stamp (promise_of tx s.prepared))
+    by (In-either m (done_record tx stamp (promise_of tx s.prepared))
     (done_records (after_deed s (LearnsCommit tx stamp)) (ds ++ d ∷ [])) h)
     (done_last ds d (after_deed s (LearnsCommit tx stamp)) m)
   where
@@ -94,26 +87,6 @@ done_last (Rises ∷ ds) d s m h = done_last ds d (after_deed s Rises) m h
 
 -- one deed more: the epoch, whether it is shut, and its Install records
 
-pub epoch_after : (ds es : List Deed) (e : ℕ) → epoch_from e (ds ++ es) ≡ epoch_from (epoch_from e ds) es
-epoch_after [] es e = refl
-epoch_after (Grants t items view ∷ ds) es e = epoch_after ds es e
-epoch_after (Prepares t ∷ ds) es e = epoch_after ds es e
-epoch_after (LearnsCommit t stamp ∷ ds) es e = epoch_after ds es e
-epoch_after (LearnsAbort t ∷ ds) es e = epoch_after ds es e
-epoch_after (Closes ∷ ds) es e = epoch_after ds es e
-epoch_after (Installs k c log ∷ ds) es e = epoch_after ds es k
-epoch_after (Rises ∷ ds) es e = epoch_after ds es e
-
-pub shut_after : (ds es : List Deed) (b : Bool) → shut_from b (ds ++ es) ≡ shut_from (shut_from b ds) es
-shut_after [] es b = refl
-shut_after (Grants t items view ∷ ds) es b = shut_after ds es b
-shut_after (Prepares t ∷ ds) es b = shut_after ds es b
-shut_after (LearnsCommit t stamp ∷ ds) es b = shut_after ds es b
-shut_after (LearnsAbort t ∷ ds) es b = shut_after ds es b
-shut_after (Closes ∷ ds) es b = shut_after ds es true
-shut_after (Installs k c log ∷ ds) es b = shut_after ds es false
-shut_after (Rises ∷ ds) es b = shut_after ds es b
-
 -- a deed that leaves epoch and closing alone
 abbrev pub LeavesEpoch : Deed → Type 0
 LeavesEpoch (Grants t items view) = Unit {0}
@@ -125,26 +98,26 @@ LeavesEpoch (Installs k c log) = ⊥
 LeavesEpoch Rises = ⊥
 
 pub epoch_stays : (ds : List Deed) (d : Deed) → LeavesEpoch d → epoch_from 1 (ds ++ d ∷ []) ≡ epoch_from 1 ds
-epoch_stays ds (Grants t items view) l = epoch_after ds (Grants t items view ∷ []) 1
-epoch_stays ds (Prepares t) l = epoch_after ds (Prepares t ∷ []) 1
-epoch_stays ds (LearnsCommit t stamp) l = epoch_after ds (LearnsCommit t stamp ∷ []) 1
-epoch_stays ds (LearnsAbort t) l = epoch_after ds (LearnsAbort t ∷ []) 1
+epoch_stays ds (Grants t items view) l = epoch-append ds (Grants t items view ∷ []) 1
+epoch_stays ds (Prepares t) l = epoch-append ds (Prepares t ∷ []) 1
+epoch_stays ds (LearnsCommit t stamp) l = epoch-append ds (LearnsCommit t stamp ∷ []) 1
+epoch_stays ds (LearnsAbort t) l = epoch-append ds (LearnsAbort t ∷ []) 1
 epoch_stays ds Closes l = absurd l
 epoch_stays ds (Installs k c log) l = absurd l
 epoch_stays ds Rises l = absurd l
 
 pub shut_stays : (ds : List Deed) (d : Deed) → LeavesEpoch d → shut_from false (ds ++ d ∷ []) ≡ shut_from false ds
-shut_stays ds (Grants t items view) l = shut_after ds (Grants t items view ∷ []) false
-shut_stays ds (Prepares t) l = shut_after ds (Prepares t ∷ []) false
-shut_stays ds (LearnsCommit t stamp) l = shut_after ds (LearnsCommit t stamp ∷ []) false
-shut_stays ds (LearnsAbort t) l = shut_after ds (LearnsAbort t ∷ []) false
+shut_stays ds (Grants t items view) l = shut-append ds (Grants t items view ∷ []) false
+shut_stays ds (Prepares t) l = shut-append ds (Prepares t ∷ []) false
+shut_stays ds (LearnsCommit t stamp) l = shut-append ds (LearnsCommit t stamp ∷ []) false
+shut_stays ds (LearnsAbort t) l = shut-append ds (LearnsAbort t ∷ []) false
 shut_stays ds Closes l = absurd l
 shut_stays ds (Installs k c log) l = absurd l
 shut_stays ds Rises l = absurd l
 
 pub install_old : (ds : List Deed) (d : Deed) (k c : ℕ) (log : List Line) → LeavesEpoch d
     → In (Installs k c log) (ds ++ d ∷ []) → In (Installs k c log) ds
-install_old ds d k c log l h = elim (in_split (Installs k c log) ds (d ∷ []) h) [
+install_old ds d k c log l h = elim (In-either (Installs k c log) ds (d ∷ []) h) [
   | inl old ↦ old
   | inr new ↦ elim new [
     | inl same ↦ absurd
@@ -209,7 +182,7 @@ single_more ds d not_rise a = subst (λ (k : Site). AreSingle k.prepared) (sym (
 pub single_found : (p : Promise) (ps : List Promise) → AreSingle ps → In p ps → promise_of p.tx ps ≡ Some p
 single_found p [] a h = absurd h
 single_found p (q ∷ qs) a (inl same) = subst (λ (x : Promise). promise_of x.tx (q ∷ qs) ≡ Some x) (sym same)
-    (rw (tx_test q.tx q.tx refl) refl)
+    (rw (same_tx_test q.tx q.tx refl) refl)
 single_found p (q ∷ qs) a (inr h) = rw (other qs a.0 h) (single_found p qs a.1 h)
   where
     other : (xs : List Promise) → IsSingle q.tx xs → In p xs → same_tx p.tx q.tx ≡ false

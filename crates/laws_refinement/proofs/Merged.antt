@@ -4,7 +4,7 @@ use Rattle.std.proofs.Common.{None, fold, refl, sym, ap, ◌∙◌, subst, arith
 use Rattle.qc_stamp.specs.declared.stamp.Stamp.{Stamp}
 use Rattle.qc_stamp.specs.declared.stamp.TxId.{TxId}
 use Rattle.qc_stamp.specs.Vocabulary.{same_tx}
-use Rattle.qc_stamp.proofs.Orders.{same_tx_is}
+use Rattle.qc_stamp.proofs.Orders.{same_tx_is, same_tx_test}
 use Rattle.qc_list.specs.Vocabulary.{In}
 use Rattle.qc_entry.specs.declared.line.Line.{Line}
 use Rattle.qc_entry.specs.declared.line.OwnLine.{OwnLine}
@@ -14,7 +14,6 @@ use Rattle.qc_entry.proofs.Union.{ascending-union, in_either, in_first, in_secon
 use Rattle.qc_msg.specs.declared.message.Outcome.{Outcome}
 use Rattle.qc_msg.specs.declared.message.Outcome.TheVariants.{Committed, Aborted, Active}
 use Rattle.theory_machine.specs.Vocabulary.{State, Verdict}
-use Rattle.theory_machine.proofs.Names.{tx_test}
 use Rattle.qc_site.specs.Vocabulary.{stamped}
 use Rattle.qc_epoch.specs.Vocabulary.{Question, ShutSite, clock_in, first_doubt, greatest, is_settled, merged}
 use Rattle.qc_epoch.specs.Vocabulary.{promised_lines, stamp_in, stamp_of, with_promised, with_shut}
@@ -251,7 +250,7 @@ ended w (x ∷ qs) tx settled taken q among its =
     by : (b : Bool) → same_tx x.tx tx ≡ b → (In q qs → IsEnded w qs tx) → (q ≡ x) ⊎ In q qs → IsEnded w (x ∷ qs) tx
     by true is more h = here (same_tx_is x.tx tx is) is x.taken refl (settled x (inl refl)) (taken x (inl refl))
     by false other more (inl same) = absurd (let is : same_tx x.tx tx ≡ true =
-        tx_test x.tx tx (ap (λ (y : Question). y.tx) (sym same) ∙ its) in let never : ⊥ = cc in never)
+        same_tx_test x.tx tx (ap (λ (y : Question). y.tx) (sym same) ∙ its) in let never : ⊥ = cc in never)
     by false other more (inr h) = rest other (more h)
 
 -- the stamp that counts for a transaction was told of it

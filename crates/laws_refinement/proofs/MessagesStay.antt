@@ -23,8 +23,8 @@ use Rattle.qc_epoch.specs.Vocabulary.{Admin, Asking, Doing, Installing, Question
 use Rattle.qc_msg.specs.declared.payload.EpochStart.{EpochStart}
 use Rattle.qc_epoch.specs.Admin as admins
 use Rattle.laws_refinement.proofs.AnswerCases.{answer_cases}
-use Rattle.laws_refinement.proofs.Machine.{slice_get-append}
 use Rattle.laws_refinement.proofs.OpenRequests.{AnswerBacked}
+use Rattle.qc_list.proofs.Places.{slice_get-more}
 
 -- all that was sent, granted, voted, announced, told and decided stays so; what was begun stays so, in its epoch; what
 -- was sent Prepare stays so, and no more is counted of it
@@ -110,7 +110,7 @@ keeps_both w u v c a b = record {
 
 pub message_later : (ms more : List Envelope) (number to : ℕ) (message : Message) → IsMessage ms number to message
     → IsMessage (ms ++ more) number to message
-message_later ms more number to message m = (m.0, slice_get-append ms more number m.0 m.1, m.2, m.3)
+message_later ms more number to message m = (m.0, slice_get-more ms more number m.0 m.1, m.2, m.3)
 
 pub request_later : (ms more : List Envelope) (number site : ℕ) (tx : TxId) (want : Want)
     → IsRequest ms number site tx want → IsRequest (ms ++ more) number site tx want

@@ -2,13 +2,12 @@
 use Rattle.std.proofs.Common.{◌≡◌, ◌≢◌, ◌<◌, ◌⊎◌, inl, inr, ℕ, ◌==◌, not, Bool, true, false, cond, List, [], ◌∷◌, ◌++◌}
 use Rattle.std.proofs.Common.{filter, is_none, map, max, Some, refl, sym, ap, ◌∙◌, subst, eq-eqb}
 use Rattle.qc_list.specs.Vocabulary.{In}
-use Rattle.qc_list.proofs.Members.{In-passes}
+use Rattle.qc_list.proofs.Members.{In-passes, In-map}
 use Rattle.qc_entry.specs.declared.line.Line.{Line}
 use Rattle.qc_plan.specs.declared.standing.Asked.{Asked}
 use Rattle.qc_plan.specs.Vocabulary.{RoundState}
 use Rattle.qc_decl.specs.declared.declaration.Declaration.{Declaration}
 use Rattle.qc_decl.specs.Vocabulary.{first_site}
-use Rattle.theory_onecopy.proofs.Lists.{in_map}
 use Rattle.qc_msg.specs.declared.begun.LifeAt.{LifeAt}
 use Rattle.qc_msg.specs.declared.call.Call.{Call}
 use Rattle.qc_msg.specs.declared.message.Envelope.{Envelope}
@@ -96,9 +95,9 @@ one_site : (calls : List Call) → AreApart (sites_called calls) → (c x : Call
 one_site [] apart c x hc hx same = absurd hc
 one_site (y ∷ ys) apart c x (inl ec) (inl ex) same = ex ∙ sym ec
 one_site (y ∷ ys) apart c x (inl ec) (inr hx) same =
-    absurd (apart.0 x.site (in_map (λ (k : Call). k.site) x ys hx) (ap (λ (k : Call). k.site) (sym ec) ∙ sym same))
+    absurd (apart.0 x.site (In-map (λ (k : Call). k.site) x ys hx) (ap (λ (k : Call). k.site) (sym ec) ∙ sym same))
 one_site (y ∷ ys) apart c x (inr hc) (inl ex) same =
-    absurd (apart.0 c.site (in_map (λ (k : Call). k.site) c ys hc) (ap (λ (k : Call). k.site) (sym ex) ∙ same))
+    absurd (apart.0 c.site (In-map (λ (k : Call). k.site) c ys hc) (ap (λ (k : Call). k.site) (sym ex) ∙ same))
 one_site (y ∷ ys) apart c x (inr hc) (inr hx) same = one_site ys apart.1 c x hc hx same
 
 pub other_site : (decl : Declaration) (client epoch need : ℕ) (round : RoundState) (calls : List Call) (number site : ℕ)

@@ -24,25 +24,24 @@ use Rattle.qc_msg.specs.declared.message.Outcome.{Outcome}
 use Rattle.qc_msg.specs.declared.message.Outcome.TheVariants as outcomes
 use Rattle.qc_msg.specs.declared.message.Want.{Want}
 use Rattle.qc_msg.specs.declared.message.Want.TheVariants.{Read, Append, Prepare}
-use Rattle.qc_msg.specs.declared.payload.Snapshot.{Snapshot}
 use Rattle.theory_onecopy.specs.Vocabulary.{AreApart, IsLogged, IsOrdered, IsStampedBefore, OneCopy, sorted}
 use Rattle.theory_onecopy.proofs.Committed.{records_are_sorted}
-use Rattle.theory_onecopy.proofs.Lists.{in_split}
 use Rattle.theory_machine.specs.Vocabulary.{Decide, Decision, IsVerdictOf, MayDecide, OfAppend, OfDecision, OfGrant}
 use Rattle.theory_machine.specs.Vocabulary.{OfSite, OfSnapshot, site_after, state}
 use Rattle.theory_machine.proofs.ClaimLaws as claims
 use Rattle.theory_machine.proofs.OneCopyLaw.{records_in_order_are_one_copy}
 use Rattle.laws_refinement.specs.Vocabulary.{Backed, IsDecided, IsSnapshot, IsTrueVerdict, Net, Reaches, Refines}
-use Rattle.laws_refinement.specs.Lines.{lines_answered}
 use Rattle.laws_refinement.specs.Vocabulary.{lines_in, lines_promised, own_items}
+use Rattle.laws_refinement.specs.Lines.{lines_answered}
 use Rattle.laws_refinement.proofs.AnswerCases.{answer_cases}
 use Rattle.laws_refinement.proofs.MessageCases.{message_cases}
 use Rattle.laws_refinement.proofs.OpenRequests.{AnswerBacked}
 use Rattle.laws_refinement.proofs.Refining.{nets_refine}
+use Rattle.qc_list.proofs.Members.{In-either}
 
 of_promise : (l : Line) (ps : List Prepared) → In l (lines_promised ps) → (p : Prepared) × In p ps × In l p.lines
 of_promise l [] among = absurd among
-of_promise l (p ∷ ps) among = elim (in_split l p.lines (lines_promised ps) among) [
+of_promise l (p ∷ ps) among = elim (In-either l p.lines (lines_promised ps) among) [
   | inl here ↦ (p, inl refl, here)
   | inr rest ↦ (let k : (q : Prepared) × In q ps × In l q.lines = of_promise l ps rest in (k.0, inr k.1, k.2))
 ]
@@ -132,7 +131,7 @@ module _ (decl : Declaration) (accepted : IsAccepted decl) (net : Net) (reached 
       (λ grant b among. logged l (claims.logs_hold_operations decl accepted mirrored.acts mirrored.run
       (site_after b.grant.grant.before).volatile (OfGrant b.grant.grant b.grant.given refl) l (b.grant.lines l among)))
       (λ epoch b among. absurd among) (λ clock b among. absurd among)
-      (λ snapshot b among. elim (in_split l snapshot.log (lines_promised snapshot.prepared) among) [
+      (λ snapshot b among. elim (In-either l snapshot.log (lines_promised snapshot.prepared) among) [
         | inl told ↦ snapshot_lines from b.epoch snapshot.clock snapshot.log snapshot.prepared l b.told told
         | inr brought ↦
             (let p : (p : Prepared) × In p snapshot.prepared × In l p.lines = of_promise l snapshot.prepared brought in

@@ -29,7 +29,8 @@ use Rattle.laws_refinement.proofs.Frames.{keep_client}
 use Rattle.laws_refinement.proofs.Kepts.{client_place, fallen_keeps, kept_later, no_client, no_ruler, no_ruling}
 use Rattle.laws_refinement.proofs.Kepts.{pends_later, rules_later, ruling_later}
 use Rattle.laws_refinement.proofs.Posts.{more_mail, more_numbered}
-use Rattle.laws_refinement.proofs.SiteNets.{place, Apart, site_net}
+use Rattle.laws_refinement.proofs.SiteNets.{Apart, site_net}
+use Rattle.laws_refinement.proofs.Lives.{same_or}
 
 module _ (decl : Declaration) where
   -- the machine goes on at one client alone
@@ -86,7 +87,7 @@ module _ (decl : Declaration) where
         (sym at.deeds)
         (pends_later decl w v (kept_by (net.records b)) (w.deeds b) (net.pending b) at.later
         (m.pends b is (sym (apart.up b other) ∙ down))))));
-    clients = λ b is u. elim (place b a) [
+    clients = λ b is u. elim (same_or b a) [
       | inl e ↦
           subst (λ (x : ℕ). ClientMirrors decl v next.mail x (next.clients x)) (sym e)
           (s.mirrors (subst (λ (x : ℕ). next.up x ≡ true) e u))
@@ -97,7 +98,7 @@ module _ (decl : Declaration) where
           (envelopes a (length net.mail) sends) b (net.clients b) refl
           (m.clients b is (sym (apart.up b other) ∙ u))))
     ];
-    fallen = λ b is down. elim (place b a) [
+    fallen = λ b is down. elim (same_or b a) [
       | inl e ↦
           subst (λ (x : ℕ). FallenMirrors v (x - decl.sites) (clients.kept_by (next.records x)) (next.pending x))
           (sym e) (s.fallen (subst (λ (x : ℕ). next.up x ≡ false) e down))

@@ -16,13 +16,12 @@ use Rattle.qc_front.specs.Vocabulary.{AreApart, calls_in, sites_called}
 use Rattle.qc_client.specs.Vocabulary.{answered_by, client_takes, heard}
 use Rattle.qc_client.specs.declared.client.Client.{Client}
 use Rattle.qc_recover.specs.Vocabulary.{client_rises}
-use Rattle.laws_refinement.specs.Vocabulary.{MayCommand, Net, Reaches, calls_voting, open_requests}
-use Rattle.laws_refinement.specs.Vocabulary.{sent_all}
+use Rattle.laws_refinement.specs.Vocabulary.{MayCommand, Net, Reaches, calls_voting, open_requests, sent_all}
 use Rattle.laws_refinement.specs.Net as nets
 use Rattle.laws_refinement.proofs.Machine.{put_one}
-use Rattle.laws_refinement.proofs.OneRequests.{Stands, VotesStand, begun_different, called_stands, front_turn}
-use Rattle.laws_refinement.proofs.OneRequests.{vote_stands}
+use Rattle.laws_refinement.proofs.OneRequests.{Stands, VotesStand, called_stands, front_turn, vote_stands}
 use Rattle.laws_refinement.proofs.Standing.{front_ends_stand}
+use Rattle.qc_front.proofs.OpenSites.{begun_calls}
 
 both_different : (d : Doing) (o : Option Voting) → AreApart (sites_called (calls_in d)) → VotesStand d o
     → AreApart (sites_called (calls_in d ++ calls_voting o))
@@ -89,5 +88,5 @@ module _ (decl : Declaration) where
       → AreApart (sites_called (open_requests (net.clients a)))
   clients_have_one_open_request_at_a_site net r a =
       both_different (net.clients a).front.doing (net.clients a).desk.voting
-      (begun_different decl (net.clients a).front.client (net.clients a).front.transaction (net.clients a).front.doing
+      (begun_calls decl (net.clients a).front.client (net.clients a).front.transaction (net.clients a).front.doing
       (front_ends_stand decl net r a).holds) (each_stands net r a)

@@ -26,12 +26,11 @@ use Rattle.qc_commit.specs.Vocabulary.{DeskMove, are_cast, blank, cast, counted_
 use Rattle.qc_commit.specs.Vocabulary.{learns, moved, participants, passed, prepare, prepared_in, prepares, vote_of}
 use Rattle.qc_commit.specs.Vocabulary.{votes_at, votes_in, with_voting}
 use Rattle.qc_front.specs.declared.doing.Doing.{Doing}
-use Rattle.qc_front.specs.declared.doing.Doing.TheVariants.{Idle, Reading, Appending}
+use Rattle.qc_front.specs.declared.doing.Doing.TheVariants.{Idle}
 use Rattle.qc_front.specs.declared.front.Front.{Front}
 use Rattle.qc_front.specs.declared.transaction.Transaction.{Transaction}
 use Rattle.qc_front.specs.Conduct as fronts
-use Rattle.qc_front.specs.Holds.{BegunHolds, DoingHolds}
-use Rattle.qc_front.specs.Vocabulary.{AreApart, FrontMove, IsPrefix, IsRound, awaited, calls_in, sites_called}
+use Rattle.qc_front.specs.Vocabulary.{AreApart, FrontMove, IsPrefix, IsRound, awaited, sites_called}
 use Rattle.qc_front.proofs.Apart.{apart_first}
 use Rattle.qc_front.proofs.NotedRounds.{round_apart}
 use Rattle.qc_client.specs.Vocabulary.{IsFree, by_desk, by_front, called, commits, requested, sent_one}
@@ -51,20 +50,6 @@ round_different decl client epoch need calls r is prefix =
     apart_first (sites_called calls) prefix.more
     (subst AreApart (sym prefix.is)
     (kept_different site_of (λ (a : Asked). is_none a.standing) r.asked (round_apart decl client epoch need r is)))
-
-doing_different : (decl : Declaration) (client : ℕ) (t : Transaction) (d : Doing) → DoingHolds decl client t d
-    → AreApart (sites_called (calls_in d))
-doing_different decl client t Idle holds = tt
-doing_different decl client t (Reading object inv calls round) holds =
-    round_different decl client _ _ calls round holds.round_is holds.calls_are.sites
-doing_different decl client t (Appending object inv event calls round) holds =
-    round_different decl client _ _ calls round holds.round_is holds.calls_are.sites
-
-pub begun_different : (decl : Declaration) (client : ℕ) (o : Option Transaction) (d : Doing)
-    → BegunHolds decl client o d → AreApart (sites_called (calls_in d))
-begun_different decl client None d idle =
-    subst (λ (x : Doing). AreApart (sites_called (calls_in x))) (sym idle) tt
-begun_different decl client (Some t) d holds = doing_different decl client t d holds.1
 
 -- a vote: nothing of the front end is open, and its requests are for different sites
 

@@ -5,18 +5,17 @@ use Rattle.std.proofs.Common.{Some, None, filter, refl, sym, ap, ◌∙◌, subs
 use Rattle.std.proofs.lemmas.List.{append-nil}
 use Rattle.qc_stamp.specs.declared.stamp.TxId.{TxId}
 use Rattle.qc_stamp.specs.Vocabulary.{same_tx}
-use Rattle.qc_stamp.proofs.Orders.{same_tx_is}
+use Rattle.qc_stamp.proofs.Orders.{same_tx_is, same_tx_test}
 use Rattle.qc_list.specs.Vocabulary.{In}
-use Rattle.qc_list.proofs.Members.{In-unfiltered}
+use Rattle.qc_list.proofs.Members.{In-unfiltered, In-either}
 use Rattle.qc_entry.specs.declared.record.Commit.{Commit as CommitRecord}
 use Rattle.qc_decl.specs.declared.declaration.Declaration.{Declaration}
 use Rattle.qc_decl.specs.Vocabulary.{is_client}
 use Rattle.qc_msg.specs.declared.record.Record.{Record}
 use Rattle.qc_msg.specs.declared.record.Record.TheVariants as records
-use Rattle.theory_onecopy.proofs.Lists.{in_split}
 use Rattle.theory_machine.specs.Vocabulary.{Abort, Aborted, Act, Commit, Committed, IsLive, NotBegun, State, Voting}
 use Rattle.theory_machine.specs.Vocabulary.{put_tx, state}
-use Rattle.theory_machine.proofs.Names.{put_tx_here, tx_test}
+use Rattle.theory_machine.proofs.Names.{put_tx_here}
 use Rattle.qc_commit.specs.Vocabulary.{record_of}
 use Rattle.qc_recover.specs.Clients.{Kept, keeps, kept_by}
 use Rattle.laws_refinement.specs.Vocabulary.{FallenMirrors, IsGivenBack, IsPendingOf, IsPlanned, Net, Refines}
@@ -105,7 +104,7 @@ module _ (decl : Declaration) (planned : IsPlanned decl 1) where
               (put_tx_here (state h.acts).status r.tx Aborted)
           by t its born unrecorded false is =
               let other : t ≢ r.tx =
-              (λ same. (let k : same_tx t r.tx ≡ true = tx_test t r.tx same in let never : ⊥ = cc in never)) in
+              (λ same. (let k : same_tx t r.tx ≡ true = same_tx_test t r.tx same in let never : ⊥ = cc in never)) in
               elim (f.ended t its (λ e. born (other_status t other ∙ e)) unrecorded) [
                 | inl dead ↦ other_status t other ∙ dead
                 | inr same ↦ absurd (other same)
@@ -131,7 +130,7 @@ module _ (decl : Declaration) (planned : IsPlanned decl 1) where
                   sym (f.to_come t its later) ∙ ap (state h.acts).status same ∙ f.pends.0.voting in
                   let never : ⊥ = cc in never)) ∙ f.to_come t its later;
               committed =
-                  λ x among. elim (in_split x
+                  λ x among. elim (In-either x
                   (filter (λ (y : CommitRecord). not (same_tx y.tx r.tx)) (kept_by (net.records a)).commits) (r ∷ [])
                   among) [
                     | inl old ↦
@@ -152,7 +151,7 @@ module _ (decl : Declaration) (planned : IsPlanned decl 1) where
                   (let d : (record_of (kept_by (net.records a)).commits t ≡ None) × (same_tx r.tx t ≡ false) =
                   found_with (kept_by (net.records a)).commits r t unrecorded in
                   let other : t ≢ r.tx =
-                  (λ same. (let k : same_tx r.tx t ≡ true = tx_test r.tx t (sym same) in
+                  (λ same. (let k : same_tx r.tx t ≡ true = same_tx_test r.tx t (sym same) in
                   let never : ⊥ = cc in never)) in
                   elim (f.ended t its (λ e. born (other_status t other ∙ e)) d.0) [
                     | inl dead ↦ inl (other_status t other ∙ dead)

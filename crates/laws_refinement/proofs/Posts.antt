@@ -2,7 +2,6 @@
 use Rattle.std.proofs.Common.{◌≡◌, ℕ, ◌+◌, inl, inr, List, [], ◌∷◌, ◌++◌, length, Some, slice_get, refl, sym, ap, subst}
 use Rattle.std.proofs.Common.{arith, append_assoc, length-append}
 use Rattle.qc_list.specs.Vocabulary.{In}
-use Rattle.theory_onecopy.proofs.Lists.{in_split}
 use Rattle.qc_decl.specs.declared.declaration.Declaration.{Declaration}
 use Rattle.qc_msg.specs.declared.message.Envelope.{Envelope}
 use Rattle.qc_msg.specs.declared.message.Message.{Message}
@@ -11,11 +10,8 @@ use Rattle.qc_msg.specs.Vocabulary.{envelopes}
 use Rattle.theory_machine.specs.Vocabulary.{State}
 use Rattle.laws_refinement.specs.Vocabulary.{Backed}
 use Rattle.laws_refinement.proofs.MessagesStay.{Later, backed_later, same_state}
-use Rattle.laws_refinement.proofs.Machine.{slice_get-append}
-
-slice_get-seam : {X : Type 0} (xs ys : List X) (x : X) → slice_get (xs ++ x ∷ ys) (length xs) ≡ Some x
-slice_get-seam [] ys x = refl
-slice_get-seam (y ∷ xs) ys x = slice_get-seam xs ys x
+use Rattle.qc_list.proofs.Places.{slice_get-more, slice_get-seam}
+use Rattle.qc_list.proofs.Members.{In-either}
 
 abbrev pub enveloped : ℕ → ℕ → Posting → Envelope
 enveloped a n p = record { number = n; from = a; to = p.to; message = p.message }
@@ -86,7 +82,7 @@ module _ (decl : Declaration) where
       → ((p : Posting) → In p ps → Backed decl v ms a p.to p.message)
       → (e : Envelope) → In e (ms ++ envelopes a (length ms) ps)
       → Backed decl v (ms ++ envelopes a (length ms) ps) e.from e.to e.message
-  more_mail w v ms a ps later old new e among = elim (in_split e ms more among) [
+  more_mail w v ms a ps later old new e among = elim (In-either e ms more among) [
     | inl h ↦ backed_later decl w v later ms more e.from e.to e.message (old e h)
     | inr h ↦ (let r : Place a ps (ms ++ more) e = placed ms a (length ms) ps e refl h in
         let b = backed_later decl v v (same_state v) ms more a r.posting.to r.posting.message (new r.posting r.among) in
@@ -101,8 +97,8 @@ module _ (decl : Declaration) where
   pub more_numbered : (ms : List Envelope) (a : ℕ) (ps : List Posting)
       → ((e : Envelope) → In e ms → slice_get ms e.number ≡ Some e) → (e : Envelope)
       → In e (ms ++ envelopes a (length ms) ps) → slice_get (ms ++ envelopes a (length ms) ps) e.number ≡ Some e
-  more_numbered ms a ps old e among = elim (in_split e ms (envelopes a (length ms) ps) among) [
-    | inl h ↦ slice_get-append ms (envelopes a (length ms) ps) e.number e (old e h)
+  more_numbered ms a ps old e among = elim (In-either e ms (envelopes a (length ms) ps) among) [
+    | inl h ↦ slice_get-more ms (envelopes a (length ms) ps) e.number e (old e h)
     | inr h ↦ (let r : Place a ps (ms ++ envelopes a (length ms) ps) e = placed ms a (length ms) ps e refl h in
         r.numbered)
   ]

@@ -8,15 +8,14 @@ use Rattle.qc_list.specs.Vocabulary.{In}
 use Rattle.qc_entry.specs.declared.record.Prepared.{Prepared}
 use Rattle.qc_entry.specs.declared.line.Line.{Line}
 use Rattle.qc_entry.specs.Vocabulary.{union}
-use Rattle.theory_onecopy.proofs.Lists.{in_split}
 use Rattle.qc_decl.specs.declared.declaration.Declaration.{Declaration}
 use Rattle.qc_decl.specs.Vocabulary.{IsAccepted, is_site}
 use Rattle.qc_lock.specs.Vocabulary.{held_of}
 use Rattle.qc_msg.specs.declared.message.Want.TheVariants.{Prepare}
 use Rattle.theory_machine.specs.Vocabulary.{Act, Granted, IsRun, Item, Lock, MayPrepare, NotBegun, Own, Prepares}
 use Rattle.theory_machine.specs.Vocabulary.{Promise, Site, after_prepare, items_of, promise_of, site_after, state}
-use Rattle.qc_site.specs.Vocabulary.{SiteMove, answers as answers_with, dropped, is_prepared, joins, known, lines_of}
-use Rattle.qc_site.specs.Vocabulary.{moved, prepared_of, prepares, promised, votes, without_prepared}
+use Rattle.qc_site.specs.Vocabulary.{SiteMove, answers as answers_with, is_prepared, known, moved, prepared_of}
+use Rattle.qc_site.specs.Vocabulary.{prepares, promised, votes, without_prepared}
 use Rattle.qc_site.proofs.RequestCases.{prepare_cases}
 use Rattle.laws_refinement.specs.Vocabulary.{AreLined, Continues, IsHeld, IsKeptBy, IsPromiseOf, IsPromised, IsRequest}
 use Rattle.laws_refinement.specs.Vocabulary.{KeptMirrors, Mirrors, Net, SiteMirrors, after_site}
@@ -36,6 +35,7 @@ use Rattle.qc_site.proofs.Votes.{prepared-without, prepared-without_other}
 use Rattle.qc_msg.specs.declared.message.Answer.TheVariants as answers
 use Rattle.qc_site.specs.Promise as sites
 use Rattle.qc_msg.specs.declared.record.Record.TheVariants as records
+use Rattle.qc_list.proofs.Members.{In-either}
 
 module _ (decl : Declaration) (accepted : IsAccepted decl) (acts : List Act) (net : Net) (a : ℕ) (run : IsRun decl acts)
     (m : Mirrors decl (state acts) net) (site : is_site decl a ≡ true) (up : net.up a ≡ true) where
@@ -161,7 +161,7 @@ module _ (decl : Declaration) (accepted : IsAccepted decl) (acts : List Act) (ne
       -- the lines that it promises are those that it has
       lined : AreLined ((net.sites a).prepared ++ sites.promise_of (record (net.sites a) { clock = clock }) tx ∷ [])
           (known (net.sites a))
-      lined p among l has = elim (in_split p (net.sites a).prepared
+      lined p among l has = elim (In-either p (net.sites a).prepared
           (sites.promise_of (record (net.sites a) { clock = clock }) tx ∷ []) among) [
             | inl old ↦ ms.lined p old l has
             | inr new ↦ elim new [

@@ -5,18 +5,16 @@ use Rattle.std.proofs.Common.{None, fold, refl, sym, ap, ◌∙◌, subst, arith
 use Rattle.qc_stamp.specs.declared.stamp.Stamp.{Stamp}
 use Rattle.qc_stamp.specs.declared.stamp.TxId.{TxId}
 use Rattle.qc_stamp.specs.Vocabulary.{same_tx}
-use Rattle.qc_stamp.proofs.Orders.{other_tx_sym, same_tx_is}
+use Rattle.qc_stamp.proofs.Orders.{other_tx_sym, same_tx_is, same_tx_test}
 use Rattle.qc_list.specs.Vocabulary.{In}
-use Rattle.qc_list.proofs.Members.{In-first, In-second}
+use Rattle.qc_list.proofs.Members.{In-first, In-second, In-either}
 use Rattle.qc_entry.specs.declared.line.Line.{Line}
 use Rattle.qc_entry.specs.declared.line.OwnLine.{OwnLine}
 use Rattle.qc_entry.specs.declared.record.Prepared.{Prepared}
 use Rattle.qc_entry.specs.Vocabulary.{IsAscending, union}
 use Rattle.qc_entry.proofs.Union.{ascending-union, in_either, in_first, in_second}
-use Rattle.theory_onecopy.proofs.Lists.{in_split}
 use Rattle.theory_machine.specs.Vocabulary.{Item, Lock, Own, Promise, Site, after_commit, promise_of, stamped_lines}
 use Rattle.theory_machine.specs.Vocabulary.{without_promise}
-use Rattle.theory_machine.proofs.Names.{tx_test}
 use Rattle.qc_site.specs.Vocabulary.{SiteState, joins, known, lines_of, prepared_of, stamped, with_stamped}
 use Rattle.qc_site.specs.Vocabulary.{without_prepared}
 use Rattle.qc_site.proofs.Votes.{prepared-without, prepared-without_other}
@@ -42,7 +40,7 @@ stays u v (x ∷ xs) other = by (same_tx u x.tx) (same_tx v x.tx) refl refl (sta
     by : (s t : Bool) → same_tx u x.tx ≡ s → same_tx v x.tx ≡ t → promise_of v (without_promise u xs) ≡ promise_of v xs
         → promise_of v (cond s (without_promise u xs) (x ∷ without_promise u xs)) ≡ cond t (Some x) (promise_of v xs)
     by true true p q rest = absurd (let k : same_tx v u ≡ true =
-        tx_test v u (same_tx_is v x.tx q ∙ sym (same_tx_is u x.tx p)) in let never : ⊥ = cc in never)
+        same_tx_test v u (same_tx_is v x.tx q ∙ sym (same_tx_is u x.tx p)) in let never : ⊥ = cc in never)
     by true false p q rest = rest
     by false true p q rest = rw q refl
     by false false p q rest = rw q rest
@@ -60,7 +58,7 @@ undropped u (p ∷ ps) none = by (same_tx u p.tx) none (undropped u ps)
 
 pub found_last : (tx : TxId) (q : Prepared) (xs : List Prepared) → q.tx ≡ tx → prepared_of xs tx ≡ None
     → prepared_of (xs ++ q ∷ []) tx ≡ Some q
-found_last tx q [] its e = rw (tx_test q.tx tx its) refl
+found_last tx q [] its e = rw (same_tx_test q.tx tx its) refl
 found_last tx q (x ∷ xs) its e = by (same_tx x.tx tx) e (found_last tx q xs its)
   where
     by : (b : Bool) → cond b (Some x) (prepared_of xs tx) ≡ None
@@ -104,7 +102,7 @@ more_promise tx t p q ps qs named its none has same = by (same_tx t tx) refl
     by true is =
         subst (λ (u : TxId). IsPromiseOf (promise_of u (p ∷ ps)) (prepared_of (qs ++ q ∷ []) u))
         (sym (same_tx_is t tx is))
-        (rw (tx_test tx p.tx (sym named)) (subst (λ (x : Option Prepared). IsPromiseOf (Some p) x)
+        (rw (same_tx_test tx p.tx (sym named)) (subst (λ (x : Option Prepared). IsPromiseOf (Some p) x)
         (sym (found_last tx q qs its none)) has))
     by false is =
         let other : same_tx t p.tx ≡ false = subst (λ (n : TxId). same_tx t n ≡ false) (sym named) is in
@@ -166,7 +164,7 @@ commit_log s k old tx stamp None None same l among = old l among
 commit_log s k old tx stamp None (Some q) same l among = absurd same
 commit_log s k old tx stamp (Some p) None same l among = absurd same
 commit_log s k old tx stamp (Some p) (Some q) same l among =
-    elim (in_split l (stamped_lines tx stamp p.items) k.volatile among) [
+    elim (In-either l (stamped_lines tx stamp p.items) k.volatile among) [
       | inl new ↦ (let r : (o : OwnLine) × In (Own o) p.items
           × (l ≡ stamped stamp tx o) = stamped_from stamp tx p.items l new in
           learned_in l s.began s.log (lines_of stamp tx q.own)
@@ -196,7 +194,7 @@ pub commit_passed : (k : Site) (clock : ℕ) → ((l : Line) → In l k.volatile
     → In l (after_commit tx stamp p k).volatile → l.stamp.clock ≤ clock
 commit_passed k clock old tx stamp None low l among = old l among
 commit_passed k clock old tx stamp (Some p) low l among =
-    elim (in_split l (stamped_lines tx stamp p.items) k.volatile among) [
+    elim (In-either l (stamped_lines tx stamp p.items) k.volatile among) [
       | inl new ↦ (let r : (o : OwnLine) × In (Own o) p.items
           × (l ≡ stamped stamp tx o) = stamped_from stamp tx p.items l new in
           let e : l.stamp.clock ≡ stamp.clock = ap (λ (x : Line). x.stamp.clock) r.2 in omega arith)

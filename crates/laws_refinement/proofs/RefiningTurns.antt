@@ -28,11 +28,12 @@ use Rattle.qc_msg.specs.declared.record.Record.{Record}
 use Rattle.qc_front.specs.Vocabulary.{FrontMove}
 use Rattle.laws_refinement.proofs.ClientEnds.{Pends}
 use Rattle.qc_front.proofs.Unwritten.{IsCalm, front_called, front_takes}
-use Rattle.laws_refinement.proofs.ClientCases.{called_cases, heard_cases}
+use Rattle.laws_refinement.proofs.ClientCases.{called_cases}
 use Rattle.qc_msg.specs.declared.message.Message.TheVariants as messages
 use Rattle.qc_msg.specs.declared.step.Command.TheVariants as commands
 use Rattle.qc_front.specs.Front as fronts
 use Rattle.qc_front.specs.Conduct as front_conduct
+use Rattle.qc_client.proofs.HeardCases.{heard_cases}
 
 module _ (decl : Declaration) (accepted : IsAccepted decl) where
   module _ (acts : List Act) (net : Net) (a : ℕ) (run : IsRun decl acts) (m : Mirrors decl (state acts) net)

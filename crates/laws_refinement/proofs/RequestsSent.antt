@@ -3,7 +3,6 @@ use Rattle.std.specs.Prelude.{MatchOption}
 use Rattle.std.proofs.Common.{[], ◌≡◌, ℕ, inl, inr, List, ◌∷◌, Option, Some, None, sym, ap, ◌∙◌, subst}
 use Rattle.qc_stamp.specs.declared.stamp.TxId.{TxId}
 use Rattle.qc_list.specs.Vocabulary.{In}
-use Rattle.theory_onecopy.proofs.Lists.{in_split}
 use Rattle.qc_decl.specs.declared.declaration.Declaration.{Declaration}
 use Rattle.qc_msg.specs.declared.call.Call.{Call}
 use Rattle.qc_msg.specs.declared.message.Envelope.{Envelope}
@@ -23,6 +22,7 @@ use Rattle.qc_client.specs.declared.client.Client.{Client}
 use Rattle.laws_refinement.specs.Vocabulary.{AreVotes, BegunMirrors, ClientMirrors, IsAskedBy, IsChosen, IsMessage}
 use Rattle.laws_refinement.specs.Vocabulary.{IsRequest, IsRoundCounted, RunningMirrors, TransactionMirrors, VotesMirror}
 use Rattle.laws_refinement.specs.Vocabulary.{status_by}
+use Rattle.qc_list.proofs.Members.{In-either}
 
 module _ (decl : Declaration) where
   -- a request of a client's turn is one of what runs there
@@ -69,7 +69,7 @@ module _ (decl : Declaration) where
       → In call (calls_in (requested_in d n to)) → IsAskedBy decl ms t (requested_in d n to) call
   calls_more ms t Idle n to want for r old call among = absurd for
   calls_more ms t (Reading object inv calls round) n to want for r old call among =
-      elim (in_split call calls (record { number = n; site = to } ∷ []) among) [
+      elim (In-either call calls (record { number = n; site = to } ∷ []) among) [
         | inl h ↦ old call h
         | inr h ↦ elim h [
           | inl same ↦
@@ -79,7 +79,7 @@ module _ (decl : Declaration) where
         ]
       ]
   calls_more ms t (Appending object inv event calls round) n to want for r old call among =
-      elim (in_split call calls (record { number = n; site = to } ∷ []) among) [
+      elim (In-either call calls (record { number = n; site = to } ∷ []) among) [
         | inl h ↦ old call h
         | inr h ↦ elim h [
           | inl same ↦
@@ -205,7 +205,7 @@ module _ (decl : Declaration) where
           (subst (λ (x : Option Transaction). BegunMirrors decl w ms c x) is m.begun).1.votes
 
       calls : (call : Call) → In call (with_call v.calls n to) → IsRequest ms call.number call.site t.begun.tx Prepare
-      calls call among = elim (in_split call v.calls (record { number = n; site = to } ∷ []) among) [
+      calls call among = elim (In-either call v.calls (record { number = n; site = to } ∷ []) among) [
         | inl old ↦ vm.calls call old
         | inr new ↦ elim new [
           | inl same ↦ subst (λ (y : Call). IsRequest ms y.number y.site t.begun.tx Prepare) (sym same) r

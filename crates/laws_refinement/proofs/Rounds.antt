@@ -10,11 +10,11 @@ use Rattle.qc_plan.specs.declared.standing.Standing.TheVariants as standings
 use Rattle.qc_plan.specs.declared.standing.Verdict.TheVariants as verdicts
 use Rattle.qc_plan.proofs.RoundsMet.{met_weighs}
 use Rattle.qc_decl.specs.declared.declaration.Declaration.{Declaration}
-use Rattle.theory_onecopy.proofs.Lists.{in_split}
 use Rattle.theory_machine.specs.Quorums.{HasGranted, HasQuorum, weights_of}
 use Rattle.theory_machine.specs.Vocabulary.{Granted, Item}
 use Rattle.qc_front.specs.Vocabulary.{IsRound}
 use Rattle.laws_refinement.specs.Vocabulary.{AreCounted}
+use Rattle.qc_list.proofs.Members.{In-either}
 
 -- those that are asked now have granted nothing
 pub asked_counted : (counted : List Granted) (tx : TxId) (item : Item) (r : RoundState) (sites : List ℕ)
@@ -25,7 +25,7 @@ asked_counted counted tx item r (site ∷ sites) h =
       asked = r.asked ++ record { site = site; standing = None } ∷ [];
       rest = drop 1 r.rest;
     }) sites
-    (λ x among is. elim (in_split x r.asked (record { site = site; standing = None } ∷ []) among) [
+    (λ x among is. elim (In-either x r.asked (record { site = site; standing = None } ∷ []) among) [
       | inl old ↦ h x old is
       | inr new ↦ elim new [
         | inl same ↦ absurd

@@ -22,13 +22,14 @@ use Rattle.laws_refinement.specs.Vocabulary.{after_site}
 use Rattle.laws_refinement.proofs.Closing.{close_case}
 use Rattle.laws_refinement.proofs.InstallCases.{install_case}
 use Rattle.laws_refinement.proofs.SiteGrants.{says, stands}
-use Rattle.laws_refinement.proofs.SiteSteps.{latest_grows, latest_passes}
+use Rattle.laws_refinement.proofs.SiteSteps.{latest_passes}
 use Rattle.laws_refinement.proofs.GrantCases.{append_case, read_case}
 use Rattle.qc_msg.specs.declared.message.Answer.TheVariants as answers
 use Rattle.qc_msg.specs.declared.message.Message.TheVariants as messages
 use Rattle.laws_refinement.proofs.MessageCases.{site_cases}
 use Rattle.laws_refinement.proofs.PrepareCases.{prepare_case}
 use Rattle.laws_refinement.proofs.SiteDecisions.{Passes, passes, decision_case}
+use Rattle.qc_site.proofs.Clocks.{latest_later}
 
 module _ (decl : Declaration) (accepted : IsAccepted decl) (acts : List Act) (net : Net) (a : ℕ) (run : IsRun decl acts)
     (m : Mirrors decl (state acts) net) (site : is_site decl a ≡ true) (up : net.up a ≡ true) where
@@ -86,7 +87,7 @@ module _ (decl : Declaration) (accepted : IsAccepted decl) (acts : List Act) (ne
     where
       grows : (w : Want) → (net.sites a).clock ≤ clock_after (net.sites a).clock (messages.Request tx epoch life w)
       grows (Read read) = omega arith
-      grows (Append object view own) = latest_grows (net.sites a).clock view
+      grows (Append object view own) = latest_later (net.sites a).clock view
       grows Prepare = omega arith
 
       named : 0 < life → (life ≡ 0) ⊎ (life ≡ (net.sites a).life) → life ≡ (net.sites a).life
@@ -105,7 +106,7 @@ module _ (decl : Declaration) (accepted : IsAccepted decl) (acts : List Act) (ne
           (p.epoch_is ∙ b.2) p.unshut p.lived (omega arith) r b.1
       looked_at (Append object view own) b r p =
           append_case decl accepted acts net a run m site up (latest (net.sites a).clock view) from number tx epoch life
-          object view own (p.epoch_is ∙ b.2) p.unshut p.lived (latest_grows (net.sites a).clock view)
+          object view own (p.epoch_is ∙ b.2) p.unshut p.lived (latest_later (net.sites a).clock view)
           (λ l among. latest_passes (net.sites a).clock view l among) r b.1 b.3
       looked_at Prepare b r p =
           prepare_case decl accepted acts net a run m site up (net.sites a).clock from number tx (omega arith)

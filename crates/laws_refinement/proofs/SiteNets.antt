@@ -1,6 +1,6 @@
 -- The machine goes on at one site alone: all others of the net stand.
-use Rattle.std.proofs.Common.{◌≡◌, ◌≢◌, ℕ, ◌==◌, ◌-◌, Bool, true, false, ◌⊎◌, inl, inr, List, ◌++◌, Option, length}
-use Rattle.std.proofs.Common.{slice_get, Some, refl, sym, ◌∙◌, subst, eqb-true, eq-eqb}
+use Rattle.std.proofs.Common.{◌≡◌, ◌≢◌, ℕ, ◌-◌, true, false, inl, inr, List, ◌++◌, Option, length, slice_get, Some}
+use Rattle.std.proofs.Common.{refl, sym, ◌∙◌, subst}
 use Rattle.qc_stamp.specs.declared.stamp.TxId.{TxId}
 use Rattle.qc_list.specs.Vocabulary.{In}
 use Rattle.qc_entry.specs.declared.record.Commit.{Commit as CommitRecord}
@@ -25,13 +25,7 @@ use Rattle.laws_refinement.proofs.Frames.{keep_client}
 use Rattle.laws_refinement.proofs.Kepts.{fallen_keeps, kept_later, no_client, no_ruler, pends_later, rules_later}
 use Rattle.laws_refinement.proofs.Kepts.{ruling_later}
 use Rattle.laws_refinement.proofs.Posts.{more_mail, more_numbered}
-
-pub place : (b a : ℕ) → (b ≡ a) ⊎ (b ≢ a)
-place b a = by (b == a) refl
-  where
-    by : (t : Bool) → (b == a) ≡ t → (b ≡ a) ⊎ (b ≢ a)
-    by true e = inl (eqb-true b a e)
-    by false e = inr (λ same. let t : (b == a) ≡ true = eq-eqb b a same in let never : ⊥ = cc in never)
+use Rattle.laws_refinement.proofs.Lives.{same_or}
 
 -- all other actors of the net stand, and these messages are sent by the one
 pub record Apart (decl : Declaration) (net next : Net) (a : ℕ) (sends : List Posting) : Type 0 where
@@ -67,7 +61,7 @@ module _ (decl : Declaration) where
       → ((p : Posting) → In p sends → Backed decl v net.mail a p.to p.message) → Mirrors decl v next
   site_net w v net next a sends m site apart written at s turn = record {
     placed = at.placed_at;
-    sites = λ b is u. elim (place b a) [
+    sites = λ b is u. elim (same_or b a) [
       | inl e ↦
           subst (λ (x : ℕ). SiteMirrors decl (next.sites x) (v.deeds x) (v.life x)) (sym e)
           (s.mirrors (subst (λ (x : ℕ). next.up x ≡ true) e u))
@@ -77,7 +71,7 @@ module _ (decl : Declaration) where
           (subst (λ (ds : List Deed). SiteMirrors decl (net.sites b) ds (w.life b)) (sym (at.there b other))
           (m.sites b is (sym (apart.up b other) ∙ u))))
     ];
-    alike = λ b is u. elim (place b a) [
+    alike = λ b is u. elim (same_or b a) [
       | inl e ↦
           subst (λ (x : ℕ). IsKeptBy (next.sites x) (kept_by (next.records x))) (sym e)
           (s.alike (subst (λ (x : ℕ). next.up x ≡ true) e u))
@@ -86,7 +80,7 @@ module _ (decl : Declaration) where
           (subst (λ (rs : List Record). IsKeptBy (net.sites b) (kept_by rs)) (sym (apart.records b other))
           (m.alike b is (sym (apart.up b other) ∙ u)))
     ];
-    holders = λ b t is u. elim (place b a) [
+    holders = λ b t is u. elim (same_or b a) [
       | inl e ↦
           subst (λ (x : ℕ). is_held (next.sites x).held t ≡ true → v.status t ≢ NotBegun) (sym e)
           (s.holders (subst (λ (x : ℕ). next.up x ≡ true) e u) t)
@@ -94,7 +88,7 @@ module _ (decl : Declaration) where
           subst (λ (x : SiteState). is_held x.held t ≡ true → v.status t ≢ NotBegun) (sym (apart.sites b other))
           (λ held. at.later.born t (m.holders b t is (sym (apart.up b other) ∙ u) held))
     ];
-    kept = λ b is. elim (place b a) [
+    kept = λ b is. elim (same_or b a) [
       | inl e ↦
           subst (λ (x : ℕ). KeptMirrors decl (kept_by (next.records x)) v.status (v.life x) (v.deeds x)) (sym e) s.kept
       | inr other ↦
@@ -105,7 +99,7 @@ module _ (decl : Declaration) where
           (sym (at.there b other))
           (kept_later decl w v (kept_by (net.records b)) (w.life b) (w.deeds b) at.later (m.kept b is))))
     ];
-    pends = λ b is down. elim (place b a) [
+    pends = λ b is down. elim (same_or b a) [
       | inl e ↦
           subst (λ (x : ℕ). IsPendingAt decl v (kept_by (next.records x)) (v.deeds x) (next.pending x)) (sym e)
           (s.pends (subst (λ (x : ℕ). next.up x ≡ false) e down))

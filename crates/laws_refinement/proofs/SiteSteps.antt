@@ -6,7 +6,7 @@ use Rattle.qc_stamp.specs.declared.stamp.TxId.{TxId}
 use Rattle.qc_stamp.specs.Vocabulary.{same_tx}
 use Rattle.qc_stamp.proofs.Orders.{same_tx_is}
 use Rattle.qc_list.specs.Vocabulary.{In}
-use Rattle.qc_list.proofs.Members.{In-first, In-second}
+use Rattle.qc_list.proofs.Members.{In-first, In-second, In-either}
 use Rattle.qc_entry.specs.declared.line.Line.{Line}
 use Rattle.qc_entry.specs.declared.line.OwnLine.{OwnLine}
 use Rattle.qc_entry.specs.declared.record.Prepared.{Prepared}
@@ -16,7 +16,6 @@ use Rattle.qc_table.specs.declared.kind.Kind.{Kind}
 use Rattle.qc_decl.specs.declared.declaration.Declaration.{Declaration}
 use Rattle.qc_decl.specs.Vocabulary.{is_site, kind_at}
 use Rattle.theory_onecopy.specs.Vocabulary.{depends_at}
-use Rattle.theory_onecopy.proofs.Lists.{in_split}
 use Rattle.qc_lock.specs.declared.clash.Clash.{Clash}
 use Rattle.qc_lock.specs.Vocabulary.{held_of}
 use Rattle.qc_msg.specs.declared.message.Answer.{Answer}
@@ -33,6 +32,7 @@ use Rattle.laws_refinement.specs.Vocabulary.{AreApart, AreLined, Backed, IsClosi
 use Rattle.laws_refinement.specs.Vocabulary.{Mirrors, Net, SiteMirrors}
 use Rattle.laws_refinement.proofs.Machine.{IsDoneOf, LeavesEpoch, done_last, epoch_stays, install_old, shut_stays}
 use Rattle.laws_refinement.proofs.Machine.{single_more, site_more}
+use Rattle.qc_site.proofs.Clocks.{latest_later}
 
 -- an invocation that depends on an event does so by the site's relation
 pub by_relation : (decl : Declaration) (object inv number : ℕ) → IsTrue (depends_at decl object inv number)
@@ -107,9 +107,9 @@ pub grants_more : (decl : Declaration) (life : ℕ) (s r : SiteState) (ds : List
     → SiteMirrors decl r (ds ++ Grants tx items view ∷ []) life
 grants_more decl life s r ds tx items view m stays clock old new back passed new_lines old_lines lines_back sorted same
     = mirrors_more decl life s r ds (Grants tx items view) tt m stays clock held owned (λ x never. absurd never)
-    (λ l among. elim (in_split l view (site_after ds).volatile among)
+    (λ l among. elim (In-either l view (site_after ds).volatile among)
     [ inl x ↦ passed l x | inr y ↦ (let c : l.stamp.clock ≤ s.clock = m.passed l y in omega arith) ])
-    (λ l among. elim (in_split l view (site_after ds).volatile among)
+    (λ l among. elim (In-either l view (site_after ds).volatile among)
     [ inl x ↦ new_lines l x | inr y ↦ old_lines l (m.log l y) ])
     (λ l among. elim (lines_back l among) [
       | inl x ↦ In-second l view (site_after ds).volatile
@@ -132,7 +132,7 @@ grants_more decl life s r ds tx items view m stays clock old new back passed new
 
     held : (t : TxId) (x : Item) → In x (items_of t (each_held tx items ++ (site_after ds).held))
         → IsHeld (held_of r.held t) x
-    held t x among = elim (in_split x (items_of t (each_held tx items)) (items_of t (site_after ds).held)
+    held t x among = elim (In-either x (items_of t (each_held tx items)) (items_of t (site_after ds).held)
         (subst (λ (xs : List Item). In x xs) (items_of-append t (each_held tx items) (site_after ds).held) among)) [
           | inl a ↦ fresh t x (same_tx t tx) refl a
           | inr b ↦ old t x b
@@ -175,16 +175,11 @@ clock_mirrors decl life s ds clock more m = record {
 
 -- the clock passes each line
 
-pub latest_grows : (clock : ℕ) (lines : List Line) → clock ≤ latest clock lines
-latest_grows clock [] = omega arith
-latest_grows clock (l ∷ ls) = let rest : max clock l.stamp.clock ≤ latest (max clock l.stamp.clock) ls =
-    latest_grows (max clock l.stamp.clock) ls in omega arith
-
 pub latest_passes : (clock : ℕ) (lines : List Line) (l : Line) → In l lines → l.stamp.clock ≤ latest clock lines
 latest_passes clock [] l among = absurd among
 latest_passes clock (x ∷ xs) l (inl same) =
     let rest : max clock x.stamp.clock ≤ latest (max clock x.stamp.clock) xs =
-    latest_grows (max clock x.stamp.clock) xs in
+    latest_later (max clock x.stamp.clock) xs in
     let e : l.stamp.clock ≡ x.stamp.clock = ap (λ (k : Line). k.stamp.clock) same in
     omega arith
 latest_passes clock (x ∷ xs) l (inr more) = latest_passes (max clock x.stamp.clock) xs l more

@@ -1,14 +1,13 @@
 -- What a site's turn votes: each Yes stands on a promise that the site has or writes; and a turn that isn't written
 -- votes nothing.
-use Rattle.std.proofs.Common.{◌≡◌, ◌⊎◌, ℕ, ◌==◌, ◌+◌, nat_le, nat_lt, inl, inr, not, Bool, true, false, cond, fold, map}
-use Rattle.std.proofs.Common.{List, [], ◌∷◌, Option, Some, None, is_some, refl, sym, ap, ◌∙◌, subst}
+use Rattle.std.proofs.Common.{◌≡◌, ◌⊎◌, ℕ, ◌==◌, ◌+◌, nat_le, nat_lt, inl, inr, not, Bool, true, false, cond, map, List}
+use Rattle.std.proofs.Common.{[], ◌∷◌, Option, Some, None, is_some, refl, sym, ap, ◌∙◌, subst}
 use Rattle.qc_stamp.specs.declared.stamp.TxId.{TxId}
 use Rattle.qc_stamp.specs.Vocabulary.{same_tx}
 use Rattle.qc_list.specs.Vocabulary.{In}
-use Rattle.qc_list.proofs.Members.{In-unfiltered}
+use Rattle.qc_list.proofs.Members.{In-unfiltered, In-either}
 use Rattle.qc_entry.specs.declared.line.Line.{Line}
 use Rattle.qc_entry.specs.declared.record.Prepared.{Prepared}
-use Rattle.theory_onecopy.proofs.Lists.{in_split}
 use Rattle.qc_decl.specs.declared.declaration.Declaration.{Declaration}
 use Rattle.qc_lock.specs.declared.clash.Clash.{Clash as Conflict}
 use Rattle.qc_msg.specs.declared.message.Answer.{Answer}
@@ -29,14 +28,14 @@ use Rattle.qc_site.specs.Vocabulary.{closes, fault_of, grants, installed, instal
 use Rattle.qc_site.specs.Vocabulary.{passed, prepared_of, promise_of, recording, shut_answer, site_on, site_takes}
 use Rattle.qc_site.specs.Vocabulary.{without_prepared}
 use Rattle.qc_decl.specs.Vocabulary.{most_record_bytes}
-use Rattle.qc_msg.specs.Vocabulary.{epoch_length}
-use Rattle.qc_msg.specs.Vocabulary.{start_with}
+use Rattle.qc_msg.specs.Vocabulary.{epoch_length, start_with}
 use Rattle.qc_site.proofs.RequestCases.{append_cases, close_cases, join_cases, prepare_cases, read_cases, request_cases}
 use Rattle.qc_site.proofs.Cases.{install_cases}
 use Rattle.qc_recover.specs.Vocabulary.{Kept, inquiry, keeps, kept_by, nothing_kept}
 use Rattle.laws_refinement.proofs.Apart.{found_in}
 use Rattle.laws_refinement.proofs.MessageCases.{site_cases}
 use Rattle.laws_refinement.proofs.PendingCases.{kept_cases}
+use Rattle.qc_recover.proofs.Promised.{from_records}
 
 -- each promise of records is one of them
 
@@ -44,7 +43,7 @@ pub one_more : (k : Kept) (r : Record) (p : Prepared) → In p (keeps k r).promi
     → In p k.promises ⊎ (records.Prepare p ≡ r)
 one_more k r p =
     kept_cases k (λ x next. In p next.promises → In p k.promises ⊎ (records.Prepare p ≡ x)) inl
-    (λ q among. elim (in_split p (without_prepared k.promises q.tx) (q ∷ []) among) [
+    (λ q among. elim (In-either p (without_prepared k.promises q.tx) (q ∷ []) among) [
       | inl old ↦ inl (In-unfiltered (λ (x : Prepared). not (same_tx x.tx q.tx)) p k.promises old)
       | inr (inl same) ↦ inr (ap (λ (x : Prepared). records.Prepare x) same)
       | inr (inr never) ↦ absurd never
@@ -52,16 +51,10 @@ one_more k r p =
     (λ tx clock among. inl (In-unfiltered (λ (x : Prepared). not (same_tx x.tx tx)) p k.promises among))
     (λ epoch among. inl among) (λ start among. absurd among) (λ x among. inl among) r
 
-pub promises_from : (rs : List Record) (k : Kept) (p : Prepared) → In p (fold keeps k rs).promises
-    → In p k.promises ⊎ In (records.Prepare p) rs
-promises_from [] k p among = inl among
-promises_from (r ∷ rs) k p among = elim (promises_from rs (keeps k r) p among) [
-  | inl old ↦ elim (one_more k r p old) [ inl before ↦ inl before | inr same ↦ inr (inl same) ]
-  | inr new ↦ inr (inr new)
 ]
 
 pub promises_recorded : (rs : List Record) (p : Prepared) → In p (kept_by rs).promises → In (records.Prepare p) rs
-promises_recorded rs p among = elim (promises_from rs nothing_kept p among) [ inl never ↦ absurd never | inr new ↦ new ]
+promises_recorded rs p among = elim (from_records rs nothing_kept p among) [ inl never ↦ absurd never | inr new ↦ new ]
 
 -- the vote of a turn
 

@@ -29,8 +29,8 @@ use Rattle.qc_front.specs.declared.front.Front.{Front}
 use Rattle.qc_front.specs.declared.transaction.Transaction.{Transaction}
 use Rattle.qc_front.specs.Conduct as fronts
 use Rattle.qc_front.specs.Vocabulary.{AreSent, AsksAtOnce, FrontHolds, FrontMove, IsFor, IsNumbered, IsSent, ended}
-use Rattle.qc_front.specs.Requests.{IsRequestOf, IsVerdictOf}
 use Rattle.qc_front.specs.Vocabulary.{numbered_all, numbered_one, requested}
+use Rattle.qc_front.specs.Requests.{IsRequestOf, IsVerdictOf}
 use Rattle.qc_front.proofs.AtOnce.{commands_ask_at_once, answers_ask_at_once}
 use Rattle.qc_front.proofs.CommandsKeep.{commands_keep_hold}
 use Rattle.qc_front.proofs.Keeping.{ended_holds, new_holds, answers_keep_hold}
@@ -44,9 +44,10 @@ use Rattle.std.specs.Option.{option_map_or}
 use Rattle.qc_recover.specs.Vocabulary.{client_rises}
 use Rattle.laws_refinement.specs.Vocabulary.{FrontStands, Net, Reaches, sent_all}
 use Rattle.laws_refinement.specs.Net as nets
-use Rattle.laws_refinement.proofs.ClientCases.{called_cases, heard_cases}
+use Rattle.laws_refinement.proofs.ClientCases.{called_cases}
 use Rattle.laws_refinement.proofs.Machine.{put_one}
 use Rattle.laws_refinement.proofs.MessageCases.{message_cases}
+use Rattle.qc_client.proofs.HeardCases.{heard_cases}
 
 -- a front end that stands
 record Stands (decl : Declaration) (front : Front) : Type 0 where

@@ -4,9 +4,8 @@ use Rattle.std.proofs.Common.{◌≡◌, ℕ, inl, inr, true, map, take, List, [
 use Rattle.std.proofs.Common.{◌∙◌, subst}
 use Rattle.std.proofs.lemmas.List.{append-nil}
 use Rattle.qc_list.specs.Vocabulary.{In}
-use Rattle.qc_list.proofs.Members.{In-first, In-second}
+use Rattle.qc_list.proofs.Members.{In-first, In-second, In-either}
 use Rattle.qc_entry.specs.declared.record.Prepared.{Prepared}
-use Rattle.theory_onecopy.proofs.Lists.{in_split}
 use Rattle.qc_decl.specs.Vocabulary.{IsAccepted, administrator, is_site}
 use Rattle.qc_decl.specs.declared.declaration.Declaration.{Declaration}
 use Rattle.qc_msg.specs.declared.message.Answer.TheVariants as answers
@@ -28,11 +27,11 @@ use Rattle.laws_refinement.specs.Vocabulary.{IsRecorded, Net, Reaches, Refines}
 use Rattle.laws_refinement.specs.Net as nets
 use Rattle.laws_refinement.proofs.Kepts.{no_client, no_ruler}
 use Rattle.laws_refinement.proofs.Machine.{put_other}
-use Rattle.laws_refinement.proofs.SiteNets.{place}
 use Rattle.laws_refinement.proofs.Posts.{Place, placed}
 use Rattle.laws_refinement.proofs.Refining.{nets_refine}
 use Rattle.laws_refinement.proofs.Apart.{found_in}
 use Rattle.laws_refinement.proofs.SiteVotes.{Voted, message_votes, no_inquiry, promises_recorded, take_silent}
+use Rattle.laws_refinement.proofs.Lives.{same_or}
 
 module _ (decl : Declaration) where
   grows : (net next : Net) (a to : ℕ) → ((e : Envelope) → In e net.mail → In e next.mail)
@@ -50,7 +49,7 @@ module _ (decl : Declaration) where
 
   put_grows : (f : ℕ → List Record) (a b : ℕ) (rs : List Record) (r : Record) → (In r (f a) → In r rs) → In r (f b)
       → In r (put f a rs b)
-  put_grows f a b rs r more among = elim (place b a) [
+  put_grows f a b rs r more among = elim (same_or b a) [
     | inl e ↦ subst (λ (x : ℕ). In r (put f a rs x)) (sym e)
         (subst (λ (xs : List Record). In r xs) (sym (put_here f a rs)) (more (subst (λ (x : ℕ). In r (f x)) e among)))
     | inr other ↦ subst (λ (xs : List Record). In r xs) (sym (put_other f a rs b other)) among
@@ -66,7 +65,7 @@ module _ (decl : Declaration) where
       → (is_site decl a ≡ true → (p : Posting) → In p ps → (to clock : ℕ)
       → p.message ≡ messages.Answer to (answers.Yes clock) → IsRecorded next a to) → Stand net → Stand next
   step net next a ps mail kept new old e among site to clock is =
-      elim (in_split e net.mail (envelopes a (length net.mail) ps)
+      elim (In-either e net.mail (envelopes a (length net.mail) ps)
       (subst (λ (es : List Envelope). In e es) mail among)) [
         | inl before ↦ grows net next e.from to (λ x h. subst (λ (es : List Envelope). In x es) (sym mail)
             (In-first x net.mail (envelopes a (length net.mail) ps) h)) (kept e.from) (old e before site to clock is)

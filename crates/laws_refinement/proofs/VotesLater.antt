@@ -4,9 +4,8 @@ use Rattle.std.proofs.Common.{◌≡◌, ◌⊎◌, ℕ, ◌≤◌, arith, inl, 
 use Rattle.std.proofs.Common.{subst}
 use Rattle.std.proofs.lemmas.List.{append-nil}
 use Rattle.qc_list.specs.Vocabulary.{In}
-use Rattle.qc_list.proofs.Members.{In-first}
+use Rattle.qc_list.proofs.Members.{In-first, In-either}
 use Rattle.qc_entry.specs.declared.record.Prepared.{Prepared}
-use Rattle.theory_onecopy.proofs.Lists.{in_split}
 use Rattle.qc_decl.specs.Vocabulary.{IsAccepted, administrator, is_site}
 use Rattle.qc_decl.specs.declared.declaration.Declaration.{Declaration}
 use Rattle.qc_msg.specs.declared.message.Answer.TheVariants as answers
@@ -72,7 +71,7 @@ module _ (decl : Declaration) where
         → p.message ≡ messages.Answer to (answers.Yes clock) → IsNamedLater net next a to) → Stand middle
         → Stand next
     step middle next a ps mail new old e among site to clock is =
-        elim (in_split e middle.mail (envelopes a (length middle.mail) ps)
+        elim (In-either e middle.mail (envelopes a (length middle.mail) ps)
         (subst (λ (es : List Envelope). In e es) mail among)) [
           | inl before ↦ elim (old e before site to clock is) [
             | inl there ↦ inl there

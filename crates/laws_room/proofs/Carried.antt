@@ -1,6 +1,6 @@
 -- The lines that the messages of a run carry: each message at most one for each committed operation.
-use Rattle.std.proofs.Common.{◌≡◌, ℕ, ◌+◌, ◌*◌, ◌≤◌, ◌==◌, Bool, true, false, cond, inl, inr, List, [], ◌∷◌, length}
-use Rattle.std.proofs.Common.{sum_by, Option, Some, None, refl, sym, ap, ◌∙◌, subst, arith, eqb-true}
+use Rattle.std.proofs.Common.{◌≡◌, ℕ, ◌+◌, ◌*◌, ◌≤◌, ◌==◌, Bool, true, false, cond, inl, List, [], ◌∷◌, length, sum_by}
+use Rattle.std.proofs.Common.{refl, sym, ap, ◌∙◌, subst, arith, eqb-true}
 use Rattle.std.specs.List.{AllByRecursion as Every, cons_option}
 use Rattle.std.proofs.Math.Nat.{mul-add, mul-le-mul_left, mul_comm}
 use Rattle.std.proofs.lemmas.List.Sums.{sum_by-cons}
@@ -45,12 +45,9 @@ use Rattle.laws_room.proofs.LinePrices.{carries, in_messages, message_budget, me
 use Rattle.laws_room.proofs.OperationPrices.{dos_paid}
 use Rattle.laws_room.proofs.Costs.{cost_of, script_budget, step_cost}
 use Rattle.laws_room.proofs.Paid.{run_paid}
+use Rattle.laws_guarantees.proofs.Mailed.{cons_rest}
 
 -- where each message carries at most so many lines, all carry as many for each that carries some
-
-in_rest : (o : Option Envelope) (x : Envelope) (xs : List Envelope) → In x xs → In x (cons_option o xs)
-in_rest None x xs among = among
-in_rest (Some e) x xs among = inr among
 
 module _ (most : ℕ) where
   one_carries : (m : Message) → lines_in m ≤ most → lines_in m ≤ carries m * most
@@ -80,7 +77,7 @@ module _ (most : ℕ) where
   carried_few [] none few = omega arith
   carried_few (e ∷ h) none few =
       let rest : carried_of h ≤ cost_of in_messages h * most =
-      carried_few h none.1 (λ x among. few x (in_rest (envelope_of e) x (mail h) among)) in
+      carried_few h none.1 (λ x among. few x (cons_rest (envelope_of e) x (mail h) among)) in
       let here : carried_at e.step ≤ step_cost in_messages e.step * most =
       step_carries e.actor e.step (mail h) none.0 few in
       let a : carried_of (e ∷ h) ≡ carried_at e.step + carried_of h =

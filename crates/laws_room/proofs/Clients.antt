@@ -35,13 +35,13 @@ use Rattle.qc_client.specs.Vocabulary.{commits, heard, moved, outcome_of, sent, 
 use Rattle.qc_core.proofs.ClientReaches.{AskedFit, asked_voting}
 use Rattle.qc_core.proofs.FewSites.{AreSites}
 use Rattle.qc_core.proofs.FrontReaches.{asked_in}
-use Rattle.qc_core.proofs.RoundSites.{cyclic_length, length_filter}
 use Rattle.laws_turns.proofs.ClientCases.{called_cases, heard_cases}
 use Rattle.laws_room.proofs.Totals.{times, times-le}
 use Rattle.laws_room.proofs.Prices.{Prices, AreFair, budget, full, pays, pays_input, sends_cost, turn_cost}
 use Rattle.laws_room.proofs.FrontCommands.{called_fits}
-use Rattle.laws_room.proofs.Fronts.{front_left, map_cost, operations_in, doing_left, takes_costs}
-use Rattle.laws_room.proofs.Fronts.{verdicts_cost}
+use Rattle.laws_room.proofs.Fronts.{front_left, map_cost, operations_in, doing_left, takes_costs, verdicts_cost}
+use Rattle.qc_list.proofs.Members.{length-filter}
+use Rattle.qc_plan.proofs.Rounds.{length-cyclic}
 
 -- what a running command of a client may still cost: while votes are awaited, a commit record with its operations, the
 -- verdicts and the reply
@@ -148,9 +148,9 @@ module _ (decl : Declaration) (accepted : IsAccepted decl) (p : Prices) (fair : 
       let some : 0 < decl.sites = accepted.has_site in
       let low : client % decl.sites < decl.sites = omega arith in
       let fewer : length (participants decl client b) ≤ length (cyclic decl.sites (first_site decl client)) =
-      length_filter (has_granted b.lives) (cyclic decl.sites (first_site decl client)) in
+      length-filter (has_granted b.lives) (cyclic decl.sites (first_site decl client)) in
       let whole : length (cyclic decl.sites (first_site decl client)) ≡ decl.sites =
-      cyclic_length decl.sites (first_site decl client) (omega arith) in
+      length-cyclic decl.sites (first_site decl client) (omega arith) in
       omega arith
 
   prepare_fits : (c : Client) (t : Transaction) → c.desk.voting ≡ None → c.front.transaction ≡ Some t

@@ -1,7 +1,7 @@
 -- A run of a plain script has few steps, and commits few operations: by what its script asks.
-use Rattle.std.proofs.Common.{◌≡◌, ℕ, ◌+◌, ◌*◌, ◌≤◌, Bool, List, [], ◌∷◌, ◌++◌, fold, length, sum_by, Option, Some}
-use Rattle.std.proofs.Common.{None, refl, sym, ap, ◌∙◌, arith, length-append}
-use Rattle.std.proofs.lemmas.List.Sums.{fold-append, sum_by-append, sum_by-cons}
+use Rattle.std.proofs.Common.{◌≡◌, ℕ, ◌+◌, ◌*◌, ◌≤◌, Bool, List, [], ◌∷◌, ◌++◌, length, sum_by, Option, Some, None}
+use Rattle.std.proofs.Common.{refl, sym, ap, ◌∙◌, arith, length-append}
+use Rattle.std.proofs.lemmas.List.Sums.{sum_by-append, sum_by-cons}
 use Rattle.qc_core.specs.Vocabulary.{IsLawful}
 use Rattle.qc_decl.specs.Vocabulary.{IsAccepted, controller}
 use Rattle.qc_decl.specs.declared.declaration.Declaration.{Declaration}
@@ -17,11 +17,11 @@ use Rattle.qc_msg.specs.declared.turn.Turn.{Turn}
 use Rattle.qc_msg.specs.Vocabulary.{Entry, answered, by, mail, marked, operations_of, posted, sents, step_of, told}
 use Rattle.qc_msg.specs.Vocabulary.{written, wrote}
 use Rattle.qc_msg.proofs.GrownMail.{by-posted}
-use Rattle.qc_script.specs.Vocabulary.{Runs, inbox, phase_at, phase_of}
+use Rattle.qc_script.specs.Vocabulary.{Runs, inbox, phase_of}
 use Rattle.qc_script.specs.Runs.{begins, takes, posts, phase, control}
 use Rattle.qc_script.specs.declared.script.Script.{Script}
 use Rattle.laws_turns.proofs.Calling.{phases_are_the_scripts}
-use Rattle.laws_turns.proofs.PhaseCalls.{phase_posted, phase_taken}
+use Rattle.laws_turns.proofs.PhaseCalls.{phase_posted, phase_more}
 use Rattle.laws_guarantees.specs.Vocabulary.{Arrives, IsLossless}
 use Rattle.laws_guarantees.proofs.NeverRisen.{operations_written}
 use Rattle.laws_guarantees.proofs.Passing.{no_request_is_lost}
@@ -32,6 +32,7 @@ use Rattle.laws_room.proofs.Costs.{cost_of, script_budget, step_cost}
 use Rattle.laws_room.proofs.Paid.{run_paid}
 use Rattle.laws_room.proofs.Prices.{Prices}
 use Rattle.laws_room.proofs.StepPrices.{in_steps, steps_fair, steps_paid}
+use Rattle.qc_script.proofs.Lasts.{phase_taken}
 
 -- the steps of an input, and of a turn, each cost one
 
@@ -91,9 +92,6 @@ step_of-cost : (g : Input) → step_cost in_steps (step_of g) ≡ 1
 step_of-cost (inputs.Called command) = refl
 step_of-cost (inputs.Got e) = refl
 step_of-cost (inputs.Lost n) = refl
-
-phase_more : (h k : List Entry) → phase_of (h ++ k) ≡ fold (λ (n : ℕ) (e : Entry). phase_at n e.step) (phase_of h) k
-phase_more h k = fold-append (λ (n : ℕ) (e : Entry). phase_at n e.step) 0 h k
 
 module _ (decl : Declaration) (script : Script) (lossless : IsLossless script) where
   pub steps_cost : (h : List Entry) (open_inputs : List Bool) → Runs (IsLawful decl) decl script h open_inputs

@@ -1,13 +1,11 @@
 -- A front end's turn costs no more than its input pays and what the running `do` still has: a request of each kind to
 -- each site that it may yet ask.
-use Rattle.std.proofs.Common.{◌≡◌, ℕ, suc, ◌+◌, ◌-◌, ◌≤◌, cond, List, [], ◌∷◌, ◌++◌, map}
-use Rattle.std.proofs.Common.{length, Option, Some, None, is_some, option_map, refl, ap, ◌∙◌, subst, arith}
-use Rattle.std.proofs.Common.{length-append}
+use Rattle.std.proofs.Common.{◌≡◌, ℕ, suc, ◌+◌, ◌-◌, ◌≤◌, cond, List, [], ◌∷◌, ◌++◌, map, length, Option, Some, None}
+use Rattle.std.proofs.Common.{is_some, option_map, refl, ap, ◌∙◌, subst, arith, length-append}
 use Rattle.std.specs.Prelude.{slice_get, drop, option_and_then}
 use Rattle.std.proofs.lemmas.List.Sums.{sum_by_push}
-use Rattle.qc_decl.specs.Vocabulary.{IsAccepted}
+use Rattle.qc_decl.specs.Vocabulary.{IsAccepted, append_need_of}
 use Rattle.qc_decl.specs.declared.declaration.Declaration.{Declaration}
-use Rattle.qc_decl.specs.Vocabulary.{append_need_of}
 use Rattle.qc_entry.specs.declared.line.Op.{Op}
 use Rattle.qc_msg.specs.declared.begun.Begun.{Begun}
 use Rattle.qc_msg.specs.declared.call.Call.{Call}
@@ -16,8 +14,8 @@ use Rattle.qc_msg.specs.declared.message.Message.TheVariants as messages
 use Rattle.qc_msg.specs.declared.message.Outcome.{Outcome}
 use Rattle.qc_msg.specs.declared.payload.Grant.{Grant}
 use Rattle.qc_msg.specs.declared.turn.Posting.{Posting}
-use Rattle.qc_msg.specs.Vocabulary.{answered as answered_ops, decisions, granted_in, life_of, read_of}
-use Rattle.qc_msg.specs.Vocabulary.{site_called, without_call}
+use Rattle.qc_msg.specs.Vocabulary.{answered as answered_ops, decisions, granted_in, life_of, read_of, site_called}
+use Rattle.qc_msg.specs.Vocabulary.{without_call}
 use Rattle.qc_plan.specs.Vocabulary.{RoundState, asking_all, note, verdict, wanted}
 use Rattle.qc_plan.specs.declared.standing.Verdict.{Verdict}
 use Rattle.qc_plan.specs.declared.standing.Verdict.TheVariants as verdicts
@@ -28,16 +26,16 @@ use Rattle.qc_front.specs.declared.doing.Doing.TheVariants.{Idle, Reading, Appen
 use Rattle.qc_front.specs.declared.front.Front.{Front}
 use Rattle.qc_front.specs.declared.transaction.Transaction.{Transaction}
 use Rattle.qc_front.specs.Vocabulary.{FrontMove, answer_of, answered, append_by, append_want, appended_with}
-use Rattle.qc_front.specs.Vocabulary.{appending_takes, appends, learns, lived}
-use Rattle.qc_front.specs.Vocabulary.{next_own, op_of, own_appended, read_by, read_want, read_with}
-use Rattle.qc_front.specs.Vocabulary.{reading_takes, reads, request_of, resp_of, round_for, standing_of, takes}
-use Rattle.qc_front.specs.Vocabulary.{takes_in, view_log, with_event, with_granted, with_view}
+use Rattle.qc_front.specs.Vocabulary.{appending_takes, appends, learns, lived, next_own, op_of, own_appended, read_by}
+use Rattle.qc_front.specs.Vocabulary.{read_want, read_with, reading_takes, reads, request_of, resp_of, round_for}
+use Rattle.qc_front.specs.Vocabulary.{standing_of, takes, takes_in, view_log, with_event, with_granted}
 use Rattle.qc_front.proofs.Awaited.{wanted_is}
 use Rattle.qc_core.proofs.FewSites.{AreSites, few_sites}
 use Rattle.qc_core.proofs.RoundSites.{start_fits}
 use Rattle.laws_turns.proofs.ReadingCases.{mapped}
 use Rattle.laws_room.proofs.Totals.{times, times-le, times-more}
 use Rattle.laws_room.proofs.Prices.{Prices, AreFair, full, sends_cost, turn_cost}
+use Rattle.qc_front.proofs.CommandsKeep.{view_keeps}
 
 -- what a transaction's operations may cost once they are recorded
 abbrev pub operations_in : Prices → Option Transaction → ℕ
@@ -102,10 +100,6 @@ wanted_left r = rest_left r (wanted r) (
 
 -- operations are kept, or one joins them
 
-view_ops : (t : Transaction) (object : ℕ) (o : Option View) → (with_view t object o).begun ≡ t.begun
-view_ops t object None = refl
-view_ops t object (Some v) = refl
-
 one_op : (ops : List Op) (op : Op) → answered_ops (ops ++ op ∷ []) ≡ answered_ops ops + cond (is_some op.resp) 1 0
 one_op ops op = sum_by_push (λ (o : Op). cond (is_some o.resp) 1 0) ops op
 
@@ -114,7 +108,7 @@ read_ops : (t : Transaction) (site object : ℕ) (answer : Option Answer)
 read_ops t site object answer =
     mapped (λ (u : Transaction). u.begun.ops ≡ t.begun.ops)
     (λ (g : Grant). with_granted (lived t site g.life) object g.log) t (option_and_then granted_in answer)
-    (λ g. ap (λ (b : Begun). b.ops) (view_ops (lived t site g.life) object
+    (λ g. ap (λ (b : Begun). b.ops) (view_keeps (lived t site g.life) object
     (option_map (λ (v : View). with_log v g.log) (slice_get t.views object))))
     refl
 
@@ -158,7 +152,7 @@ module _ (decl : Declaration) (accepted : IsAccepted decl) (p : Prices) (fair : 
       let kept : (with_event t object inv event (resp_of decl object event)).begun.ops
       ≡ t.begun.ops ++ op_of object inv (Some (resp_of decl object event)) ∷ [] =
       ap (λ (b : Begun). b.ops ++ op_of object inv (Some (resp_of decl object event)) ∷ [])
-      (view_ops (record t { own = t.own ++ next_own t object event ∷ [] }) object
+      (view_keeps (record t { own = t.own ++ next_own t object event ∷ [] }) object
       (option_map (λ (v : View). with_own v event) (slice_get t.views object))) in
       let more : answered_ops (with_event t object inv event (resp_of decl object event)).begun.ops
       ≡ answered_ops t.begun.ops + 1 =

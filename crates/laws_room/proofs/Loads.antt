@@ -1,5 +1,5 @@
 -- Up to 500 transactions of a load have room.
-use Rattle.std.proofs.Common.{◌≡◌, ℕ, zero, suc, ◌+◌, ◌*◌, ◌≤◌, [], length, sum_by, refl, ap, arith}
+use Rattle.std.proofs.Common.{◌≡◌, ℕ, zero, suc, ◌+◌, ◌*◌, ◌≤◌, [], length, sum_by, refl, arith}
 use Rattle.std.specs.List.{AllByRecursion as Every}
 use Rattle.std.proofs.Math.Nat.{mul-le-mul_left}
 use Rattle.std.proofs.lemmas.List.Sums.{sum_by-cons}
@@ -7,6 +7,7 @@ use Rattle.qc_decl.specs.Vocabulary.{three}
 use Rattle.qc_gen.specs.Vocabulary.{load_of, next_state, phase_of, phases_from}
 use Rattle.qc_script.specs.declared.script.PhaseLines.{PhaseLines}
 use Rattle.laws_room.specs.Vocabulary.{HasRoom, MovesNone, commands_of, dos_in, dos_of}
+use Rattle.qc_gen.proofs.Phases.{phases_counted}
 
 -- four commands a phase, of which two are a `do`, and no control line
 
@@ -31,10 +32,6 @@ two (suc count) number state =
     ≡ 2 + sum_by dos_in (phases_from count (suc number) (next_state state)) =
     sum_by-cons dos_in (phase_of number (next_state state)) (phases_from count (suc number) (next_state state)) in
     omega arith
-
-phases_counted : (count number state : ℕ) → length (phases_from count number state) ≡ count
-phases_counted zero number state = refl
-phases_counted (suc count) number state = ap suc (phases_counted count (suc number) (next_state state))
 
 no_controls : (count number state : ℕ)
     → Every (λ (p : PhaseLines). p.controls ≡ []) (phases_from count number state)

@@ -20,11 +20,11 @@ use Rattle.qc_script.specs.Runs.{begins, takes, posts, phase, control}
 use Rattle.qc_script.specs.declared.script.Script.{Script}
 use Rattle.laws_turns.proofs.Arrivals.{what_is_ready_was_sent}
 use Rattle.laws_turns.proofs.Numbered.{IsSilent, control_silent, phase_silent}
-use Rattle.laws_turns.proofs.Places.{length-replicate, length-slice_set, replicate_at, replicate_within}
-use Rattle.laws_turns.proofs.Places.{slice_get-set_other, slice_get-set_same, slice_get-within}
+use Rattle.laws_turns.proofs.Places.{length-replicate, replicate_within}
 use Rattle.laws_turns.proofs.Running.{what_is_ready_may_be_taken}
 use Rattle.laws_turns.specs.Vocabulary.{ActsIn}
 use Rattle.laws_turns.proofs.Up.{run_up}
+use Rattle.qc_list.proofs.Places.{some_at, replicate_at, length-slice_set, slice_get-set_other, slice_get-set_same}
 
 -- a step that is nobody's deed
 pub deeds-silent : (a b : ℕ) (h : List Entry) (step : Step) → IsSilent step
@@ -212,5 +212,5 @@ module _ (lawful : ℕ → List Deed → Turn → Type 0) (decl : Declaration) (
 
   pub has_entry : (h : List Entry) (open_inputs : List Bool) → Runs lawful decl script h open_inputs → (a : ℕ)
       → a < actors decl → (t : Bool) × (slice_get open_inputs a ≡ Some t)
-  has_entry h open_inputs run a within = slice_get-within open_inputs a
+  has_entry h open_inputs run a within = some_at open_inputs a
       (let long : length open_inputs ≡ actors decl = as_many h open_inputs run in omega arith)

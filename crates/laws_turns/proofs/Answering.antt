@@ -23,10 +23,7 @@ use Rattle.qc_script.proofs.AllUp.{is_up-everybody}
 use Rattle.qc_script.proofs.Requests.{added-number, has-numbers, without-numbers}
 use Rattle.laws_turns.proofs.AwaitedCopies.{at_once}
 use Rattle.laws_turns.proofs.ReadingCases.{mapped}
-
-which : {A : Type 0} (P : A → Type 0) (t : Bool) (x y : A) → P x → P y → P (if t then x else y)
-which P true x y here there = here
-which P false x y here there = there
+use Rattle.qc_list.proofs.Booleans.{if_two}
 
 -- no more is unanswered, as a message comes
 
@@ -188,27 +185,27 @@ module _ (script : Script) (a : ℕ) (i : Inbox) (e : Envelope) where
       kept : (m : Message) → In e (answers_by j m f).copies
       kept m =
           mapped (λ (k : Inbox). In e k.copies) (λ (a : Answered). request_answered j a.to f) j (answer_in m)
-          (λ a. which (λ (k : Inbox). In e k.copies) (has_request j.unanswered a.to) _ j ready ready) ready
+          (λ a. if_two (λ (k : Inbox). In e k.copies) (has_request j.unanswered a.to) _ j ready ready) ready
 
   -- copies stay, as any message comes and goes
 
   answers_copies : (j : Inbox) (m : Message) (f : Fate) (x : Envelope) → In x j.copies → In x (answers_by j m f).copies
   answers_copies j m f x member =
       mapped (λ (k : Inbox). In x k.copies) (λ (a : Answered). request_answered j a.to f) j (answer_in m)
-      (λ a. which (λ (k : Inbox). In x k.copies) (has_request j.unanswered a.to) _ j member member) member
+      (λ a. if_two (λ (k : Inbox). In x k.copies) (has_request j.unanswered a.to) _ j member member) member
 
   goes_copies : (j : Inbox) (f : Fate) (x : Envelope) → In x j.copies → In x (goes_with j e f).copies
-  goes_copies j f x member = which (λ (k : Inbox). In x k.copies) (is_request e.message) _ _
-      (which (λ (k : Inbox). In x k.copies) (comes_at_once f && is_up j.up e.to) _ _ member member) member
+  goes_copies j f x member = if_two (λ (k : Inbox). In x k.copies) (is_request e.message) _ _
+      (if_two (λ (k : Inbox). In x k.copies) (comes_at_once f && is_up j.up e.to) _ _ member member) member
 
   pub copies_stay : (x : Envelope) → In x i.copies → In x (goes script.links a (comes script.links a i e) e).copies
   copies_stay x member =
-      which (λ (k : Inbox). In x k.copies) (e.from == a) _ (comes script.links a i e)
+      if_two (λ (k : Inbox). In x k.copies) (e.from == a) _ (comes script.links a i e)
       (goes_copies (comes script.links a i e) (fate script.links (comes script.links a i e).cuts e.from e.to
       (count_of (comes script.links a i e).to_each e.to + 1)) x came) came
     where
       came : In x (comes script.links a i e).copies
-      came = which (λ (k : Inbox). In x k.copies) (e.to == a) _ i
+      came = if_two (λ (k : Inbox). In x k.copies) (e.to == a) _ i
           (answers_copies (with_copies (is_up i.up a) i e
           (fate script.links i.cuts e.from e.to (count_of i.from_each e.from + 1))) e.message
           (fate script.links i.cuts e.from e.to (count_of i.from_each e.from + 1)) x

@@ -1,7 +1,7 @@
 -- Every copy in an inbox is a message that was sent, under its number, to the inbox's actor; so what is ready for an
 -- actor was sent to it.
 use Rattle.std.proofs.Common.{[], ◌≡◌, ℕ, ◌+◌, ◌-◌, ◌==◌, ◌&&◌, not, Bool, true, false, cond, if◌then◌else◌, List, ◌∷◌}
-use Rattle.std.proofs.Common.{◌++◌, length, Option, Some, None, slice_get, sym, ap, ◌∙◌, subst, arith, append_assoc}
+use Rattle.std.proofs.Common.{◌++◌, length, Option, Some, None, slice_get, sym, ap, ◌∙◌, subst, arith}
 use Rattle.std.specs.Prelude.{option_to_list, set, MatchOption, option_and_then}
 use Rattle.std.specs.List.{cons_option, fold}
 use Rattle.std.proofs.lemmas.List.{append-nil}
@@ -27,6 +27,7 @@ use Rattle.laws_turns.proofs.Numbered.{AreNumbered, run_numbered}
 use Rattle.laws_turns.proofs.Places.{slice_get-last}
 use Rattle.laws_turns.proofs.ArrivedMail.{AreMail, mail_left, Arrived, arrived_more, arrived_if, arrived_comes}
 use Rattle.laws_turns.proofs.ArrivedMail.{arrived_goes, arrived_phase, arrived_acted, arrived_controls}
+use Rattle.qc_mailbox.proofs.Among.{mail_cons}
 
 -- an actor falls, and one rises
 
@@ -124,11 +125,6 @@ numbered_rest ms (Some e) more are = subst (λ (n : ℕ). AreNumbered n more) (s
     longer [] = omega arith
     longer (x ∷ es) = let more : length (es ++ e ∷ []) ≡ length es + 1 = longer es in omega arith
 
-whole_mail : (ms : List Envelope) (o : Option Envelope) (more : List Envelope)
-    → (ms ++ option_to_list o) ++ more ≡ ms ++ cons_option o more
-whole_mail ms None more = ap (λ (v : List Envelope). v ++ more) (append-nil ms)
-whole_mail ms (Some e) more = append_assoc ms (e ∷ []) more
-
 arrived_all : (script : Script) (a : ℕ) (h : List Entry) (ms : List Envelope) (i : Inbox) → Arrived a ms i
     → AreNumbered (length ms) (mail h)
     → Arrived a (ms ++ mail h) (fold (λ (i : Inbox) (e : Entry). inbox_at script a i e.actor e.step) i h)
@@ -136,7 +132,7 @@ arrived_all script a [] ms i r are = arrived_more a ms [] i r
 arrived_all script a (e ∷ h) ms i r are =
     subst (λ (v : List Envelope). Arrived a v
     (fold (λ (i : Inbox) (x : Entry). inbox_at script a i x.actor x.step) (inbox_at script a i e.actor e.step) h))
-    (whole_mail ms (envelope_of e) (mail h))
+    (mail_cons ms (envelope_of e) (mail h))
     (arrived_all script a h (ms ++ option_to_list (envelope_of e)) (inbox_at script a i e.actor e.step)
     (arrived_step script a ms i e.actor e.step r (next_of ms e.actor e.step (mail h) are))
     (numbered_rest ms (envelope_of e) (mail h) are))

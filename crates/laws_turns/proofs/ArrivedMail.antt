@@ -17,8 +17,8 @@ use Rattle.qc_script.specs.Vocabulary.{Inbox, acting, answers_by, comes, comes_a
 use Rattle.qc_script.specs.Vocabulary.{control_acted, copies_at_once, count_of, goes, goes_with, has_request, if_up}
 use Rattle.qc_script.specs.Vocabulary.{is_request, is_up, late_copies, one_more, opened, opened_by, phase_begun}
 use Rattle.qc_script.specs.Vocabulary.{request_answered, request_sent, with_copies}
-use Rattle.laws_turns.proofs.Places.{slice_get-more}
 use Rattle.laws_turns.proofs.ReadingCases.{mapped}
+use Rattle.qc_list.proofs.Places.{slice_get-more}
 
 -- messages that were sent to an actor
 

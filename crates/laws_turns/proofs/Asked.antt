@@ -1,7 +1,6 @@
 -- A front end asks sites alone, and what it asked stays in order: so its turns are short.
-use Rattle.std.proofs.Common.{◌≡◌, ℕ, ◌+◌, ◌-◌, ◌<◌, ◌≤◌, ◌==◌, ◌⊎◌, inl, inr, nat_lt, Bool, true, false, cond, List}
-use Rattle.std.proofs.Common.{[], ◌∷◌, ◌++◌, fold, length, Option, Some, None, refl, subst, arith}
-use Rattle.std.specs.Prelude.{slice_get}
+use Rattle.std.proofs.Common.{◌≡◌, ℕ, ◌+◌, ◌-◌, ◌<◌, ◌≤◌, ◌⊎◌, inl, inr, nat_lt, Bool, true, false, List, [], ◌∷◌, fold}
+use Rattle.std.proofs.Common.{length, Option, Some, None, refl, subst, arith}
 use Rattle.std.specs.List.{AllByRecursion as Every}
 use Rattle.std.specs.Option.{option_map_or}
 use Rattle.std.specs.Ordering.{nat_cmp}
@@ -14,7 +13,7 @@ use Rattle.qc_list.specs.Vocabulary.{Ascends, In, IsBelowAll, by_order, inserted
 use Rattle.qc_list.proofs.Members.{In-first, In-passes}
 use Rattle.qc_list.proofs.Order.{ascends-inserted}
 use Rattle.qc_decl.specs.declared.declaration.Declaration.{Declaration}
-use Rattle.qc_decl.specs.Vocabulary.{IsAccepted, IsGood, append_need_of, first_site, plan_in, read_need_of}
+use Rattle.qc_decl.specs.Vocabulary.{IsAccepted, append_need_of, first_site, plan_in, read_need_of}
 use Rattle.qc_plan.specs.declared.plan.Plan.{Plan}
 use Rattle.qc_plan.specs.Vocabulary.{RoundState, cyclic, start, weighing, weight_at}
 use Rattle.qc_msg.specs.Vocabulary.{with_site}
@@ -23,16 +22,11 @@ use Rattle.qc_front.specs.declared.doing.Doing.TheVariants.{Idle, Reading, Appen
 use Rattle.qc_front.specs.declared.transaction.Transaction.{Transaction}
 use Rattle.qc_front.specs.Vocabulary.{BegunHolds, IsRound, sites_of, weights_of}
 use Rattle.laws_turns.specs.Vocabulary.{AreSites}
+use Rattle.qc_front.proofs.Fitting.{plan_weights}
+use Rattle.qc_core.proofs.FewSites.{none_low}
+use Rattle.qc_list.proofs.Numbers.{below_from_cmp}
 
 -- members of lists
-
-in_either : (x : ℕ) (xs ys : List ℕ) → In x (xs ++ ys) → In x xs ⊎ In x ys
-in_either x [] ys among = inr among
-in_either x (y ∷ xs) ys (inl same) = inl (inl same)
-in_either x (y ∷ xs) ys (inr later) = by (in_either x xs ys later) where
-  by : In x xs ⊎ In x ys → In x (y ∷ xs) ⊎ In x ys
-  by (inl first) = inl (inr first)
-  by (inr second) = inr second
 
 in_inserted : (x y : ℕ) (ys : List ℕ) → In x (inserted nat_cmp ys y) → In x ys ⊎ (x ≡ y)
 in_inserted x y [] (inl same) = inr same
@@ -68,13 +62,6 @@ joined-ascends xs (y ∷ ys) up = joined-ascends (with_site xs y) ys (ascends-in
 
 -- ascending numbers from a low one on, below another
 
-less_is : (x y : ℕ) → nat_cmp x y ≡ Less → x < y
-less_is x y is = by (nat_lt x y) refl (x == y) is where
-  by : (t : Bool) → nat_lt x y ≡ t → (s : Bool) → cond t Less (cond s Equal Greater) ≡ Less → x < y
-  by true low s same = ltb-true x y low
-  by false low true never = absurd (let no : ⊥ = cc in no)
-  by false low false never = absurd (let no : ⊥ = cc in no)
-
 few_between : (low high : ℕ) (xs : List ℕ) → Ascends nat_cmp xs → Every (λ x. low ≤ x) xs → Every (λ x. x < high) xs
     → low ≤ high → low + length xs ≤ high
 few_between low high [] up above below le = omega arith
@@ -86,25 +73,14 @@ few_between low high (x ∷ xs) up above below le =
   where
     later : (ys : List ℕ) → IsBelowAll nat_cmp x ys → Every (λ y. x + 1 ≤ y) ys
     later [] here = tt
-    later (y ∷ ys) here = (let low : x < y = less_is x y here.0 in omega arith, later ys here.1)
-
-any_above : (xs : List ℕ) → Every (λ x. 0 ≤ x) xs
-any_above [] = tt
-any_above (x ∷ xs) = (omega arith, any_above xs)
+    later (y ∷ ys) here = (let low : x < y = below_from_cmp x y here.0 in omega arith, later ys here.1)
 
 -- sites are few
 pub few_sites : (decl : Declaration) (sites : List ℕ) → AreSites decl sites → length sites ≤ decl.sites
 few_sites decl sites are = let few : 0 + length sites ≤ decl.sites =
-    few_between 0 decl.sites sites are.ascending (any_above sites) are.declared (omega arith) in omega arith
+    few_between 0 decl.sites sites are.ascending (none_low sites) are.declared (omega arith) in omega arith
 
 -- a round's sites are sites
-
-plan_weights : (decl : Declaration) (epoch : ℕ) → IsAccepted decl → (p : Plan) → plan_in decl epoch ≡ Some p
-    → length p.weights ≡ decl.sites
-plan_weights decl epoch accepted p is = by (epoch == 0) is where
-  by : (t : Bool) → cond t None (slice_get decl.plans (epoch - 1)) ≡ Some p → length p.weights ≡ decl.sites
-  by true never = absurd (let no : ⊥ = cc in no)
-  by false at = let good : IsGood decl p = accepted.good (epoch - 1) p at in good.weights
 
 weights_few : (decl : Declaration) (epoch : ℕ) → IsAccepted decl → length (weights_of decl epoch) ≤ decl.sites
 weights_few decl epoch accepted = by (plan_in decl epoch) refl where

@@ -42,17 +42,17 @@ number_added (x ∷ ns) n = at (nat_lt n x) (number_added ns n)
     at true more = inl refl
     at false more = inr more
 
-number_left : (ns : List ℕ) (m n : ℕ) → (n == m) ≡ false → In n ns → In n (without_number ns m)
+pub number_left : (ns : List ℕ) (m n : ℕ) → (n == m) ≡ false → In n ns → In n (without_number ns m)
 number_left ns m n other member = In-filter (λ (x : ℕ). not (x == m)) n ns member (ap not other)
 
-request_left : (rs : List SentRequest) (m n : ℕ) → (n == m) ≡ false → In n (request_numbers rs)
+pub request_left : (rs : List SentRequest) (m n : ℕ) → (n == m) ≡ false → In n (request_numbers rs)
     → In n (request_numbers (without_request rs m))
 request_left rs m n other member =
     subst (In n) (sym (without-numbers rs m)) (number_left (request_numbers rs) m n other member)
 
 -- copies
 
-answer_first : (n : ℕ) (xs ys : List Envelope) → HasAnswer n xs → HasAnswer n (xs ++ ys)
+pub answer_first : (n : ℕ) (xs ys : List Envelope) → HasAnswer n xs → HasAnswer n (xs ++ ys)
 answer_first n xs ys has =
     record { envelope = has.envelope; member = In-first has.envelope xs ys has.member; answers = has.answers }
 
@@ -87,7 +87,7 @@ awaited_copies n i e f is =
     awaited_more n i (with_copies true i e f) refl refl (answer_first n i.copies (copies_at_once f e)) is
 
 -- an answer: a copy of it is ready, or the request is lost
-awaited_answered : (n to : ℕ) (i : Inbox) (f : Fate) → (comes_at_once f ≡ true → n ≡ to → HasAnswer n i.copies)
+pub awaited_answered : (n to : ℕ) (i : Inbox) (f : Fate) → (comes_at_once f ≡ true → n ≡ to → HasAnswer n i.copies)
     → IsAwaited n i → IsAwaited n (request_answered i to f)
 awaited_answered n to i f copied is = at (has_request i.unanswered to) (comes_at_once f) (n == to) refl refl is
   where
@@ -118,7 +118,8 @@ comes_answer n i e f to answer is once same = record {
   answers = subst (IsAnswerTo n) (sym is) (sym same);
 }
 
-awaited_comes_with : (n : ℕ) (i : Inbox) (e : Envelope) (f : Fate) → IsAwaited n i → IsAwaited n (comes_with true i e f)
+pub awaited_comes_with : (n : ℕ) (i : Inbox) (e : Envelope) (f : Fate) → IsAwaited n i
+    → IsAwaited n (comes_with true i e f)
 awaited_comes_with n i e f is = at e.message refl
   where
     at : (m : Message) → e.message ≡ m → IsAwaited n (answers_by (with_copies true i e f) m f)
@@ -134,7 +135,7 @@ awaited_comes_with n i e f is = at e.message refl
 
 -- a message goes
 
-awaited_sent : (n number to : ℕ) (i : Inbox) (f : Fate) → IsAwaited n i → IsAwaited n (request_sent i number to f)
+pub awaited_sent : (n number to : ℕ) (i : Inbox) (f : Fate) → IsAwaited n i → IsAwaited n (request_sent i number to f)
 awaited_sent n number to i f is = at (comes_at_once f && is_up i.up to) is
   where
     at : (once : Bool) → IsAwaited n i
@@ -164,7 +165,7 @@ awaited_asked number to i f = at (comes_at_once f && is_up i.up to)
 counted : (n : ℕ) (i : Inbox) (to : ℕ) → IsAwaited n i → IsAwaited n (record i { to_each = one_more i.to_each to })
 counted n i to is = awaited_more n i (record i { to_each = one_more i.to_each to }) refl refl (λ has. has) is
 
-awaited_goes_with : (n : ℕ) (i : Inbox) (e : Envelope) (f : Fate) → IsAwaited n i → IsAwaited n (goes_with i e f)
+pub awaited_goes_with : (n : ℕ) (i : Inbox) (e : Envelope) (f : Fate) → IsAwaited n i → IsAwaited n (goes_with i e f)
 awaited_goes_with n i e f is =
     awaited_if n (is_request e.message) _ _
     (awaited_sent n e.number e.to (record i { to_each = one_more i.to_each e.to }) f (counted n i e.to is))

@@ -63,7 +63,8 @@ given-within bound a ms (inputs.Got e) all sent =
     every-at (λ (e : Envelope). MessageWithin bound e.message) ms e.number e all sent.0
 given-within bound a ms (inputs.Lost number) all sent = tt
 
-posted-within : (bound from n : ℕ) (ps : List Posting) → SendsWithin bound ps → MailWithin bound (envelopes from n ps)
+pub posted-within : (bound from n : ℕ) (ps : List Posting) → SendsWithin bound ps
+    → MailWithin bound (envelopes from n ps)
 posted-within bound from n [] all = tt
 posted-within bound from n (p ∷ ps) all = (all.0, posted-within bound from (n + 1) ps all.1)
 

@@ -1,7 +1,7 @@
 -- In each run whose script asks clients to move no epoch, a client without an open input waits just while a command
 -- runs.
-use Rattle.std.proofs.Common.{◌≡◌, ℕ, ◌-◌, ◌&&◌, not, Bool, true, false, List, [], ◌∷◌, ◌++◌, Some}
-use Rattle.std.proofs.Common.{is_some, slice_get, refl, sym, ap, ◌∙◌, subst}
+use Rattle.std.proofs.Common.{◌≡◌, ℕ, ◌-◌, ◌&&◌, not, Bool, true, false, List, [], ◌∷◌, ◌++◌, Some, is_some, slice_get}
+use Rattle.std.proofs.Common.{refl, sym, ap, ◌∙◌, subst}
 use Rattle.std.specs.List.{AllByRecursion as Every}
 use Rattle.std.proofs.lemmas.Bool.{le-ltb}
 use Rattle.qc_decl.proofs.Clients.{client_past}
@@ -18,26 +18,21 @@ use Rattle.qc_script.specs.Vocabulary.{Runs}
 use Rattle.qc_script.specs.declared.script.Script.{Script}
 use Rattle.laws_turns.specs.Vocabulary.{ActsIn, AsksDeclared, IsAskable, is_waiting}
 use Rattle.laws_turns.proofs.Acted.{actors_take_and_post_by_turns}
-use Rattle.laws_turns.proofs.SoundClients.{IsAskableDeed, IsAskableGiven, front_part, run_askable}
+use Rattle.laws_turns.proofs.SoundClients.{IsAskableDeed, IsAskableGiven, run_askable}
 use Rattle.laws_turns.proofs.TurnReplies.{after_posted, after_taken, running_more, running_turn}
 use Rattle.laws_turns.proofs.Replying.{lawful_client}
-use Rattle.laws_turns.proofs.Served.{second_part}
 use Rattle.laws_turns.proofs.Waiting.{Ends, IsClients, IsNoCall, Rests, called_ends, takes_ends, takes_rests}
 use Rattle.laws_turns.proofs.Waiting.{are_clients}
 use Rattle.laws_turns.proofs.ClientCases.{command_cases}
+use Rattle.qc_list.proofs.Booleans.{not_turned}
+use Rattle.qc_list.proofs.Members.{every-front, every-back}
 
 -- a move leaves a client waiting just where the command runs on
 abbrev IsBusyAs : Bool → ClientMove → Type 0
 IsBusyAs r m = (r && not (is_some m.turn.told)) ≡ is_waiting m.client
 
-turned : (told waits : Bool) → told ≡ not waits → not told ≡ waits
-turned true true is = absurd (let never : ⊥ = cc in never)
-turned true false is = refl
-turned false true is = refl
-turned false false is = absurd (let never : ⊥ = cc in never)
-
 ends_busy : (m : ClientMove) → Ends m → IsBusyAs true m
-ends_busy m ends = turned (is_some m.turn.told) (is_waiting m.client) ends
+ends_busy m ends = not_turned (is_some m.turn.told) (is_waiting m.client) ends
 
 rests_busy : (m : ClientMove) → Rests m → IsBusyAs false m
 rests_busy m rests = sym rests.still
@@ -48,7 +43,8 @@ no_call_busy decl m g true none busy = ends_busy (client_takes decl m.client g) 
 no_call_busy decl m g false none still =
     rests_busy (client_takes decl m.client g) (takes_rests decl m.client g none still)
 
-clients_command : (decl : Declaration) (a : ℕ) (command : Command) → is_client decl a ≡ true → IsAskable decl a command
+pub clients_command : (decl : Declaration) (a : ℕ) (command : Command) → is_client decl a ≡ true
+    → IsAskable decl a command
     → IsClients command
 clients_command decl a command client is =
     command_cases (λ (command : Command). IsAskable decl a command → IsClients command)
@@ -93,11 +89,11 @@ module _ (decl : Declaration) (a : ℕ) (client : is_client decl a ≡ true) whe
   acts_busy : (ds : List Deed) (t : Bool) (n : ℕ) → Acts decl a ds t n → Every (IsAskableDeed decl a) ds → BusyAt ds t
   acts_busy ds t n starts are = refl
   acts_busy ds t n (takes older g m acts may) are =
-      take_busy older g may (second_part (IsAskableDeed decl a) older (Takes g ∷ []) are).0
-      (acts_busy older false m acts (front_part (IsAskableDeed decl a) older (Takes g ∷ []) are))
+      take_busy older g may (every-back (IsAskableDeed decl a) older (Takes g ∷ []) are).0
+      (acts_busy older false m acts (every-front (IsAskableDeed decl a) older (Takes g ∷ []) are))
   acts_busy ds t n (posts older turn m first acts low law) are =
       post_busy older turn first (lawful_client decl a no_site client older turn law)
-      (acts_busy older true m acts (front_part (IsAskableDeed decl a) older (turn_deeds first turn) are))
+      (acts_busy older true m acts (every-front (IsAskableDeed decl a) older (turn_deeds first turn) are))
 
 pub clients_wait_while_commands_run : (decl : Declaration) (script : Script) → AsksDeclared decl script
     → (h : List Entry) (open_inputs : List Bool) → Runs (IsLawful decl) decl script h open_inputs

@@ -14,7 +14,6 @@ use Rattle.laws_turns.proofs.ByMail.{ready_lost}
 use Rattle.laws_turns.proofs.Commanded.{ready_called, uncommanded}
 use Rattle.laws_turns.proofs.MailedSteps.{Delivered, step_delivered, takes_delivered}
 use Rattle.laws_turns.proofs.Delivered.{posts_delivered, rises_delivered}
-use Rattle.laws_turns.proofs.Places.{slice_get-within}
 use Rattle.qc_link.specs.Vocabulary.{most_actors}
 use Rattle.qc_msg.specs.declared.record.Record.{Record}
 use Rattle.qc_msg.specs.declared.step.Control.{Control}
@@ -28,9 +27,10 @@ use Rattle.qc_script.specs.Vocabulary.{RunsWithFalls, begins, control, controlle
 use Rattle.qc_script.specs.Vocabulary.{posts, rises, takes, unopened}
 use Rattle.qc_script.specs.declared.script.Script.{Script}
 use Rattle.laws_turns.specs.Vocabulary.{LivesIn}
-use Rattle.laws_turns.proofs.LivedMoves.{deeds-rise}
 use Rattle.laws_turns.proofs.Lived.{actors_live_in_runs_with_falls, run_long}
 use Rattle.laws_turns.proofs.StepCases.{controller_cases}
+use Rattle.qc_list.proofs.Places.{some_at}
+use Rattle.qc_msg.proofs.DeedsGrow.{deeds-rise}
 
 module _ (decl : Declaration) (script : Script) (fits : ℕ → List Record → Type 0)
     (few : actors decl ≤ most_actors) where
@@ -96,7 +96,7 @@ module _ (decl : Declaration) (script : Script) (fits : ℕ → List Record → 
       → AreByTurns (is_site decl a) (deeds a [] h)
   actors_go_by_turns_with_falls h open_inputs run a within =
       let long : length open_inputs ≡ actors decl = run_long decl script fits few h open_inputs run in
-      let place : (t : Bool) × (slice_get open_inputs a ≡ Some t) = slice_get-within open_inputs a (omega arith) in
+      let place : (t : Bool) × (slice_get open_inputs a ≡ Some t) = some_at open_inputs a (omega arith) in
       let lived : LivesIn decl a h place.0 =
       actors_live_in_runs_with_falls decl script fits few h open_inputs run a place.0 place.1 in
       who_lives_goes_by_turns decl a (deeds a [] h) place.0 lived.above lived.lives

@@ -30,28 +30,29 @@ use Rattle.laws_turns.specs.Vocabulary.{asked_in_all, asked_until, call_in, call
 use Rattle.laws_turns.proofs.Acted.{deeds-silent}
 use Rattle.laws_turns.proofs.Arrivals.{what_is_ready_was_sent}
 use Rattle.laws_turns.proofs.Numbered.{control_silent, phase_silent}
-use Rattle.laws_turns.proofs.PhaseCalls.{left_if, asked_in, left_phase, phase_more, phase_taken, phase_posted}
-use Rattle.laws_turns.proofs.PhaseCalls.{phase_control, calls_turn, left_more, left_posted, left_control}
+use Rattle.laws_turns.proofs.PhaseCalls.{left_if, asked_in, left_phase, phase_more, phase_posted, phase_control}
+use Rattle.laws_turns.proofs.PhaseCalls.{calls_turn, left_more, left_posted, left_control}
+use Rattle.qc_script.proofs.Lasts.{phase_taken}
 
 -- the command that is ready is the next one
 
-next_command : (t : Bool) (commands : List Command) (c : Command)
+pub next_command : (t : Bool) (commands : List Command) (c : Command)
     → cond t (first_command commands) None ≡ Some (inputs.Called c) → commands ≡ c ∷ drop 1 commands
 next_command true [] c is = absurd (let never : ⊥ = cc in never)
 next_command true (x ∷ commands) c is = let same : x ≡ c = cc in ap (λ (v : Command). v ∷ commands) same
 next_command false commands c is = absurd (let never : ⊥ = cc in never)
 
-next_lost : (losts : List ℕ) (other : Option Input) (c : Command) → first_lost losts other ≡ Some (inputs.Called c)
+pub next_lost : (losts : List ℕ) (other : Option Input) (c : Command) → first_lost losts other ≡ Some (inputs.Called c)
     → other ≡ Some (inputs.Called c)
 next_lost [] other c is = is
 next_lost (n ∷ losts) other c is = absurd (let never : ⊥ = cc in never)
 
-next_copy : (es : List Envelope) (other : Option Input) (c : Command) → first_copy es other ≡ Some (inputs.Called c)
+pub next_copy : (es : List Envelope) (other : Option Input) (c : Command) → first_copy es other ≡ Some (inputs.Called c)
     → other ≡ Some (inputs.Called c)
 next_copy [] other c is = is
 next_copy (e ∷ es) other c is = absurd (let never : ⊥ = cc in never)
 
-ready_command : (decl : Declaration) (a : ℕ) (i : Inbox) (c : Command) → ready_in decl a i ≡ Some (inputs.Called c)
+pub ready_command : (decl : Declaration) (a : ℕ) (i : Inbox) (c : Command) → ready_in decl a i ≡ Some (inputs.Called c)
     → i.commands ≡ c ∷ drop 1 i.commands
 ready_command decl a i c is = at i.controls is
   where

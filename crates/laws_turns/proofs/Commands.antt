@@ -1,6 +1,6 @@
 -- Where a command runs, the actor's inbox knows it, in each history; so a command that is ready may be taken.
-use Rattle.std.proofs.Common.{◌≡◌, ℕ, ◌==◌, Bool, true, false, cond, List, [], ◌∷◌, ◌++◌, fold, Option, Some, None}
-use Rattle.std.proofs.Common.{option_to_list, slice_get, refl, sym, ap, ◌∙◌, subst}
+use Rattle.std.proofs.Common.{◌≡◌, ℕ, ◌==◌, Bool, true, false, cond, List, [], ◌∷◌, ◌++◌, fold, Some, option_to_list}
+use Rattle.std.proofs.Common.{slice_get, refl, sym, ap, ◌∙◌, subst}
 use Rattle.std.proofs.lemmas.List.Sums.{fold-append}
 use Rattle.qc_core.specs.Vocabulary.{AreSteady, MayTake, is_running, runs_at}
 use Rattle.qc_decl.specs.declared.declaration.Declaration.{Declaration}
@@ -11,9 +11,9 @@ use Rattle.qc_msg.specs.declared.step.Input.TheVariants as inputs
 use Rattle.qc_msg.specs.declared.step.Step.{Step}
 use Rattle.qc_msg.specs.declared.step.Step.TheVariants as steps
 use Rattle.qc_msg.specs.Vocabulary.{Deed, Entry, Falls, Rises, Sends, Takes, Tells, Writes, deed_at, deeds, envelope_of}
-use Rattle.qc_msg.specs.Vocabulary.{heard}
 use Rattle.qc_script.specs.Vocabulary.{Inbox, empty_inbox, inbox, inbox_at, ready}
 use Rattle.qc_script.specs.declared.script.Script.{Script}
+use Rattle.laws_turns.proofs.Up.{heard_up}
 
 abbrev Covers : Bool → Bool → Type 0
 Covers busy running = running ≡ true → busy ≡ true
@@ -36,13 +36,9 @@ covers_deeds u running (d ∷ ds) covers =
 
 -- a step
 
-mine_up : (mine : Bool) (ds : List Deed) → AreSteady ds → AreSteady (cond mine ds [])
+pub mine_up : (mine : Bool) (ds : List Deed) → AreSteady ds → AreSteady (cond mine ds [])
 mine_up true ds up = up
 mine_up false ds up = tt
-
-heard_up : (o : Option Envelope) → AreSteady (heard o)
-heard_up None = tt
-heard_up (Some e) = (tt, tt)
 
 covers_up : (script : Script) (a : ℕ) (i : Inbox) (b : ℕ) (ms : List Envelope) (step : Step) (running : Bool)
     → AreSteady (cond (b == a) (deed_at ms step) []) → Covers i.busy running

@@ -7,7 +7,7 @@ use Rattle.qc_list.proofs.Members.{In-first, In-last, In-more, In-second}
 use Rattle.qc_stamp.specs.declared.stamp.Stamp.{Stamp}
 use Rattle.qc_stamp.specs.declared.stamp.TxId.{TxId}
 use Rattle.qc_stamp.specs.Vocabulary.{same_tx}
-use Rattle.qc_stamp.proofs.Orders.{same_tx_is, same_tx_itself}
+use Rattle.qc_stamp.proofs.Orders.{same_tx_is, same_tx_test}
 use Rattle.qc_entry.specs.declared.line.Op.{Op}
 use Rattle.qc_entry.specs.declared.record.Commit.{Commit}
 use Rattle.qc_msg.specs.declared.begun.Begun.{Begun}
@@ -25,9 +25,6 @@ use Rattle.laws_turns.proofs.DealingParts.{with_begun}
 
 begun_test : (tx : TxId) (d : Dealing) (b : Begun) → d.begun ≡ Some b.tx → is_begun tx d.begun ≡ same_tx b.tx tx
 begun_test tx d b is = ap (λ (o : Option TxId). is_begun tx o) is
-
-tx_test : (a b : TxId) → a ≡ b → same_tx a b ≡ true
-tx_test a b same = subst (λ (t : TxId). same_tx a t ≡ true) same (same_tx_itself a)
 
 not_same : (tx : TxId) (b : Begun) → (b.tx ≡ tx → ⊥) → same_tx b.tx tx ≡ false
 not_same tx b other = by (same_tx b.tx tx) refl where
@@ -75,7 +72,7 @@ module _ (clock : ℕ) (tx : TxId) (d : Dealing) (k : Book) (b : Begun) (is : k.
     added : b.tx ≡ tx
         → (d.ops ++ cond (is_begun tx d.begun) (operation d.asked resp) []) ≡ d.ops ++ op_of object inv resp ∷ []
     added e =
-        ap (λ (t : Bool). d.ops ++ cond t (operation d.asked resp) []) (begun_test tx d b here ∙ tx_test b.tx tx e)
+        ap (λ (t : Bool). d.ops ++ cond t (operation d.asked resp) []) (begun_test tx d b here ∙ same_tx_test b.tx tx e)
         ∙ ap (λ (o : Option Command). d.ops ++ operation o resp) asked
 
     kept : (b.tx ≡ tx → ⊥) → (d.ops ++ cond (is_begun tx d.begun) (operation d.asked resp) []) ≡ d.ops
@@ -171,7 +168,7 @@ module _ (clock : ℕ) (tx : TxId) (d : Dealing) (k : Book) (b : Begun) (is : k.
               (In-second (replies.Committed x.stamp) d.ends
               (cond (is_begun tx d.begun) (replies.Committed x.stamp ∷ []) [])
               (subst (λ (t : Bool). In (replies.Committed x.stamp) (cond t (replies.Committed x.stamp ∷ []) []))
-              (sym (begun_test tx d b here ∙ tx_test b.tx tx e)) (inl refl))),
+              (sym (begun_test tx d b here ∙ same_tx_test b.tx tx e)) (inl refl))),
         )
 
     told : (stamp : Stamp)

@@ -55,13 +55,13 @@ step_sent a ms step e among =
     )
     sent n to message (inr never) = absurd never
 
-in_cons : (e : Envelope) (o : Option Envelope) (es : List Envelope) → In e (cons_option o es)
+pub in_cons : (e : Envelope) (o : Option Envelope) (es : List Envelope) → In e (cons_option o es)
     → In e (option_to_list o) ⊎ In e es
 in_cons e None es among = inr among
 in_cons e (Some d) es (inl same) = inl (inl same)
 in_cons e (Some d) es (inr later) = inr later
 
-mail_deed : (ms : List Envelope) (h : List Entry) (e : Envelope) → In e (mail h)
+pub mail_deed : (ms : List Envelope) (h : List Entry) (e : Envelope) → In e (mail h)
     → In (Sends e.number e.to e.message) (deeds e.from ms h)
 mail_deed ms [] e among = absurd among
 mail_deed ms (x ∷ h) e among = by (in_cons e (envelope_of x) (mail h) among)

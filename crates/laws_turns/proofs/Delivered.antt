@@ -6,7 +6,7 @@ use Rattle.std.proofs.lemmas.List.{append-nil}
 use Rattle.qc_core.proofs.Written.{IsAnswerTo, IsAnsweredTo, NoAnswer}
 use Rattle.qc_decl.specs.declared.declaration.Declaration.{Declaration}
 use Rattle.qc_mailbox.specs.Vocabulary.{AreNumbered}
-use Rattle.qc_list.proofs.Members.{every-append, every-weaker}
+use Rattle.qc_list.proofs.Members.{every-append, every-weaker, every-back}
 use Rattle.qc_msg.specs.declared.message.Envelope.{Envelope}
 use Rattle.qc_msg.specs.declared.record.Record.{Record}
 use Rattle.qc_msg.specs.declared.step.Input.{Input}
@@ -20,9 +20,10 @@ use Rattle.qc_msg.specs.Vocabulary.{answer_in, by, deed_at, deeds, envelope_of, 
 use Rattle.qc_msg.specs.Vocabulary.{posted_as, sends_as}
 use Rattle.qc_msg.proofs.GrownMail.{mail-append}
 use Rattle.qc_promise.specs.Vocabulary.{IsAnswerOf, IsMailStep, IsMailed, IsReceived, IsRequestOf, IsRequestTo}
-use Rattle.laws_turns.proofs.Places.{slice_get-more}
-use Rattle.laws_turns.proofs.MailedSteps.{Delivered, mail_cons, step_delivered, AreAnswersAt, post_delivered}
+use Rattle.laws_turns.proofs.MailedSteps.{Delivered, step_delivered, AreAnswersAt, post_delivered}
 use Rattle.laws_turns.proofs.StepCases.{deed_cases}
+use Rattle.qc_mailbox.proofs.Among.{mail_cons}
+use Rattle.qc_list.proofs.Places.{slice_get-more}
 
 -- what is posted answers what was taken, or nothing
 
@@ -89,15 +90,11 @@ all_taken a ms (e ∷ h) numbered is =
         (subst (λ (k : ℕ). IsMailStep ms k e.step) (eqb-true e.actor a same) is.0)
     mine false differs = tt
 
-back_all : {A : Type 0} (P : A → Type 0) (xs ys : List A) → Every P (xs ++ ys) → Every P ys
-back_all P [] ys all = all
-back_all P (x ∷ xs) ys all = back_all P xs ys all.1
-
 -- the open input of an actor was sent to it
 pub open_sent : (decl : Declaration) (a : ℕ) (h : List Entry) (before : List Deed) (g : Input) → AreNumbered (mail h)
     → Delivered decl h → deeds a [] h ≡ before ++ Takes g ∷ [] → WasSentTo a (mail h) g
 open_sent decl a h before g numbered d is =
-    (back_all (IsTaken a (mail h)) before (Takes g ∷ [])
+    (every-back (IsTaken a (mail h)) before (Takes g ∷ [])
     (subst (Every (IsTaken a (mail h))) is (all_taken a [] h numbered d.mailed))).0
 
 -- so a post is delivered

@@ -1,17 +1,16 @@
 -- By the conduct of the system an actor that is down only who_is_down_only_tells replies.
-use Rattle.std.proofs.Common.{◌≡◌, ℕ, not, Bool, true, false, cond, List, [], ◌∷◌, fold, Some, None, refl, sym, ap, ◌∙◌}
-use Rattle.std.proofs.Common.{subst}
+use Rattle.std.proofs.Common.{◌≡◌, ℕ, not, Bool, true, false, List, [], ◌∷◌, fold, None, refl, sym, ap, ◌∙◌, subst}
 use Rattle.qc_core.specs.declared.actor.Actor.{Actor}
 use Rattle.qc_core.specs.declared.actor.Actor.TheVariants.{Down}
 use Rattle.qc_core.specs.Vocabulary.{ActorMove, IsLawfulWithFalls, actor_after, actor_does, actor_rises, actor_sends}
-use Rattle.qc_core.specs.Vocabulary.{actor_takes, is_up, moved, up_at, with_record}
-use Rattle.qc_decl.specs.Vocabulary.{is_administrator, is_client, is_site}
+use Rattle.qc_core.specs.Vocabulary.{actor_takes, is_up, moved, up_at}
 use Rattle.qc_decl.specs.declared.declaration.Declaration.{Declaration}
 use Rattle.qc_mailbox.specs.Vocabulary.{TellsWhereDown, down_at, is_down}
 use Rattle.qc_msg.specs.declared.step.Input.{Input}
 use Rattle.qc_msg.specs.declared.step.Input.TheVariants as inputs
 use Rattle.qc_msg.specs.declared.turn.Turn.{Turn}
 use Rattle.qc_msg.specs.Vocabulary.{Deed, Falls, Rises, Sends, Takes, Tells, Writes, quiet}
+use Rattle.qc_core.proofs.PostsByTurns.{called_turn}
 
 -- an actor is up by its deeds where it isn't down by them
 
@@ -75,26 +74,11 @@ silent_down decl a ds down = silent_from decl a false _ ds (λ is. absurd (let n
 
 -- a lawful turn is that of the actor, but for what became of its record
 
-pub due : (decl : Declaration) (a : ℕ) (ds : List Deed) (turn : Turn) → IsLawfulWithFalls decl a ds turn
-    → (actor_after decl a ds).turn ≡ with_record turn
-due decl a ds turn lawful = by (is_site decl a) (is_client decl a) (is_administrator decl a) lawful.called_for
-  where
-    here : Some (actor_after decl a ds).turn ≡ Some (with_record turn) → (actor_after decl a ds).turn ≡ with_record turn
-    here is = cc
-
-    by : (x y z : Bool) → cond x (Some (actor_after decl a ds).turn)
-        (cond y (Some (actor_after decl a ds).turn) (cond z (Some (actor_after decl a ds).turn) None)) ≡ Some
-        (with_record turn) → (actor_after decl a ds).turn ≡ with_record turn
-    by true y z is = here is
-    by false true z is = here is
-    by false false true is = here is
-    by false false false is = absurd (let no : ⊥ = cc in no)
-
 pub who_is_down_only_tells : (decl : Declaration) → TellsWhereDown (IsLawfulWithFalls decl)
 who_is_down_only_tells decl = record {
   ends = λ a ds turn lawful. lawful.may_end;
-  writes_none = λ a ds turn lawful down. sym (ap (λ (t : Turn). t.write) (due decl a ds turn lawful))
+  writes_none = λ a ds turn lawful down. sym (ap (λ (t : Turn). t.write) (called_turn decl a ds turn lawful))
       ∙ (silent_down decl a ds down).write;
-  sends_none = λ a ds turn lawful down. sym (ap (λ (t : Turn). t.sends) (due decl a ds turn lawful))
+  sends_none = λ a ds turn lawful down. sym (ap (λ (t : Turn). t.sends) (called_turn decl a ds turn lawful))
       ∙ (silent_down decl a ds down).sends;
 }

@@ -1,8 +1,7 @@
 -- Where nothing is ready for anybody, no input is open and each control line has acted, no client waits for a request.
-use Rattle.std.proofs.Common.{◌≡◌, ℕ, ◌+◌, ◌-◌, ◌<◌, ◌≤◌, ◌&&◌, ◌⊎◌, nat_le, nat_lt, Bool, true, false, inl, inr, List}
-use Rattle.std.proofs.Common.{[], ◌∷◌, Option, None, refl, sym, ap, ◌∙◌, subst, arith}
+use Rattle.std.proofs.Common.{◌≡◌, ℕ, ◌+◌, ◌-◌, ◌<◌, ◌≤◌, ◌⊎◌, true, false, inl, inr, List, [], ◌∷◌, Option, None, refl}
+use Rattle.std.proofs.Common.{sym, ap, ◌∙◌, subst, arith}
 use Rattle.std.specs.Prelude.{replicate}
-use Rattle.std.proofs.lemmas.Bool.{ltb-true}
 use Rattle.qc_decl.proofs.Clients.{client_within}
 use Rattle.qc_list.specs.Vocabulary.{In}
 use Rattle.qc_client.specs.Vocabulary.{client_after}
@@ -19,23 +18,20 @@ use Rattle.qc_script.proofs.InboxesSend.{InCommon}
 use Rattle.qc_script.proofs.Inboxes.{inboxes_have_in_common}
 use Rattle.laws_turns.specs.Vocabulary.{AsksDeclared, IsAtReceiver, IsAwaited, IsClosed, IsQuiet, IsTaken, open_calls}
 use Rattle.laws_turns.proofs.Covered.{open_requests_are_awaited}
-use Rattle.laws_turns.proofs.Places.{replicate_at}
 use Rattle.laws_turns.proofs.Reached.{receiver_is_site, unanswered_requests_are_at_their_sites}
 use Rattle.qc_link.specs.Vocabulary.{most_actors}
+use Rattle.qc_list.proofs.Places.{replicate_at}
+use Rattle.qc_list.proofs.Members.{In-none}
 
-no_copies : (es : List Envelope) (other : Option Input) → first_copy es other ≡ None → es ≡ []
+pub no_copies : (es : List Envelope) (other : Option Input) → first_copy es other ≡ None → es ≡ []
 no_copies [] other is = refl
 no_copies (e ∷ es) other is = absurd (let never : ⊥ = cc in never)
 
-no_losts : (es : List Envelope) (ns : List ℕ) (other : Option Input) → first_copy es (first_lost ns other) ≡ None
+pub no_losts : (es : List Envelope) (ns : List ℕ) (other : Option Input) → first_copy es (first_lost ns other) ≡ None
     → ns ≡ []
 no_losts [] [] other is = refl
 no_losts [] (n ∷ ns) other is = absurd (let never : ⊥ = cc in never)
 no_losts (e ∷ es) ns other is = absurd (let never : ⊥ = cc in never)
-
-both : (x y : Bool) → (x && y) ≡ true → y ≡ true
-both true y is = is
-both false y is = absurd (let never : ⊥ = cc in never)
 
 module _ (decl : Declaration) (script : Script) (accepted : IsAccepted decl) (asks : AsksDeclared decl script)
     (h : List Entry) (closed : IsClosed decl script h) (quiet : IsQuiet decl script h)
@@ -97,14 +93,10 @@ module _ (decl : Declaration) (script : Script) (accepted : IsAccepted decl) (as
       not_awaited a q.number (client_within decl a client)
       (open_requests_are_awaited decl script a h (replicate (actors decl) false) closed q member)
 
-no_members : {X : Type 0} (xs : List X) → ((x : X) → In x xs → ⊥) → xs ≡ []
-no_members [] none = refl
-no_members (x ∷ xs) none = absurd (none x (inl refl))
-
 pub no_request_is_open_at_the_end : (decl : Declaration) (script : Script) → IsAccepted decl → AsksDeclared decl script
     → (h : List Entry)
     → IsClosed decl script h → IsQuiet decl script h → controls_left script h ≡ []
     → (a : ℕ) → is_client decl a ≡ true → open_calls (client_after decl (a - decl.sites) (deeds a [] h)).client ≡ []
 no_request_is_open_at_the_end decl script accepted asks h closed quiet done a client =
-    no_members (open_calls (client_after decl (a - decl.sites) (deeds a [] h)).client)
+    In-none (open_calls (client_after decl (a - decl.sites) (deeds a [] h)).client)
     (no_open_requests decl script accepted asks h closed quiet done a client)

@@ -1,9 +1,8 @@
 -- Where records are kept, clients rise with commit records that name stamps of their transactions' own clients: they
 -- wrote no others.
-use Rattle.std.proofs.Common.{◌≡◌, ℕ, ◌+◌, ◌<◌, ◌≤◌, ◌&&◌, nat_le, nat_lt, Bool, true, false, List, [], ◌∷◌, ◌++◌, fold}
-use Rattle.std.proofs.Common.{length, Option, Some, None, option_to_list, slice_get, inl, inr, refl, sym, subst, arith}
+use Rattle.std.proofs.Common.{◌≡◌, ℕ, ◌+◌, ◌<◌, ◌≤◌, Bool, true, false, List, [], ◌∷◌, ◌++◌, fold, length, Option, Some}
+use Rattle.std.proofs.Common.{None, option_to_list, slice_get, inl, inr, refl, sym, subst, arith}
 use Rattle.std.specs.List.{AllByRecursion as Every}
-use Rattle.std.proofs.lemmas.Bool.{ltb-true}
 use Rattle.qc_decl.proofs.Clients.{client_within}
 use Rattle.qc_list.proofs.Members.{every-append, every-weaker}
 use Rattle.qc_core.specs.Vocabulary.{AreGivenBack, IsLawfulWithFalls, Lives, journal_after, journal_at}
@@ -26,10 +25,10 @@ use Rattle.qc_promise.specs.Vocabulary.{IsGivenBack, Journal, Kept, no_journal, 
 use Rattle.qc_script.specs.Vocabulary.{RunsWithFalls}
 use Rattle.qc_script.specs.declared.script.Script.{Script}
 use Rattle.laws_turns.proofs.StampsOwn.{IsOwnWrite}
-use Rattle.laws_turns.proofs.Places.{slice_get-within}
 use Rattle.laws_turns.specs.Vocabulary.{GivesOwn, IsOwnRecord, LivesIn, RiseWithOwn}
 use Rattle.laws_turns.proofs.FallStamps.{lawful_writes}
 use Rattle.laws_turns.proofs.Lived.{actors_live_in_runs_with_falls, run_long}
+use Rattle.qc_list.proofs.Places.{some_at}
 
 -- deeds that put such records alone into a journal
 
@@ -152,11 +151,6 @@ module _ (decl : Declaration) (a : ℕ) where
       every-append PutsOwn before (Falls cause None ∷ [])
       (life_puts before false m life (back_first no_journal before (Falls cause None ∷ []) back)) (tt, tt)
 
-both_true : (x y : Bool) → (x && y) ≡ true → y ≡ true
-both_true true true is = refl
-both_true true false is = is
-both_true false y is = let never : ⊥ = cc in absurd never
-
 module _ (decl : Declaration) (script : Script) (fits : ℕ → List Record → Type 0)
     (few : actors decl ≤ most_actors) where
   pub clients_rise_with_own_stamps_where_records_are_kept : (h : List Entry) (open_inputs : List Bool)
@@ -164,7 +158,7 @@ module _ (decl : Declaration) (script : Script) (fits : ℕ → List Record → 
   clients_rise_with_own_stamps_where_records_are_kept h open_inputs run kept a client =
       let low : a < actors decl = client_within decl a client in
       let long : length open_inputs ≡ actors decl = run_long decl script fits few h open_inputs run in
-      let place : (t : Bool) × (slice_get open_inputs a ≡ Some t) = slice_get-within open_inputs a (omega arith) in
+      let place : (t : Bool) × (slice_get open_inputs a ≡ Some t) = some_at open_inputs a (omega arith) in
       let lived : LivesIn decl a h place.0 =
       actors_live_in_runs_with_falls decl script fits few h open_inputs run a place.0 place.1 in
       every-weaker PutsOwn GivesOwn gives_own (deeds a [] h)

@@ -35,33 +35,30 @@ use Rattle.qc_script.specs.Vocabulary.{RunsWithFalls, begins, control, damaged, 
 use Rattle.qc_script.specs.Vocabulary.{takes, unopened}
 use Rattle.qc_script.specs.declared.script.Script.{Script}
 use Rattle.laws_turns.proofs.Commanded.{uncommanded}
-use Rattle.laws_turns.proofs.Mailed.{AreInputs, IsMailStamped, both_all, deeds_inputs}
+use Rattle.laws_turns.proofs.Mailed.{AreInputs, IsMailStamped, deeds_inputs, envelopes_stamped}
 use Rattle.laws_turns.proofs.Numbered.{mail-silent, phase_silent}
 use Rattle.laws_turns.proofs.StampsOwn.{AreStamped}
-use Rattle.laws_turns.proofs.Places.{slice_get-within}
-use Rattle.laws_turns.proofs.Served.{due_cut, first_part}
+use Rattle.laws_turns.proofs.Served.{due_cut}
 use Rattle.qc_mailbox.proofs.Keeping.{same_mail}
 use Rattle.laws_turns.specs.Vocabulary.{GivesOwn, LivesIn, RiseWithOwn}
 use Rattle.laws_turns.proofs.ByMailWithFalls.{run_delivered}
 use Rattle.laws_turns.proofs.FallStamps.{lawful_stamped}
 use Rattle.laws_turns.proofs.LivedMoves.{line_silent}
 use Rattle.laws_turns.proofs.Lived.{actors_live_in_runs_with_falls, run_long}
+use Rattle.qc_list.proofs.Members.{every-append, every-front}
+use Rattle.qc_list.proofs.Places.{some_at}
 
 -- of a longer history, and of a shorter one
 
 pub given_first : (decl : Declaration) (h k : List Entry) → RiseWithOwn decl (h ++ k) → RiseWithOwn decl h
-given_first decl h k given a client = first_part GivesOwn (deeds a [] h) (deeds a (mail h) k)
+given_first decl h k given a client = every-front GivesOwn (deeds a [] h) (deeds a (mail h) k)
     (subst (Every GivesOwn) (deeds-append a [] h k) (given a client))
-
-envelopes_stamped : (a n : ℕ) (ps : List Posting) → AreStamped ps → IsMailStamped (envelopes a n ps)
-envelopes_stamped a n [] are = tt
-envelopes_stamped a n (p ∷ ps) are = (are.0, envelopes_stamped a (n + 1) ps are.1)
 
 more_stamped : (h k : List Entry) (ms : List Envelope) → mail k ≡ ms → IsMailStamped (mail h) → IsMailStamped ms
     → IsMailStamped (mail (h ++ k))
 more_stamped h k ms same old new =
     subst IsMailStamped (sym (mail-append h k ∙ ap (λ (v : List Envelope). mail h ++ v) same))
-    (both_all (λ (e : Envelope). IsStamped e.message) (mail h) ms old new)
+    (every-append (λ (e : Envelope). IsStamped e.message) (mail h) ms old new)
 
 post_stamped : (a : ℕ) (h : List Entry) (turn : Turn) → AreStamped (sends_as turn.append turn) → IsMailStamped (mail h)
     → IsMailStamped (mail (h ++ by a (posted_as turn.append (length (mail h)) turn)))
@@ -112,9 +109,9 @@ writes_take_nothing (Some written) = (tt, tt)
 
 post_takes_nothing : (n : ℕ) (turn : Turn) → Every IsSiteDeed (turn_deeds n turn)
 post_takes_nothing n turn =
-    both_all IsSiteDeed (writes_of turn.write) (sends_of n turn.sends ++ tells_of turn.told)
+    every-append IsSiteDeed (writes_of turn.write) (sends_of n turn.sends ++ tells_of turn.told)
     (writes_take_nothing turn.write)
-    (both_all IsSiteDeed (sends_of n turn.sends) (tells_of turn.told) (sends_take_nothing n turn.sends)
+    (every-append IsSiteDeed (sends_of n turn.sends) (tells_of turn.told) (sends_take_nothing n turn.sends)
     (tells_take_nothing turn.told))
 
 -- what a site that lives posted is due; whatever it posts for its open input, what it posted before is
@@ -161,7 +158,7 @@ module _ (decl : Declaration) (a : ℕ) (within : a < decl.sites) where
 
       whole : AreDue decl [] (ds ++ turn_deeds n turn)
       whole = served_due (ds ++ turn_deeds n turn) (n + length turn.sends) posted
-          (both_all IsSiteDeed ds (turn_deeds n turn) inputs (post_takes_nothing n turn))
+          (every-append IsSiteDeed ds (turn_deeds n turn) inputs (post_takes_nothing n turn))
 
 module _ (decl : Declaration) (script : Script) (fits : ℕ → List Record → Type 0)
     (few : actors decl ≤ most_actors) where
@@ -242,7 +239,7 @@ module _ (decl : Declaration) (script : Script) (fits : ℕ → List Record → 
     what_sites_post_is_due_with_falls =
         let long : length open_inputs ≡ actors decl = run_long decl script fits few h open_inputs run in
         let place : (t : Bool) × (slice_get open_inputs site ≡ Some t) =
-        slice_get-within open_inputs site (omega arith) in
+        some_at open_inputs site (omega arith) in
         let lived : LivesIn decl site h place.0 =
         actors_live_in_runs_with_falls decl script fits few h open_inputs run site place.0 place.1 in
         lives_due decl site within (deeds site [] h) place.0 lived.above lived.lives sites_take_site_inputs_with_falls

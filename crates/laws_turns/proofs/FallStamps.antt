@@ -15,7 +15,6 @@ use Rattle.qc_core.proofs.AdminTurns.{IsAdminTurn, IsOfAdmin, IsSentByAdmin, Wri
 use Rattle.qc_core.proofs.AdminWrites.{admin_written}
 use Rattle.qc_core.proofs.Written.{client_written}
 use Rattle.qc_epoch.specs.Vocabulary.{new_admin}
-use Rattle.laws_turns.proofs.Downs.{due}
 use Rattle.qc_recover.specs.Vocabulary.{admin_rises, client_of, client_rises, inquiry, kept_by as site_kept}
 use Rattle.qc_recover.specs.Vocabulary.{most_inquiries, site_rises, with_commit}
 use Rattle.qc_decl.specs.declared.declaration.Declaration.{Declaration}
@@ -43,6 +42,7 @@ use Rattle.laws_turns.proofs.Stamped.{IsAnswering, takes_answer}
 use Rattle.laws_turns.specs.Vocabulary.{GivesOwn, IsOwnRecord}
 use Rattle.laws_turns.proofs.MessageCases.{message_cases}
 use Rattle.laws_turns.proofs.ReadingCases.{mapped_by}
+use Rattle.qc_core.proofs.PostsByTurns.{called_turn}
 
 -- what a client is by its records
 
@@ -235,7 +235,7 @@ module _ (decl : Declaration) (a : ℕ) where
   lawful_move : (ds : List Deed) (turn : Turn) → IsLawfulWithFalls decl a ds turn
       → (is_client decl a ≡ true → Every GivesOwn ds)
       → StampedMove (a - decl.sites) (actor_after decl a ds) × ((actor_after decl a ds).turn ≡ with_record turn)
-  lawful_move ds turn law gives = (after_stamped ds gives, due decl a ds turn law)
+  lawful_move ds turn law gives = (after_stamped ds gives, called_turn decl a ds turn law)
 
   -- so what it sends, whatever became of its record, is stamped, and so is what it writes
 

@@ -32,10 +32,11 @@ use Rattle.qc_client.specs.Vocabulary.{ClientMove, answered, answered_by, by_des
 use Rattle.qc_client.specs.Vocabulary.{commits, heard, requested, sent_one, moved}
 use Rattle.qc_script.specs.Vocabulary.{is_request}
 use Rattle.laws_turns.specs.Vocabulary.{IsAnswerTo, calls_by, open_calls}
-use Rattle.laws_turns.proofs.FrontAsks.{Asks, IsBound, front_called, if_two}
+use Rattle.laws_turns.proofs.FrontAsks.{Asks, IsBound, front_called}
 use Rattle.laws_turns.proofs.RequestsGone.{Leaves, Takes, front_takes, leaves_none, of_rest, unasked}
 use Rattle.laws_turns.proofs.ClientCases.{called_cases, heard_cases}
 use Rattle.laws_turns.proofs.MessageCases.{message_cases}
+use Rattle.qc_list.proofs.Booleans.{if_two}
 
 -- an input that doesn't answer a request, nor tells that it is lost
 abbrev pub IsNotFor : ℕ → Input → Type 0

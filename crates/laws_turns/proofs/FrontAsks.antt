@@ -1,6 +1,5 @@
 -- The open requests of a front end after a command, or after a round that goes on, were open before it.
-use Rattle.std.proofs.Common.{◌≡◌, ℕ, nat_le, Bool, true, false, if◌then◌else◌, List, [], length, Option, Some, None}
-use Rattle.std.proofs.Common.{refl, sym, subst}
+use Rattle.std.proofs.Common.{◌≡◌, ℕ, nat_le, List, [], length, Option, Some, None, refl, sym, subst}
 use Rattle.qc_list.specs.Vocabulary.{In}
 use Rattle.qc_decl.specs.declared.declaration.Declaration.{Declaration}
 use Rattle.qc_decl.specs.Vocabulary.{append_need_of, most_transaction_operations, read_need_of}
@@ -20,10 +19,7 @@ use Rattle.qc_front.specs.Vocabulary.{FrontMove, aborts, answer_of, answered as 
 use Rattle.qc_front.specs.Vocabulary.{calls_in, gives_up, moved as front_moved, performs, read_by, reads, round_for}
 use Rattle.qc_front.specs.Conduct as fronts
 use Rattle.laws_turns.proofs.ClientCases.{front_cases}
-
-pub if_two : {A : Type 0} (P : A → Type 0) (t : Bool) (x y : A) → P x → P y → P (if t then x else y)
-if_two P true x y here there = here
-if_two P false x y here there = there
+use Rattle.qc_list.proofs.Booleans.{if_two}
 
 -- a front end without a transaction waits for nothing
 abbrev pub IsBound : Front → Type 0

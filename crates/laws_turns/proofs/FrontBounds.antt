@@ -1,8 +1,7 @@
 -- What a front end becomes stays within a bound that what it takes keeps to.
 use Rattle.std.proofs.Common.{[], ◌≡◌, ℕ, zero, suc, ◌+◌, ◌≤◌, max, Bool, true, false, cond, nat_le, List, ◌∷◌, ◌++◌}
 use Rattle.std.proofs.Common.{length, replicate, Option, Some, None, option_map, refl, arith}
-use Rattle.std.specs.Prelude.{slice_get, slice_set, max, option_and_then}
-use Rattle.std.specs.List.{AllByRecursion as Every}
+use Rattle.std.specs.Prelude.{slice_get, max, option_and_then}
 use Rattle.std.specs.Option.{option_map_or}
 use Rattle.qc_list.proofs.Members.{every-at, every-weaker}
 use Rattle.qc_entry.specs.declared.line.Line.{Line}
@@ -33,6 +32,7 @@ use Rattle.laws_turns.proofs.DesksWithin.{CameWithin, answer_read}
 use Rattle.laws_turns.proofs.Greater.{lines-le}
 use Rattle.laws_turns.proofs.AnswerCases.{appended_cases}
 use Rattle.laws_turns.proofs.ReadingCases.{mapped, mapped_by}
+use Rattle.qc_list.proofs.Places.{every-set}
 
 -- a greater bound
 
@@ -54,11 +54,6 @@ front-le low high front le w = record {
 }
 
 -- views
-
-every-set : {A : Type 0} (P : A → Type 0) (xs : List A) (i : ℕ) (y : A) → P y → Every P xs → Every P (slice_set xs i y)
-every-set P [] i y here all = tt
-every-set P (x ∷ xs) zero y here all = (here, all.1)
-every-set P (x ∷ xs) (suc i) y here all = (all.0, every-set P xs i y here all.1)
 
 pub no_lines : (bound n : ℕ) → ViewsWithin bound (replicate n empty_view)
 no_lines bound zero = tt

@@ -1,7 +1,7 @@
 -- In a run in which nobody falls no turn is lawful but a site's or a client's: the administrator takes inputs at most,
 -- and does nothing.
-use Rattle.std.proofs.Common.{◌≡◌, ◌≤◌, ◌<◌, ℕ, nat_lt, Bool, true, false, cond, List, [], ◌∷◌, ◌-◌, Option, Some, None}
-use Rattle.std.proofs.Common.{slice_get, refl, sym, subst}
+use Rattle.std.proofs.Common.{◌≡◌, ◌≤◌, ℕ, nat_lt, Bool, true, false, cond, List, [], ◌∷◌, ◌-◌, Some, None, slice_get}
+use Rattle.std.proofs.Common.{refl, sym, subst}
 use Rattle.std.specs.List.{AllByRecursion as Every}
 use Rattle.std.proofs.lemmas.Bool.{ltb-false, ltb-true}
 use Rattle.qc_core.proofs.ByNumber.{past_no_client, past_no_site}
@@ -61,12 +61,3 @@ module _ (decl : Declaration) (a : ℕ) (past : administrator decl ≤ a) where
           subst (λ (ds : List Deed). Every IsInput ds)
           (sym (others_do_nothing (IsLawful decl) decl script h open_inputs run a (ltb-false a (actors decl) high)))
           tt
-
--- who posts a turn is a site or a client
-pub posts_before : (decl : Declaration) (a : ℕ) (ds : List Deed) (turn : Turn) → IsLawful decl a ds turn
-    → a < administrator decl
-posts_before decl a ds turn law = by (nat_lt a (administrator decl)) refl
-  where
-    by : (t : Bool) → nat_lt a (administrator decl) ≡ t → a < administrator decl
-    by true low = ltb-true a (administrator decl) low
-    by false high = absurd (no_turn decl a (ltb-false a (administrator decl) high) ds turn law)

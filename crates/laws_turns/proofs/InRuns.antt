@@ -1,9 +1,7 @@
 -- What every run has: it goes event by event, each actor has a place, and a client keeps what it was told.
-use Rattle.std.proofs.Common.{◌≡◌, ℕ, zero, suc, ◌+◌, ◌-◌, ◌<◌, ◌≤◌, ◌==◌, ◌&&◌, nat_le, nat_lt, Bool, true, false}
-use Rattle.std.proofs.Common.{List, [], ◌∷◌, ◌++◌, fold, Some, slice_get, refl, sym, ap, ◌∙◌, subst, arith, eq-eqb}
-use Rattle.std.proofs.Common.{eqb-true}
+use Rattle.std.proofs.Common.{◌≡◌, ℕ, zero, suc, ◌+◌, ◌-◌, ◌<◌, ◌≤◌, ◌==◌, Bool, true, false, List, [], ◌∷◌, ◌++◌, fold}
+use Rattle.std.proofs.Common.{Some, slice_get, refl, sym, ap, ◌∙◌, subst, arith, eq-eqb, eqb-true}
 use Rattle.std.specs.Prelude.{replicate, slice_set}
-use Rattle.std.proofs.lemmas.Bool.{leb-true, ltb-true}
 use Rattle.std.proofs.lemmas.List.Sums.{fold-append}
 use Rattle.qc_decl.specs.Vocabulary.{IsAccepted, actors, controller, is_client, is_site}
 pub use Rattle.qc_decl.proofs.Clients.{client_no_site, client_within as client_low}
@@ -29,7 +27,6 @@ use Rattle.laws_turns.specs.Vocabulary.{ActsIn, written_in}
 use Rattle.laws_turns.proofs.Acted.{actors_take_and_post_by_turns}
 use Rattle.laws_turns.proofs.Arrivals.{what_is_ready_was_sent}
 use Rattle.laws_turns.proofs.Numbered.{IsSilent, control_silent, phase_silent}
-use Rattle.laws_turns.proofs.Places.{slice_get-set_other, slice_get-set_same}
 use Rattle.qc_promise.specs.Vocabulary.{Dealing, deal, deal_taken, dealing_in, no_dealing}
 use Rattle.laws_turns.proofs.Events.{Events, IsControl}
 use Rattle.laws_turns.proofs.Events as events
@@ -38,6 +35,7 @@ use Rattle.laws_turns.proofs.DealtCommands.{IsAfter, Keeps, commits_of}
 use Rattle.laws_turns.proofs.DealtClients.{at_rest, input-keeps, posts-keep, taken-keeps, turn_told}
 use Rattle.laws_turns.proofs.DealtOperations.{told_deal}
 use Rattle.laws_turns.proofs.WrittenDeeds.{desk_posts, written-more, written-turn}
+use Rattle.qc_list.proofs.Places.{slice_get-set_other, slice_get-set_same}
 
 -- every run goes event by event
 

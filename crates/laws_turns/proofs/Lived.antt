@@ -11,7 +11,7 @@ use Rattle.qc_mailbox.proofs.FallLaws.{inboxes_know_who_is_up}
 use Rattle.qc_mailbox.proofs.FallMail.{ready_messages_were_sent_through_falls}
 use Rattle.laws_turns.proofs.Acted.{deeds-silent, open_elsewhere, open_here}
 use Rattle.laws_turns.proofs.Numbered.{phase_silent}
-use Rattle.laws_turns.proofs.Places.{length-replicate, length-slice_set, replicate_at}
+use Rattle.laws_turns.proofs.Places.{length-replicate}
 use Rattle.qc_link.specs.Vocabulary.{most_actors}
 use Rattle.qc_msg.specs.declared.record.Record.{Record}
 use Rattle.qc_msg.specs.declared.step.Control.{Control}
@@ -29,8 +29,9 @@ use Rattle.qc_script.specs.Inbox as boxes
 use Rattle.qc_script.specs.declared.script.Script.{Script}
 use Rattle.laws_turns.specs.Vocabulary.{LivesIn}
 use Rattle.laws_turns.proofs.Downs.{who_is_down_only_tells, up_is}
-use Rattle.laws_turns.proofs.LivedMoves.{line_silent, damage_silent, place_within, up_of, lives_on, mail_grows}
-use Rattle.laws_turns.proofs.LivedMoves.{lives_takes, lives_posts, lives_falls, lives_rises}
+use Rattle.laws_turns.proofs.LivedMoves.{line_silent, damage_silent, up_of, lives_on, mail_grows, lives_takes}
+use Rattle.laws_turns.proofs.LivedMoves.{lives_posts, lives_falls, lives_rises}
+use Rattle.qc_list.proofs.Places.{place_within, replicate_at, length-slice_set}
 
 module _ (decl : Declaration) (script : Script) where
   module _ (fits : ℕ → List Record → Type 0) (few : actors decl ≤ most_actors) where

@@ -1,6 +1,6 @@
 -- An actor that takes, posts, falls or rises by itself, as one that lives.
-use Rattle.std.proofs.Common.{[], ◌≡◌, ℕ, zero, suc, ◌+◌, ◌<◌, ◌≤◌, not, Bool, true, false, List, ◌∷◌, ◌++◌, length}
-use Rattle.std.proofs.Common.{Some, None, slice_get, refl, sym, ap, ◌∙◌, subst, arith, length-append, append_assoc}
+use Rattle.std.proofs.Common.{[], ◌≡◌, ℕ, ◌+◌, ◌≤◌, not, Bool, true, false, List, ◌∷◌, ◌++◌, length, Some, None, refl}
+use Rattle.std.proofs.Common.{sym, ap, ◌∙◌, subst, arith, length-append, append_assoc}
 use Rattle.std.proofs.lemmas.List.{append-nil}
 use Rattle.qc_core.specs.Vocabulary.{IsLawfulWithFalls, Lives, MayReach, is_up}
 use Rattle.qc_core.specs.Lives as lives
@@ -17,7 +17,7 @@ use Rattle.qc_msg.specs.declared.turn.Turn.{Turn}
 use Rattle.qc_msg.specs.Vocabulary.{Deed, Entry, Falls, Rises, WasSentTo, by, deeds, deeds_as, fell, mail, marked}
 use Rattle.qc_msg.specs.Vocabulary.{posted_as, sends_as, step_of}
 use Rattle.qc_msg.proofs.GrownMail.{length-envelopes, mail-append, mail-taken}
-use Rattle.qc_msg.proofs.DeedsGrow.{deeds-append, deeds-fell, deeds-rose}
+use Rattle.qc_msg.proofs.DeedsGrow.{deeds-append, deeds-fell, deeds-rise}
 use Rattle.qc_msg.proofs.Growth.{deeds-posted_as, deeds-taken, mail-posted_as}
 use Rattle.qc_script.specs.Vocabulary.{controller_step, posts, ready, rises, takes}
 use Rattle.qc_script.specs.declared.script.Script.{Script}
@@ -37,11 +37,6 @@ line_silent line step is =
 pub damage_silent : (offset : ℕ) → IsSilent (steps.Damaged offset)
 damage_silent offset = record { sends = λ a. refl; deeds = λ ms. refl }
 
-pub place_within : (bs : List Bool) (a : ℕ) (t : Bool) → slice_get bs a ≡ Some t → a < length bs
-place_within [] a t is = absurd (let never : ⊥ = cc in never)
-place_within (b ∷ bs) zero t is = omega arith
-place_within (b ∷ bs) (suc a) t is = let further : a < length bs = place_within bs a t is in omega arith
-
 -- an actor's fall, and its rise
 
 pub deeds-fall : (a : ℕ) (h : List Entry) (cause : Fall)
@@ -49,12 +44,6 @@ pub deeds-fall : (a : ℕ) (h : List Entry) (cause : Fall)
 deeds-fall a h cause =
     deeds-append a [] h (by a (fell cause None))
     ∙ ap (λ (ds : List Deed). deeds a [] h ++ ds) (deeds-fell a (mail h) cause None)
-
-pub deeds-rise : (a : ℕ) (h : List Entry) (records : List Record)
-    → deeds a [] (h ++ marked a (steps.Rose records) ∷ []) ≡ deeds a [] h ++ Rises records ∷ []
-deeds-rise a h records =
-    deeds-append a [] h (by a (steps.Rose records ∷ []))
-    ∙ ap (λ (ds : List Deed). deeds a [] h ++ ds) (deeds-rose a (mail h) records)
 
 pub up_of : (ds : List Deed) (u : Bool) → u ≡ not (is_down ds) → is_up ds ≡ u
 up_of ds u is = up_is ds ∙ sym is

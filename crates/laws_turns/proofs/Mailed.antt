@@ -1,6 +1,6 @@
 -- In each run all mail is stamped, and so is all that an actor takes.
-use Rattle.std.proofs.Common.{◌≡◌, ℕ, zero, suc, ◌+◌, ◌==◌, Bool, true, false, cond, List, [], ◌∷◌, ◌++◌, length}
-use Rattle.std.proofs.Common.{Option, Some, None, slice_get, refl, sym, ap, ◌∙◌, subst}
+use Rattle.std.proofs.Common.{◌≡◌, ℕ, ◌+◌, ◌==◌, Bool, true, false, cond, List, [], ◌∷◌, ◌++◌, length, Option, Some}
+use Rattle.std.proofs.Common.{None, slice_get, refl, sym, ap, ◌∙◌, subst}
 use Rattle.std.specs.Prelude.{option_to_list}
 use Rattle.std.specs.List.{AllByRecursion as Every, cons_option}
 use Rattle.qc_core.specs.Vocabulary.{IsInput, IsLawful, IsStamped}
@@ -20,20 +20,12 @@ use Rattle.laws_turns.proofs.Numbered.{control_silent, mail-silent, phase_silent
 use Rattle.laws_turns.proofs.StampsOwn.{AreStamped}
 use Rattle.laws_turns.proofs.Stamped.{lawful_stamped}
 use Rattle.laws_turns.proofs.StepCases.{deed_cases}
+use Rattle.qc_list.proofs.Members.{every-append, every-at}
 
 abbrev pub IsMailStamped : List Envelope → Type 0
 IsMailStamped ms = Every (λ (e : Envelope). IsStamped e.message) ms
 
-pub both_all : {A : Type 0} (P : A → Type 0) (xs ys : List A) → Every P xs → Every P ys → Every P (xs ++ ys)
-both_all P [] ys first second = second
-both_all P (x ∷ xs) ys first second = (first.0, both_all P xs ys first.1 second)
-
-pub all_at : {A : Type 0} (P : A → Type 0) (xs : List A) (n : ℕ) (x : A) → Every P xs → slice_get xs n ≡ Some x → P x
-all_at P [] n x all is = absurd (let never : ⊥ = cc in never)
-all_at P (y ∷ ys) zero x all is = subst P (let same : y ≡ x = cc in same) all.0
-all_at P (y ∷ ys) (suc n) x all is = all_at P ys n x all.1 is
-
-envelopes_stamped : (a n : ℕ) (ps : List Posting) → AreStamped ps → IsMailStamped (envelopes a n ps)
+pub envelopes_stamped : (a n : ℕ) (ps : List Posting) → AreStamped ps → IsMailStamped (envelopes a n ps)
 envelopes_stamped a n [] are = tt
 envelopes_stamped a n (p ∷ ps) are = (are.0, envelopes_stamped a (n + 1) ps are.1)
 
@@ -47,7 +39,7 @@ decisions_name_stamps_of_their_clients decl script h open_inputs (takes a taken 
 decisions_name_stamps_of_their_clients decl script h open_inputs (posts a turn before older run taken law) =
     subst IsMailStamped (sym (mail-append older (by a (posted (length (mail older)) turn))
     ∙ ap (λ (v : List Envelope). mail older ++ v) (mail-posted a (length (mail older)) turn)))
-    (both_all (λ (e : Envelope). IsStamped e.message) (mail older) (envelopes a (length (mail older)) turn.sends)
+    (every-append (λ (e : Envelope). IsStamped e.message) (mail older) (envelopes a (length (mail older)) turn.sends)
     (decisions_name_stamps_of_their_clients decl script older before run)
     (envelopes_stamped a (length (mail older)) turn.sends (lawful_stamped decl a (deeds a [] older) turn law)))
 decisions_name_stamps_of_their_clients decl script h open_inputs (phase before older run none done quiet more) =
@@ -73,7 +65,7 @@ AreInputs ds = Every IsInputDeed ds
 heard_input : (ms : List Envelope) (n : ℕ) (o : Option Envelope) → IsMailStamped ms → slice_get ms n ≡ o
     → AreInputs (heard o)
 heard_input ms n None stamped is = tt
-heard_input ms n (Some e) stamped is = (all_at (λ (x : Envelope). IsStamped x.message) ms n e stamped is, tt)
+heard_input ms n (Some e) stamped is = (every-at (λ (x : Envelope). IsStamped x.message) ms n e stamped is, tt)
 
 step_inputs : (ms : List Envelope) (step : Step) → IsMailStamped ms → AreInputs (deed_at ms step)
 step_inputs ms step stamped =
@@ -86,12 +78,12 @@ mine_inputs : (mine : Bool) (ms : List Envelope) (step : Step) → IsMailStamped
 mine_inputs true ms step stamped = step_inputs ms step stamped
 mine_inputs false ms step stamped = tt
 
-first_all : {A : Type 0} (P : A → Type 0) (o : Option A) (xs : List A) → Every P (cons_option o xs)
+pub first_all : {A : Type 0} (P : A → Type 0) (o : Option A) (xs : List A) → Every P (cons_option o xs)
     → Every P (option_to_list o)
 first_all P None xs all = tt
 first_all P (Some x) xs all = (all.0, tt)
 
-rest_all : {A : Type 0} (P : A → Type 0) (o : Option A) (xs : List A) → Every P (cons_option o xs) → Every P xs
+pub rest_all : {A : Type 0} (P : A → Type 0) (o : Option A) (xs : List A) → Every P (cons_option o xs) → Every P xs
 rest_all P None xs all = all
 rest_all P (Some x) xs all = all.1
 
@@ -99,9 +91,10 @@ pub deeds_inputs : (a : ℕ) (ms : List Envelope) (h : List Entry) → IsMailSta
     → AreInputs (deeds a ms h)
 deeds_inputs a ms [] stamped all = tt
 deeds_inputs a ms (e ∷ h) stamped all =
-    both_all IsInputDeed (cond (e.actor == a) (deed_at ms e.step) []) (deeds a (ms ++ option_to_list (envelope_of e)) h)
+    every-append IsInputDeed (cond (e.actor == a) (deed_at ms e.step) [])
+    (deeds a (ms ++ option_to_list (envelope_of e)) h)
     (mine_inputs (e.actor == a) ms e.step stamped)
     (deeds_inputs a (ms ++ option_to_list (envelope_of e)) h
-    (both_all (λ (x : Envelope). IsStamped x.message) ms (option_to_list (envelope_of e)) stamped
+    (every-append (λ (x : Envelope). IsStamped x.message) ms (option_to_list (envelope_of e)) stamped
     (first_all (λ (x : Envelope). IsStamped x.message) (envelope_of e) (mail h) all))
     (rest_all (λ (x : Envelope). IsStamped x.message) (envelope_of e) (mail h) all))

@@ -1,11 +1,10 @@
 -- Each event adds to what was sent: each answer among messages goes to who asked for it, from who was asked.
-use Rattle.std.proofs.Common.{[], ◌≡◌, ℕ, zero, suc, ◌+◌, true, List, ◌∷◌, ◌++◌, length, Option, Some, None, inl, inr}
-use Rattle.std.proofs.Common.{option_to_list, slice_get, refl, sym, ap, ◌∙◌, subst, arith, append_assoc, length-append}
-use Rattle.std.specs.List.{AllByRecursion as Every, cons_option}
+use Rattle.std.proofs.Common.{[], ◌≡◌, ℕ, ◌+◌, true, List, ◌∷◌, ◌++◌, length, Option, Some, None, option_to_list}
+use Rattle.std.proofs.Common.{slice_get, refl, sym, ap, ◌∙◌, subst, arith, length-append}
+use Rattle.std.specs.List.{AllByRecursion as Every}
 use Rattle.std.proofs.lemmas.List.{append-nil}
 use Rattle.qc_decl.specs.declared.declaration.Declaration.{Declaration}
 use Rattle.qc_mailbox.specs.Vocabulary.{AreNumbered, IsOwnRequest}
-use Rattle.qc_list.specs.Vocabulary.{In}
 use Rattle.qc_list.proofs.Members.{every-append, every-at, every-weaker}
 use Rattle.qc_msg.specs.declared.message.Envelope.{Envelope}
 use Rattle.qc_msg.specs.declared.message.Message.{Message}
@@ -26,7 +25,8 @@ use Rattle.qc_promise.specs.Vocabulary.{IsAnswerOf, IsMailStep, IsMailed, IsRece
 use Rattle.qc_promise.specs.Vocabulary.{asks_answer}
 use Rattle.qc_script.specs.Vocabulary.{is_request}
 use Rattle.laws_turns.proofs.Commanded.{CallsAt, IsCalled, IsOwnCall, input_called, post_called}
-use Rattle.laws_turns.proofs.Places.{slice_get-more}
+use Rattle.qc_mailbox.proofs.Among.{mail_cons, place_of}
+use Rattle.qc_list.proofs.Places.{slice_get-more}
 
 -- more messages
 
@@ -61,11 +61,6 @@ pub record Delivered (decl : Declaration) (h : List Entry) : Type 0 where
 
 -- along more entries
 
-pub mail_cons : (ms : List Envelope) (o : Option Envelope) (es : List Envelope)
-    → (ms ++ option_to_list o) ++ es ≡ ms ++ cons_option o es
-mail_cons ms None es = ap (λ (v : List Envelope). v ++ es) (append-nil ms)
-mail_cons ms (Some e) es = append_assoc ms (e ∷ []) es
-
 mailed_more : (ms : List Envelope) (h k : List Entry) → IsMailed ms h → IsMailed (ms ++ mail h) k → IsMailed ms (h ++ k)
 mailed_more ms [] k first second = subst (λ (v : List Envelope). IsMailed v k) (append-nil ms) second
 mailed_more ms (e ∷ h) k first second = (
@@ -94,12 +89,6 @@ IsOwnLoss ms a (inputs.Lost n) = IsOwnRequest ms a n
 
 asks_is : (m : Message) → is_request m ≡ true → asks_answer m ≡ true
 asks_is m is = is
-
-place_of : (e : Envelope) (ms : List Envelope) → In e ms → (n : ℕ) × (slice_get ms n ≡ Some e)
-place_of e [] member = absurd member
-place_of e (m ∷ ms) (inl same) = (zero, ap (λ (x : Envelope). Some x) (sym same))
-place_of e (m ∷ ms) (inr later) =
-    let found : (n : ℕ) × (slice_get ms n ≡ Some e) = place_of e ms later in (suc found.0, found.1)
 
 own_request : (ms : List Envelope) (a n : ℕ) → AreNumbered ms → IsOwnRequest ms a n → IsRequestOf a (slice_get ms n)
 own_request ms a n numbered own =

@@ -37,7 +37,7 @@ client_bounds decl h a events =
     let w = b.clients a in
     record { count = w.client.front.count; front = w.client.front.clock; desk = w.client.desk.clock }
 
-message_promise : (bound : ℕ) (message : Message) → MessageWithin bound message → promise_in message ≤ bound
+pub message_promise : (bound : ℕ) (message : Message) → MessageWithin bound message → promise_in message ≤ bound
 message_promise bound message here =
     message_cases (λ m r a d i. MessageWithin bound m
     → option_map_or (λ (x : Answered). promised (Some x.answer)) a 0 ≤ bound)

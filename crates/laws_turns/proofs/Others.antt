@@ -22,8 +22,9 @@ use Rattle.qc_script.specs.Vocabulary.{RunsWithFalls, begins, control, damaged, 
 use Rattle.qc_script.specs.Vocabulary.{takes, unopened}
 use Rattle.qc_script.specs.declared.script.Script.{Script}
 use Rattle.laws_turns.specs.Vocabulary.{IsFall}
-use Rattle.laws_turns.proofs.LivedMoves.{damage_silent, deeds-fall, line_silent, place_within}
+use Rattle.laws_turns.proofs.LivedMoves.{damage_silent, deeds-fall, line_silent}
 use Rattle.laws_turns.proofs.Lived.{run_long}
+use Rattle.qc_list.proofs.Places.{place_within}
 
 abbrev OnlyFalls : ℕ → List Entry → Type 0
 OnlyFalls a h = Every IsFall (deeds a [] h)

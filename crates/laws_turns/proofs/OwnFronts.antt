@@ -1,19 +1,14 @@
 -- A front end begins transactions of its own client alone, and what it sends names no stamp.
-use Rattle.std.proofs.Common.{◌≡◌, ℕ, nat_le, Bool, true, false, if◌then◌else◌, List, [], ◌∷◌, ◌++◌, length, Option}
-use Rattle.std.proofs.Common.{Some, None, option_map, inl, inr, refl, sym, ap, ◌∙◌, slice_get, subst}
+use Rattle.std.proofs.Common.{◌≡◌, ℕ, nat_le, List, [], length, Option, Some, None, sym, ap, ◌∙◌, subst}
 use Rattle.std.specs.List.{AllByRecursion as Every}
 use Rattle.std.specs.Prelude.{MatchOption}
 use Rattle.qc_core.specs.Vocabulary.{IsOwnStamp, IsStamped}
-use Rattle.qc_list.specs.Vocabulary.{In}
 use Rattle.qc_decl.specs.declared.declaration.Declaration.{Declaration}
 use Rattle.qc_decl.specs.Vocabulary.{append_need_of, most_transaction_operations, read_need_of}
 use Rattle.qc_plan.specs.Vocabulary.{RoundState, note, verdict}
 use Rattle.qc_plan.specs.declared.standing.Verdict.{Verdict}
 use Rattle.qc_plan.specs.declared.standing.Verdict.TheVariants as verdicts
 use Rattle.qc_stamp.specs.declared.stamp.TxId.{TxId}
-use Rattle.qc_view.specs.declared.view.View.{View}
-use Rattle.qc_view.specs.Vocabulary.{with_own}
-use Rattle.qc_msg.specs.declared.begun.Begun.{Begun}
 use Rattle.qc_msg.specs.declared.call.Call.{Call}
 use Rattle.qc_msg.specs.declared.message.Answer.{Answer}
 use Rattle.qc_msg.specs.declared.message.Message.{Message}
@@ -28,14 +23,16 @@ use Rattle.qc_front.specs.declared.doing.Doing.TheVariants.{Idle, Reading, Appen
 use Rattle.qc_front.specs.declared.front.Front.{Front}
 use Rattle.qc_front.specs.declared.transaction.Transaction.{Transaction}
 use Rattle.qc_front.specs.Vocabulary.{AreSent, FrontMove, IsSent, aborts, answer_of, answered, append_by, appended_with}
-use Rattle.qc_front.specs.Vocabulary.{appending_takes, begins, called, commits, gives_up, learns, moved}
-use Rattle.qc_front.specs.Vocabulary.{next_own, performs, read_by, read_with, reading_takes, reads, resp_of, round_for}
-use Rattle.qc_front.specs.Vocabulary.{standing_of, takes, takes_in, with_event}
-use Rattle.qc_front.proofs.CommandsKeep.{view_keeps}
+use Rattle.qc_front.specs.Vocabulary.{appending_takes, begins, called, commits, gives_up, learns, moved, performs}
+use Rattle.qc_front.specs.Vocabulary.{read_by, read_with, reading_takes, reads, resp_of, round_for, standing_of, takes}
+use Rattle.qc_front.specs.Vocabulary.{takes_in}
 use Rattle.qc_front.proofs.Sending.{called_sent, takes_sent}
 use Rattle.laws_turns.proofs.ClientCases.{front_cases}
-use Rattle.laws_turns.proofs.AnswerCases.{appended_cases, learned_cases, read_cases}
 use Rattle.laws_turns.proofs.MessageCases.{message_cases}
+use Rattle.qc_list.proofs.Members.{every-from_In}
+use Rattle.qc_front.proofs.Learning.{client_kept}
+use Rattle.qc_client.proofs.FrontSends.{read-name, appended-name, event-name}
+use Rattle.qc_list.proofs.Booleans.{if_two}
 
 abbrev pub IsOwnTransaction : ℕ → Option Transaction → Type 0
 IsOwnTransaction k None = Unit {0}
@@ -45,30 +42,7 @@ pub record OwnFront (k : ℕ) (front : Front) : Type 0 where
   pub client : front.client ≡ k
   pub begun : IsOwnTransaction k front.transaction
 
-of_two : {A : Type 0} (P : A → Type 0) (t : Bool) (x y : A) → P x → P y → P (if t then x else y)
-of_two P true x y here there = here
-of_two P false x y here there = there
-
 -- the name stays
-
-pub read_name : (t : Transaction) (site object : ℕ) (answer : Option Answer)
-    → (read_with t site object answer).begun.tx ≡ t.begun.tx
-read_name t site object answer =
-    read_cases t site object (λ (b : Begun). b.tx ≡ t.begun.tx) (λ lives. refl) answer
-
-pub appended_name : (t : Transaction) (site : ℕ) (answer : Option Answer)
-    → (appended_with t site answer).begun.tx ≡ t.begun.tx
-appended_name t site answer =
-    appended_cases t site (λ (u : Transaction). u.begun.tx ≡ t.begun.tx) (λ lives. refl) answer
-
-event_name : (t : Transaction) (object inv event resp : ℕ) → (with_event t object inv event resp).begun.tx ≡ t.begun.tx
-event_name t object inv event resp =
-    ap (λ (b : Begun). b.tx) (view_keeps (record t { own = t.own ++ next_own t object event ∷ [] }) object
-    (option_map (λ (v : View). with_own v event) (slice_get t.views object)))
-
-learns_client : (front : Front) (answer : Option Answer) → (learns front answer).client ≡ front.client
-learns_client front answer =
-    learned_cases front (λ (f : Front). f.client ≡ front.client) (λ clock. refl) (λ epoch. refl) refl answer
 
 -- rounds
 
@@ -81,7 +55,7 @@ module _ (decl : Declaration) (k : ℕ) where
       record {
         client = client;
         begun = ap (λ (tx : TxId). tx.client)
-            (event_name t object inv event (resp_of decl object event)) ∙ own;
+            (event-name t object inv event (resp_of decl object event)) ∙ own;
       }
   append_own next t object inv event calls round (verdicts.Closed epoch site) client own =
       record { client = client; begun = own }
@@ -114,9 +88,9 @@ module _ (decl : Declaration) (k : ℕ) where
       → OwnFront k (performs decl front o object inv).front
   performs_own front None object inv client begun own = record { client = client; begun = begun }
   performs_own front (Some t) object inv client begun own =
-      of_two (λ (m : FrontMove). OwnFront k m.front) t.begun.doomed (moved front (telling replies.Doomed)) _
+      if_two (λ (m : FrontMove). OwnFront k m.front) t.begun.doomed (moved front (telling replies.Doomed)) _
       (record { client = client; begun = begun })
-      (of_two (λ (m : FrontMove). OwnFront k m.front) (nat_le most_transaction_operations (length t.begun.ops))
+      (if_two (λ (m : FrontMove). OwnFront k m.front) (nat_le most_transaction_operations (length t.begun.ops))
       (moved front (telling replies.TooLong)) (reads decl front t object inv []
       (round_for decl front t (read_need_of decl t.begun.epoch object inv)))
       (record { client = client; begun = begun })
@@ -129,7 +103,7 @@ module _ (decl : Declaration) (k : ℕ) where
 
   commits_own : (front : Front) (o : Option Transaction) → OwnFront k front → OwnFront k (commits front o).front
   commits_own front None own = own
-  commits_own front (Some t) own = of_two (λ (m : FrontMove). OwnFront k m.front) t.begun.doomed
+  commits_own front (Some t) own = if_two (λ (m : FrontMove). OwnFront k m.front) t.begun.doomed
       (gives_up front t (replies.Aborted causes.Doomed)) (moved front quiet)
       (record { client = own.client; begun = tt }) own
 
@@ -152,8 +126,8 @@ module _ (decl : Declaration) (k : ℕ) where
   reading_own front t object inv calls round number answer (Some site) own name =
       read_own (learns front answer) (read_with t site object answer) object inv (without_call calls number)
       (note round site (standing_of answer)) (verdict (note round site (standing_of answer)))
-      (learns_client front answer ∙ own.client)
-      (ap (λ (tx : TxId). tx.client) (read_name t site object answer) ∙ name)
+      (client_kept front answer ∙ own.client)
+      (ap (λ (tx : TxId). tx.client) (read-name t site object answer) ∙ name)
 
   appending_own : (front : Front) (t : Transaction) (object inv event : ℕ) (calls : List Call) (round : RoundState)
       (number : ℕ) (answer : Option Answer) (o : Option ℕ) → OwnFront k front → t.begun.tx.client ≡ k
@@ -162,8 +136,8 @@ module _ (decl : Declaration) (k : ℕ) where
   appending_own front t object inv event calls round number answer (Some site) own name =
       append_own (learns front answer) (appended_with t site answer) object inv event (without_call calls number)
       (note round site (standing_of answer)) (verdict (note round site (standing_of answer)))
-      (learns_client front answer ∙ own.client)
-      (ap (λ (tx : TxId). tx.client) (appended_name t site answer) ∙ name)
+      (client_kept front answer ∙ own.client)
+      (ap (λ (tx : TxId). tx.client) (appended-name t site answer) ∙ name)
 
   in_own : (front : Front) (doing : Doing) (o : Option Transaction) (number : ℕ) (answer : Option Answer)
       → OwnFront k front → IsOwnTransaction k o → OwnFront k (takes_in decl front doing o number answer).front
@@ -180,10 +154,6 @@ module _ (decl : Declaration) (k : ℕ) where
 
 -- what is sent
 
-pub every_of : {A : Type 0} (P : A → Type 0) (xs : List A) → ((x : A) → In x xs → P x) → Every P xs
-every_of P [] all = tt
-every_of P (x ∷ xs) all = (all x (inl refl), every_of P xs (λ y member. all y (inr member)))
-
 sent_stamped : (decl : Declaration) (front next : Front) (to : ℕ) (m : Message) → IsSent decl front next to m
     → IsStamped m
 sent_stamped decl front next to m is =
@@ -194,7 +164,7 @@ sent_stamped decl front next to m is =
 
 sends_stamped : (decl : Declaration) (front : Front) (m : FrontMove) → AreSent decl front m
     → Every (λ (p : Posting). IsStamped p.message) m.turn.sends
-sends_stamped decl front m sent = every_of (λ (p : Posting). IsStamped p.message) m.turn.sends
+sends_stamped decl front m sent = every-from_In (λ (p : Posting). IsStamped p.message) m.turn.sends
     (λ p member. sent_stamped decl front m.front p.to p.message (sent p member))
 
 pub called_stamped : (decl : Declaration) (front : Front) (command : Command)

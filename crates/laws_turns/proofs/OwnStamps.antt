@@ -18,12 +18,12 @@ use Rattle.qc_front.specs.declared.transaction.Transaction.{Transaction}
 use Rattle.qc_front.specs.Conduct as fronts
 use Rattle.qc_client.specs.declared.client.Client.{Client}
 use Rattle.qc_client.specs.Vocabulary.{ClientMove, answered, answered_by, by_desk, by_front, called, client_after}
-use Rattle.qc_client.specs.Vocabulary.{client_does, client_takes, commits, heard, moved, new_client}
-use Rattle.qc_client.specs.Vocabulary.{sent_one}
+use Rattle.qc_client.specs.Vocabulary.{client_does, client_takes, commits, heard, moved, new_client, sent_one}
 use Rattle.laws_turns.proofs.OwnFronts.{IsOwnTransaction}
-use Rattle.laws_turns.proofs.StampsOwn.{AreStamped, unwritten, Own, OwnMove, by_two, front_called, front_takes}
-use Rattle.laws_turns.proofs.StampsOwn.{desk_own, outcome_own}
+use Rattle.laws_turns.proofs.StampsOwn.{AreStamped, unwritten, Own, OwnMove, front_called, front_takes, desk_own}
+use Rattle.laws_turns.proofs.StampsOwn.{outcome_own}
 use Rattle.laws_turns.proofs.ClientCases.{called_cases, heard_cases, sent_cases}
+use Rattle.qc_list.proofs.Booleans.{if_two}
 
 -- each input of a client
 
@@ -31,7 +31,7 @@ commits_own : (decl : Declaration) (k : ℕ) (c : Client) (o : Option Transactio
     → OwnMove k (commits decl c o)
 commits_own decl k c None is own = front_called decl k c commands.Commit own
 commits_own decl k c (Some t) is own =
-    by_two (OwnMove k) t.begun.doomed (by_front c (fronts.called decl c.front commands.Commit))
+    if_two (OwnMove k) t.begun.doomed (by_front c (fronts.called decl c.front commands.Commit))
     (by_desk c (desks.prepare decl c.desk t.begun c.front.clock.value))
     (front_called decl k c commands.Commit own)
     (desk_own k c (Some t.begun.tx) (desks.prepare decl c.desk t.begun c.front.clock.value) own

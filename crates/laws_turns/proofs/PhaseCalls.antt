@@ -13,14 +13,12 @@ use Rattle.qc_msg.specs.declared.record.Record.{Record}
 use Rattle.qc_msg.specs.declared.reply.Reply.{Reply}
 use Rattle.qc_msg.specs.declared.step.Command.{Command}
 use Rattle.qc_msg.specs.declared.step.Control.{Control}
-use Rattle.qc_msg.specs.declared.step.Input.{Input}
-use Rattle.qc_msg.specs.declared.step.Input.TheVariants as inputs
 use Rattle.qc_msg.specs.declared.step.Step.{Step}
 use Rattle.qc_msg.specs.declared.step.Step.TheVariants as steps
 use Rattle.qc_msg.specs.declared.turn.Posting.{Posting}
 use Rattle.qc_msg.specs.declared.turn.Turn.{Turn}
-use Rattle.qc_msg.specs.Vocabulary.{Entry, by, marked, posted, sends_of, sents, step_of, tells_of, told, turn_deeds}
-use Rattle.qc_msg.specs.Vocabulary.{writes_of, wrote, Answered, answer_in}
+use Rattle.qc_msg.specs.Vocabulary.{Entry, by, marked, posted, sends_of, sents, tells_of, told, turn_deeds, writes_of}
+use Rattle.qc_msg.specs.Vocabulary.{wrote, Answered, answer_in}
 use Rattle.qc_script.specs.declared.script.PhaseLines.{PhaseLines}
 use Rattle.qc_script.specs.declared.script.Script.{Script}
 use Rattle.std.specs.Prelude.{set}
@@ -153,11 +151,6 @@ module _ (script : Script) (a : ℕ) where
 
 pub phase_more : (h k : List Entry) → phase_of (h ++ k) ≡ fold (λ (n : ℕ) (e : Entry). phase_at n e.step) (phase_of h) k
 phase_more h k = fold-append (λ (n : ℕ) (e : Entry). phase_at n e.step) 0 h k
-
-pub phase_taken : (h : List Entry) (a : ℕ) (taken : Input) → phase_of (h ++ marked a (step_of taken) ∷ []) ≡ phase_of h
-phase_taken h a (inputs.Called command) = phase_more h (marked a (steps.Called command) ∷ [])
-phase_taken h a (inputs.Got envelope) = phase_more h (marked a (steps.Got envelope.number) ∷ [])
-phase_taken h a (inputs.Lost number) = phase_more h (marked a (steps.Lost number) ∷ [])
 
 phase_sents : (k a n : ℕ) (ps : List Posting) (reply : Option Reply)
     → fold (λ (n : ℕ) (e : Entry). phase_at n e.step) k (by a (sents n ps ++ told reply)) ≡ k

@@ -14,8 +14,8 @@ use Rattle.qc_msg.specs.declared.message.Message.TheVariants as messages
 use Rattle.qc_msg.specs.declared.step.Step.TheVariants as steps
 use Rattle.qc_msg.specs.declared.turn.Posting.{Posting}
 use Rattle.qc_msg.specs.declared.turn.Turn.{Turn}
-use Rattle.qc_msg.specs.Vocabulary.{Deed, Entry, by, deeds, envelopes, mail, posted}
-use Rattle.qc_msg.specs.Vocabulary.{Requested, request_in, wants_answer}
+use Rattle.qc_msg.specs.Vocabulary.{Deed, Entry, by, deeds, envelopes, mail, posted, Requested, request_in}
+use Rattle.qc_msg.specs.Vocabulary.{wants_answer}
 use Rattle.qc_msg.proofs.GrownMail.{mail-append, mail-posted, mail-taken}
 use Rattle.qc_client.specs.Vocabulary.{client_after}
 use Rattle.qc_script.specs.Vocabulary.{Runs, phase_of}
@@ -23,12 +23,12 @@ use Rattle.qc_script.specs.Runs.{begins, takes, posts, phase, control}
 use Rattle.qc_script.specs.declared.script.Script.{Script}
 use Rattle.qc_site.specs.Vocabulary.{site_after, names_declared}
 use Rattle.laws_turns.specs.Vocabulary.{AsksDeclared}
-use Rattle.laws_turns.proofs.Mailed.{both_all}
 use Rattle.laws_turns.proofs.Numbered.{control_silent, mail-silent, phase_silent}
 use Rattle.laws_turns.proofs.Rounds.{AreProper, IsProper}
 use Rattle.laws_turns.proofs.SiteReplies.{IsMailProper, IsProperFrom, asks_nothing}
 use Rattle.laws_turns.proofs.SoundClients.{IsAskableDeed, run_askable, client_proper}
 use Rattle.laws_turns.proofs.ReadingCases.{matched_by}
+use Rattle.qc_list.proofs.Members.{every-append}
 
 -- what an actor's turn sends: a site asks nothing, a client asks sites
 
@@ -79,7 +79,7 @@ run_proper decl script accepted asks h open_inputs (posts a turn before older ru
     subst (IsMailProper decl)
     (sym (mail-append older (by a (posted (length (mail older)) turn))
     ∙ ap (λ (v : List Envelope). mail older ++ v) (mail-posted a (length (mail older)) turn)))
-    (both_all (λ (e : Envelope). IsProperFrom decl e.from e.to e.message) (mail older)
+    (every-append (λ (e : Envelope). IsProperFrom decl e.from e.to e.message) (mail older)
     (envelopes a (length (mail older)) turn.sends) (run_proper decl script accepted asks older before run)
     (lawful_mail decl accepted a (length (mail older)) (deeds a [] older) turn
     (run_askable decl script a older before asks run) law))

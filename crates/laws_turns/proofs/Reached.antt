@@ -4,7 +4,7 @@ use Rattle.std.proofs.Common.{slice_get, refl, sym, ap, ◌∙◌, subst, arith,
 use Rattle.std.specs.Prelude.{slice_set}
 use Rattle.std.proofs.lemmas.Bool.{lt-ltb}
 use Rattle.qc_list.specs.Vocabulary.{In}
-use Rattle.qc_list.proofs.Members.{every-In}
+use Rattle.qc_list.proofs.Members.{every-In, every-back}
 use Rattle.qc_core.specs.Vocabulary.{IsLawful}
 use Rattle.qc_decl.specs.declared.declaration.Declaration.{Declaration}
 use Rattle.qc_decl.specs.Vocabulary.{IsAccepted, controller}
@@ -34,13 +34,13 @@ use Rattle.laws_turns.proofs.ReadyFirst.{ready_copy}
 use Rattle.laws_turns.proofs.StepsKeep.{AreSomewhere, IsSomewhere, mail_first, somewhere_still, turn_somewhere}
 use Rattle.laws_turns.proofs.Kept.{turn_ends}
 use Rattle.laws_turns.proofs.Numbered.{control_silent, phase_silent}
-use Rattle.laws_turns.proofs.Places.{slice_get-set_other}
 use Rattle.laws_turns.proofs.Proper.{run_proper}
 use Rattle.laws_turns.proofs.Served.{lawful_site}
 use Rattle.laws_turns.proofs.SiteReplies.{IsMailProper, IsProperFrom, IsReply}
-use Rattle.laws_turns.proofs.TakenRequests.{IsDeclared, declared_request, site_turn, second_all, moved_to, taken_stays}
-use Rattle.laws_turns.proofs.TakenRequests.{flip, take_kept}
+use Rattle.laws_turns.proofs.TakenRequests.{IsDeclared, declared_request, site_turn, moved_to, taken_stays, flip}
+use Rattle.laws_turns.proofs.TakenRequests.{take_kept}
 use Rattle.laws_turns.proofs.StepCases.{control_cases}
+use Rattle.qc_list.proofs.Places.{slice_get-set_other}
 
 module _ (decl : Declaration) (script : Script) (accepted : IsAccepted decl) (asks : AsksDeclared decl script) (a : ℕ)
     (a_low : a < most_actors) where
@@ -110,7 +110,7 @@ module _ (decl : Declaration) (script : Script) (accepted : IsAccepted decl) (as
 
       proper : IsMailProper decl (envelopes b (length (mail older)) turn.sends)
       proper =
-          second_all (λ (x : Envelope). IsProperFrom decl x.from x.to x.message) (mail older)
+          every-back (λ (x : Envelope). IsProperFrom decl x.from x.to x.message) (mail older)
           (envelopes b (length (mail older)) turn.sends)
           (subst (IsMailProper decl)
           (mail-append older (by b (posted (length (mail older)) turn))

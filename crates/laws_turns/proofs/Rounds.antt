@@ -1,7 +1,7 @@
 -- Requests go to sites and name what is declared: of a front end, whatever it takes.
-use Rattle.std.proofs.Common.{◌≡◌, ℕ, ◌-◌, ◌%◌, ◌<◌, ◌≤◌, ◌==◌, ◌&&◌, nat_le, nat_lt, Bool, true, false, cond}
-use Rattle.std.proofs.Common.{if◌then◌else◌, List, [], ◌∷◌, map, length, Option, Some, None, is_some, slice_get, refl}
-use Rattle.std.proofs.Common.{sym, ap, ◌∙◌, subst, arith}
+use Rattle.std.proofs.Common.{◌≡◌, ℕ, ◌-◌, ◌%◌, ◌<◌, ◌≤◌, ◌==◌, ◌&&◌, nat_le, nat_lt, Bool, true, false, cond, List, []}
+use Rattle.std.proofs.Common.{◌∷◌, map, length, Option, Some, None, is_some, slice_get, refl, sym, ap, ◌∙◌, subst}
+use Rattle.std.proofs.Common.{arith}
 use Rattle.std.specs.List.{AllByRecursion as Every}
 use Rattle.std.specs.Option.{option_map_or}
 use Rattle.std.specs.Prelude.{MatchOption}
@@ -28,8 +28,8 @@ use Rattle.qc_msg.specs.declared.reply.Reply.TheVariants as replies
 use Rattle.qc_msg.specs.declared.reply.AbortCause.TheVariants as causes
 use Rattle.qc_msg.specs.declared.step.Command.{Command}
 use Rattle.qc_msg.specs.declared.turn.Posting.{Posting}
-use Rattle.qc_msg.specs.Vocabulary.{decisions, quiet, site_called, telling, without_call}
-use Rattle.qc_msg.specs.Vocabulary.{Requested, request_in, wants_answer}
+use Rattle.qc_msg.specs.Vocabulary.{decisions, quiet, site_called, telling, without_call, Requested, request_in}
+use Rattle.qc_msg.specs.Vocabulary.{wants_answer}
 use Rattle.qc_front.specs.declared.doing.Doing.{Doing}
 use Rattle.qc_front.specs.declared.doing.Doing.TheVariants.{Idle, Reading, Appending}
 use Rattle.qc_front.specs.declared.front.Front.{Front}
@@ -40,13 +40,11 @@ use Rattle.qc_front.specs.Vocabulary.{read_with, reads, request_of, round_for, s
 use Rattle.qc_front.specs.Conduct as fronts
 use Rattle.qc_site.specs.Vocabulary.{names_declared}
 use Rattle.laws_turns.proofs.DeclaredSites.{AreSites, asking_rest, sites_cyclic, sites_filter, wanted_sites}
-use Rattle.laws_turns.proofs.OwnFronts.{IsOwnTransaction, OwnFront, appended_name, read_name}
+use Rattle.laws_turns.proofs.OwnFronts.{IsOwnTransaction, OwnFront}
 use Rattle.laws_turns.specs.Vocabulary.{IsAskable}
 use Rattle.laws_turns.proofs.ClientCases.{front_cases}
-
-pub of_either : {A : Type 0} (P : A → Type 0) (t : Bool) (x y : A) → P x → P y → P (if t then x else y)
-of_either P true x y here there = here
-of_either P false x y here there = there
+use Rattle.qc_client.proofs.FrontSends.{read-name, appended-name}
+use Rattle.qc_list.proofs.Booleans.{if_two}
 
 -- a request goes to a site, and names a client and an object that are declared; nobody sends an Ask, a Close, an
 -- Install
@@ -158,9 +156,9 @@ module _ (decl : Declaration) (accepted : IsAccepted decl) (k : ℕ) (within : k
       → is_some (kind_at decl object) ≡ true → IsSited decl front.doing → IsGood decl (performs decl front o object inv)
   performs_good front None object inv own is sited = stays front replies.NoTransaction sited
   performs_good front (Some t) object inv own is sited =
-      of_either (IsGood decl) t.begun.doomed (front_moved front (telling replies.Doomed)) _
+      if_two (IsGood decl) t.begun.doomed (front_moved front (telling replies.Doomed)) _
       (stays front replies.Doomed sited)
-      (of_either (IsGood decl) (nat_le most_transaction_operations (length t.begun.ops))
+      (if_two (IsGood decl) (nat_le most_transaction_operations (length t.begun.ops))
       (front_moved front (telling replies.TooLong))
       (reads decl front t object inv [] (round_for decl front t (read_need_of decl t.begun.epoch object inv)))
       (stays front replies.TooLong sited)
@@ -178,7 +176,7 @@ module _ (decl : Declaration) (accepted : IsAccepted decl) (k : ℕ) (within : k
   commits_good : (front : Front) (o : Option Transaction) → IsSited decl front.doing
       → IsGood decl (fronts.commits front o)
   commits_good front None sited = stays front replies.NoTransaction sited
-  commits_good front (Some t) sited = of_either (IsGood decl) t.begun.doomed
+  commits_good front (Some t) sited = if_two (IsGood decl) t.begun.doomed
       (gives_up front t (replies.Aborted causes.Doomed)) (front_moved front quiet)
       (gives_good front t (replies.Aborted causes.Doomed)) (record { doing = sited; sends = tt })
 
@@ -208,7 +206,7 @@ module _ (decl : Declaration) (accepted : IsAccepted decl) (k : ℕ) (within : k
     reading_good t object inv calls round (Some site) own is rest =
         read_good (learns front answer) (read_with t site object answer) object inv (without_call calls number)
         (note round site (standing_of answer)) (verdict (note round site (standing_of answer)))
-        (ap (λ (tx : TxId). tx.client) (read_name t site object answer) ∙ own) is rest
+        (ap (λ (tx : TxId). tx.client) (read-name t site object answer) ∙ own) is rest
 
     appending_good : (t : Transaction) (object inv event : ℕ) (calls : List Call) (round : RoundState) (o : Option ℕ)
         → t.begun.tx.client ≡ k → is_some (kind_at decl object) ≡ true → AreSites decl round.rest
@@ -217,7 +215,7 @@ module _ (decl : Declaration) (accepted : IsAccepted decl) (k : ℕ) (within : k
     appending_good t object inv event calls round (Some site) own is rest =
         append_good (learns front answer) (appended_with t site answer) object inv event (without_call calls number)
         (note round site (standing_of answer)) (verdict (note round site (standing_of answer)))
-        (ap (λ (tx : TxId). tx.client) (appended_name t site answer) ∙ own) is rest
+        (ap (λ (tx : TxId). tx.client) (appended-name t site answer) ∙ own) is rest
 
     in_good : (doing : Doing) (o : Option Transaction) → IsOwnTransaction k o → IsSited decl doing
         → IsGood decl (fronts.takes_in decl front doing o number answer)

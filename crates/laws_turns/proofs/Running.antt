@@ -35,21 +35,21 @@ busy_if : (t : Bool) (i j : Inbox) (b : Bool) → i.busy ≡ b → j.busy ≡ b 
 busy_if true i j b here there = here
 busy_if false i j b here there = there
 
-busy_opened_by : (a : ℕ) (lines : List Control) (i : Inbox) → (opened_by a lines i).busy ≡ i.busy
+pub busy_opened_by : (a : ℕ) (lines : List Control) (i : Inbox) → (opened_by a lines i).busy ≡ i.busy
 busy_opened_by a [] i = refl
 busy_opened_by a (line ∷ lines) i = refl
 
 busy_opened : (a : ℕ) (i : Inbox) → (opened a i).busy ≡ i.busy
 busy_opened a i = busy_opened_by a (acting i.up i.controls) (record i { controls = acting i.up i.controls })
 
-busy_acted : (a : ℕ) (i : Inbox) → (control_acted a i).busy ≡ i.busy
+pub busy_acted : (a : ℕ) (i : Inbox) → (control_acted a i).busy ≡ i.busy
 busy_acted a i = busy_opened a (record i { controls = drop 1 i.controls })
 
 busy_emptied : (t : Bool) (i : Inbox) → (emptied t i).busy ≡ i.busy
 busy_emptied true i = refl
 busy_emptied false i = refl
 
-busy_fallen : (a : ℕ) (i : Inbox) (r : ℕ) → (actor_fell a i r).busy ≡ i.busy
+pub busy_fallen : (a : ℕ) (i : Inbox) (r : ℕ) → (actor_fell a i r).busy ≡ i.busy
 busy_fallen a i r = busy_emptied (r == a)
     (record i {
       up = set i.up r false;

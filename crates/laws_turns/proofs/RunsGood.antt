@@ -24,7 +24,6 @@ use Rattle.laws_turns.specs.Vocabulary.{ActsIn}
 use Rattle.laws_turns.proofs.Acted.{actors_take_and_post_by_turns}
 use Rattle.laws_turns.proofs.Arrivals.{what_is_ready_was_sent}
 use Rattle.laws_turns.proofs.Numbered.{control_silent, phase_silent}
-use Rattle.laws_turns.proofs.Places.{slice_get-set_same}
 use Rattle.qc_promise.specs.Vocabulary.{Unborn, status}
 use Rattle.laws_turns.proofs.Bounding.{lawful_turn}
 use Rattle.laws_turns.proofs.InRuns.{IsResting, client_no_site, client_number, deals_acts, silent_is}
@@ -35,9 +34,8 @@ use Rattle.laws_turns.proofs.TurnsGoOn.{IsNoInquiry, NoInquiries}
 use Rattle.laws_turns.proofs.Moving.{Born, Good, IsSaid, asks_later, control_good, from_client, known_posts, posts_good}
 use Rattle.laws_turns.proofs.Moving.{site_decides_not, site_tells, takes_good}
 use Rattle.laws_turns.proofs.MessageCases.{message_cases}
-
-not_both : (t : Bool) → t ≡ true → t ≡ false → ⊥
-not_both t is other = let no : ⊥ = cc in no
+use Rattle.qc_list.proofs.Booleans.{not_both}
+use Rattle.qc_list.proofs.Places.{slice_get-set_same}
 
 -- a message of a turn is among its deeds
 

@@ -1,7 +1,6 @@
 -- In each run a site serves: it is what its steps show, and all that it posts is due.
 use Rattle.std.proofs.Common.{◌≡◌, ℕ, ◌+◌, ◌-◌, ◌<◌, Bool, true, false, if◌then◌else◌, List, [], ◌∷◌, ◌++◌, Some, None}
 use Rattle.std.proofs.Common.{slice_get, refl, sym, ap, ◌∙◌, subst, arith, append_assoc}
-use Rattle.std.specs.List.{AllByRecursion as Every}
 use Rattle.std.proofs.lemmas.Bool.{lt-ltb, ltb-true}
 use Rattle.qc_core.proofs.SiteLaws.{answers_of_sites_are_due, sites_are_read_off_their_steps}
 use Rattle.qc_core.specs.Vocabulary.{ActorMove, Acts, AreSteady, IsInput, IsLawful, IsLawfulWithFalls, IsShown, Serves}
@@ -28,14 +27,7 @@ use Rattle.qc_script.specs.declared.script.Script.{Script}
 use Rattle.laws_turns.specs.Vocabulary.{ActsIn}
 use Rattle.laws_turns.proofs.Acted.{has_entry, actors_take_and_post_by_turns}
 use Rattle.laws_turns.proofs.Mailed.{AreInputs, IsInputDeed, deeds_inputs, decisions_name_stamps_of_their_clients}
-
-pub first_part : {A : Type 0} (P : A → Type 0) (xs ys : List A) → Every P (xs ++ ys) → Every P xs
-first_part P [] ys all = tt
-first_part P (x ∷ xs) ys all = (all.0, first_part P xs ys all.1)
-
-pub second_part : {A : Type 0} (P : A → Type 0) (xs ys : List A) → Every P (xs ++ ys) → Every P ys
-second_part P [] ys all = all
-second_part P (x ∷ xs) ys all = second_part P xs ys all.1
+use Rattle.qc_list.proofs.Members.{every-front, every-back}
 
 -- what was posted before an input stays due, whatever comes after the input
 
@@ -106,12 +98,12 @@ module _ (decl : Declaration) where
           before = older;
           taken = taken;
           is = refl;
-          served = acts_serve site older false m acts (first_part IsInputDeed older (Takes taken ∷ []) inputs);
-          input = (second_part IsInputDeed older (Takes taken ∷ []) inputs).0;
+          served = acts_serve site older false m acts (every-front IsInputDeed older (Takes taken ∷ []) inputs);
+          input = (every-back IsInputDeed older (Takes taken ∷ []) inputs).0;
         }
     acts_serve site ds t n (posts older turn m first acts low law) inputs =
         post_serves older turn first (acts_steady decl a older true m acts) law
-        (acts_serve site older true m acts (first_part IsInputDeed older (turn_deeds first turn) inputs))
+        (acts_serve site older true m acts (every-front IsInputDeed older (turn_deeds first turn) inputs))
 
     -- whatever it posts for its open input, what it posted before is due
 

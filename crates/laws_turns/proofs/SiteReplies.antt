@@ -1,6 +1,6 @@
 -- A site answers each request at once, to its sender, and asks nothing.
-use Rattle.std.proofs.Common.{◌≡◌, ℕ, ◌+◌, ◌≤◌, nat_le, not, Bool, true, false, if◌then◌else◌, List, [], ◌∷◌, Option}
-use Rattle.std.proofs.Common.{Some, None, refl, sym, subst}
+use Rattle.std.proofs.Common.{◌≡◌, ℕ, ◌+◌, ◌≤◌, nat_le, not, Bool, true, if◌then◌else◌, List, [], ◌∷◌, Option, Some}
+use Rattle.std.proofs.Common.{None, refl, sym, subst}
 use Rattle.std.specs.List.{AllByRecursion as Every, fold}
 use Rattle.std.specs.Prelude.{MatchOption}
 use Rattle.std.specs.Bool.{MatchBool}
@@ -23,8 +23,8 @@ use Rattle.qc_msg.specs.declared.message.Want.TheVariants.{Read, Append, Prepare
 use Rattle.qc_msg.specs.declared.step.Input.{Input}
 use Rattle.qc_msg.specs.declared.step.Input.TheVariants as inputs
 use Rattle.qc_msg.specs.declared.turn.Posting.{Posting}
-use Rattle.qc_msg.specs.Vocabulary.{Deed, Falls, Rises, Sends, Takes, Tells, Writes, envelopes, quiet}
-use Rattle.qc_msg.specs.Vocabulary.{Requested, request_in, wants_answer}
+use Rattle.qc_msg.specs.Vocabulary.{Deed, Falls, Rises, Sends, Takes, Tells, Writes, envelopes, quiet, Requested}
+use Rattle.qc_msg.specs.Vocabulary.{request_in, wants_answer}
 use Rattle.qc_stamp.specs.declared.stamp.Stamp.{Stamp}
 use Rattle.qc_stamp.specs.declared.stamp.TxId.{TxId}
 use Rattle.qc_site.specs.Vocabulary.{SiteMove, SiteState, answering, appends_by, fault_of, finishes, grants}
@@ -36,6 +36,7 @@ use Rattle.qc_site.proofs.Cases.{install_cases}
 use Rattle.laws_turns.proofs.Rounds.{IsProper}
 use Rattle.laws_turns.proofs.SiteCases.{site_cases}
 use Rattle.laws_turns.proofs.ReadingCases.{matched_by}
+use Rattle.qc_list.proofs.Booleans.{if_two}
 
 abbrev pub IsProperFrom : Declaration → ℕ → ℕ → Message → Type 0
 IsProperFrom decl from to m =
@@ -44,10 +45,6 @@ IsProperFrom decl from to m =
 
 abbrev pub IsMailProper : Declaration → List Envelope → Type 0
 IsMailProper decl ms = Every (λ (e : Envelope). IsProperFrom decl e.from e.to e.message) ms
-
-either : {A : Type 0} (P : A → Type 0) (t : Bool) (x y : A) → P x → P y → P (if t then x else y)
-either P true x y here there = here
-either P false x y here there = there
 
 -- a message that asks nothing
 abbrev AsksNothing : Message → Type 0
@@ -69,13 +66,13 @@ one : (s : SiteState) (from number : ℕ) (answer : Answer) (m : SiteMove)
 one s from number answer m is = record { answer = answer; rest = []; sends = is; asks = tt }
 
 promises_reply : (s : SiteState) (from number : ℕ) (p : Prepared) → IsReply from number (promises s from number p)
-promises_reply s from number p = either (IsReply from number) (nat_le (prepare_length p) most_record_bytes) _ _
+promises_reply s from number p = if_two (IsReply from number) (nat_le (prepare_length p) most_record_bytes) _ _
     (one s from number (answers.Yes s.clock) _ refl) (one s from number answers.Stale _ refl)
 
 prepares_reply : (s : SiteState) (from number : ℕ) (tx : TxId) → IsReply from number (prepares s from number tx)
 prepares_reply s from number tx =
-    either (IsReply from number) (not (is_held s.held tx)) _ _ (one s from number answers.Stale _ refl)
-    (either (IsReply from number) (is_prepared s.prepared tx) _ (promises s from number (promise_of s tx))
+    if_two (IsReply from number) (not (is_held s.held tx)) _ _ (one s from number answers.Stale _ refl)
+    (if_two (IsReply from number) (is_prepared s.prepared tx) _ (promises s from number (promise_of s tx))
     (one s from number (answers.Yes s.clock) _ refl) (promises_reply s from number (promise_of s tx)))
 
 reads_reply : (decl : Declaration) (s : SiteState) (from number : ℕ) (tx : TxId) (object inv : ℕ) (o : Option Conflict)
@@ -130,7 +127,7 @@ site_asks : (decl : Declaration) (s : SiteState) (from number : ℕ) (m : Messag
     → AskNothing (site_at decl s from number m).turn.sends
 site_asks decl s from number m =
     site_cases decl s from number (λ m move. AskNothing move.turn.sends) (λ m. tt)
-    (λ q. either (λ (m : SiteMove). AskNothing m.turn.sends) (names_declared decl q.tx q.want)
+    (λ q. if_two (λ (m : SiteMove). AskNothing m.turn.sends) (names_declared decl q.tx q.want)
     (requested decl s from number q.tx q.want (fault_of s q.epoch q.life)) (moved s quiet)
     (reply_asks from number (requested decl s from number q.tx q.want (fault_of s q.epoch q.life))
     (requests_reply decl s from number q.tx q.want (fault_of s q.epoch q.life))) tt)

@@ -1,7 +1,7 @@
 -- A client that is asked what the script asks has a sound front end and desk.
-use Rattle.std.proofs.Common.{[], ◌≡◌, ℕ, zero, suc, ◌+◌, ◌-◌, ◌%◌, ◌<◌, ◌==◌, ◌&&◌, Bool, true, false, cond}
-use Rattle.std.proofs.Common.{if◌then◌else◌, List, ◌∷◌, ◌++◌, map, length, take, Option, Some, None, is_some, refl, sym}
-use Rattle.std.proofs.Common.{subst, arith, eqb-true}
+use Rattle.std.proofs.Common.{[], ◌≡◌, ℕ, zero, suc, ◌-◌, ◌%◌, ◌<◌, ◌==◌, ◌&&◌, Bool, true, false, cond, if◌then◌else◌}
+use Rattle.std.proofs.Common.{List, ◌∷◌, map, length, take, Option, Some, None, is_some, refl, sym, subst, arith}
+use Rattle.std.proofs.Common.{eqb-true}
 use Rattle.std.specs.List.{AllByRecursion as Every, filter, filter_map, fold}
 use Rattle.std.proofs.lemmas.Bool.{lt-ltb}
 use Rattle.qc_core.specs.Vocabulary.{IsLawful}
@@ -28,8 +28,7 @@ use Rattle.qc_front.specs.Conduct as fronts
 use Rattle.qc_front.specs.Vocabulary.{FrontMove, ended}
 use Rattle.qc_client.specs.declared.client.Client.{Client}
 use Rattle.qc_client.specs.Vocabulary.{ClientMove, answered, answered_by, by_desk, by_front, called, client_after}
-use Rattle.qc_client.specs.Vocabulary.{client_does, client_takes, commits, heard, moved, new_client}
-use Rattle.qc_client.specs.Vocabulary.{sent_one}
+use Rattle.qc_client.specs.Vocabulary.{client_does, client_takes, commits, heard, moved, new_client, sent_one}
 use Rattle.qc_front.specs.declared.doing.Doing.{Doing}
 use Rattle.qc_front.specs.declared.doing.Doing.TheVariants.{Idle, Reading, Appending}
 use Rattle.qc_script.specs.Vocabulary.{Runs, commands_for, inbox, phase_of}
@@ -40,15 +39,16 @@ use Rattle.qc_script.specs.declared.script.Script.{Script}
 use Rattle.laws_turns.specs.Vocabulary.{AreAskable, AsksDeclared, IsAskable, asked_in_all, call_in, calls_of}
 use Rattle.laws_turns.proofs.Calling.{calls_are_asked}
 use Rattle.laws_turns.proofs.DeclaredSites.{AreSites, sites_cyclic, sites_filter}
-use Rattle.laws_turns.proofs.Mailed.{both_all}
 use Rattle.laws_turns.proofs.OwnFronts.{OwnFront}
 use Rattle.laws_turns.proofs.OwnFronts as own_fronts
-use Rattle.laws_turns.proofs.Rounds.{AreProper, IsGood, IsSited, called_good, decisions_proper, of_either, takes_good}
+use Rattle.laws_turns.proofs.Rounds.{AreProper, IsGood, IsSited, called_good, decisions_proper, takes_good}
 use Rattle.laws_turns.proofs.ClientCases.{called_cases, heard_cases, sent_cases}
+use Rattle.qc_list.proofs.Members.{every-append, every-front}
+use Rattle.qc_list.proofs.Booleans.{if_two}
 
 -- what a client is asked is what the script asks
 
-asked_line : (decl : Declaration) (a : ℕ) (lines : List CommandLine) → AreAskable decl lines
+pub asked_line : (decl : Declaration) (a : ℕ) (lines : List CommandLine) → AreAskable decl lines
     → Every (IsAskable decl a) (commands_for a lines)
 asked_line decl a [] all = tt
 asked_line decl a (l ∷ lines) all = at (l.actor == a) refl (asked_line decl a lines all.1)
@@ -68,12 +68,8 @@ asked_phases decl a [] zero all = tt
 asked_phases decl a [] (suc k) all = tt
 asked_phases decl a (p ∷ phases) zero all = tt
 asked_phases decl a (p ∷ phases) (suc k) all =
-    both_all (IsAskable decl a) (commands_for a p.commands) (asked_in_all a (take k phases))
+    every-append (IsAskable decl a) (commands_for a p.commands) (asked_in_all a (take k phases))
     (asked_line decl a p.commands all.0) (asked_phases decl a phases k all.1)
-
-pub front_part : {A : Type 0} (P : A → Type 0) (xs ys : List A) → Every P (xs ++ ys) → Every P xs
-front_part P [] ys all = tt
-front_part P (x ∷ xs) ys all = (all.0, front_part P xs ys all.1)
 
 abbrev pub IsAskableGiven : Declaration → ℕ → Input → Type 0
 IsAskableGiven decl a (inputs.Called command) = IsAskable decl a command
@@ -104,7 +100,7 @@ pub run_askable : (decl : Declaration) (script : Script) (a : ℕ) (h : List Ent
     → AsksDeclared decl script → Runs (IsLawful decl) decl script h open_inputs
     → Every (IsAskableDeed decl a) (deeds a [] h)
 run_askable decl script a h open_inputs asks run =
-    askable_deeds decl a (deeds a [] h) (front_part (IsAskable decl a) (calls_of a h) (inbox script a h).commands
+    askable_deeds decl a (deeds a [] h) (every-front (IsAskable decl a) (calls_of a h) (inbox script a h).commands
     (subst (Every (IsAskable decl a)) (sym (calls_are_asked decl script a h open_inputs run))
     (asked_phases decl a script.phases (phase_of h) asks)))
 
@@ -165,7 +161,7 @@ module _ (decl : Declaration) (accepted : IsAccepted decl) (a k : ℕ) (within :
   prepare_proper : (desk : Desk) (b : Begun) (clock : ℕ) → b.tx.client ≡ k
       → AreProper decl (desks.prepare decl desk b clock).turn.sends
   prepare_proper desk b clock own =
-      of_either (λ (m : DeskMove). AreProper decl m.turn.sends) (length (participants decl desk.client b) == 0)
+      if_two (λ (m : DeskMove). AreProper decl m.turn.sends) (length (participants decl desk.client b) == 0)
       (desks.decides (desks.passed desk clock) b) _
       (decisions_proper decl b (outcomes.Committed (desks.next_stamp (desks.passed desk clock))))
       (prepares_proper b (participants decl desk.client b) own (participants_sites desk.client b))
@@ -179,7 +175,7 @@ module _ (decl : Declaration) (accepted : IsAccepted decl) (a k : ℕ) (within :
       → AreProper decl (desks.votes_at desk v number answer o).turn.sends
   votes_proper desk v number answer None = tt
   votes_proper desk v number answer (Some site) =
-      of_either (λ (m : DeskMove). AreProper decl m.turn.sends)
+      if_two (λ (m : DeskMove). AreProper decl m.turn.sends)
       (are_cast (cast v.ballots site (vote_of v.begun site answer)))
       (desks.counted_out (desks.learns desk answer) v.begun
       (first_against (cast v.ballots site (vote_of v.begun site answer)))) _
@@ -197,7 +193,7 @@ module _ (decl : Declaration) (accepted : IsAccepted decl) (a k : ℕ) (within :
       → SoundMove decl k (commits decl c o)
   commits_sound c None is s = called_front c commands.Commit tt s
   commits_sound c (Some t) is s =
-      of_either (SoundMove decl k) t.begun.doomed (by_front c (fronts.called decl c.front commands.Commit))
+      if_two (SoundMove decl k) t.begun.doomed (by_front c (fronts.called decl c.front commands.Commit))
       (by_desk c (desks.prepare decl c.desk t.begun c.front.clock.value)) (called_front c commands.Commit tt s)
       (desk_sound c (desks.prepare decl c.desk t.begun c.front.clock.value) s
       (prepare_proper c.desk t.begun c.front.clock.value (subst (own_fronts.IsOwnTransaction k) is s.front.begun)))

@@ -31,9 +31,10 @@ use Rattle.qc_site.specs.Vocabulary.{site_after, site_at, site_does, site_takes}
 use Rattle.qc_site.specs.Site as sites
 use Rattle.qc_site.proofs.RequestCases.{close_cases}
 use Rattle.qc_site.proofs.Cases.{install_cases}
-use Rattle.laws_turns.proofs.StampsOwn.{AreStamped, IsOwnWrite, by_two, unwritten}
+use Rattle.laws_turns.proofs.StampsOwn.{AreStamped, IsOwnWrite, unwritten}
 use Rattle.laws_turns.proofs.OwnStamps.{client_stamped}
 use Rattle.laws_turns.proofs.SiteCases.{site_cases}
+use Rattle.qc_list.proofs.Booleans.{if_two}
 
 -- a site sends answers, and Inquiries with them
 
@@ -44,15 +45,15 @@ pub record IsAnswering (m : SiteMove) : Type 0 where
   pub told : m.turn.told ≡ None
 
 promises_answer : (s : SiteState) (from number : ℕ) (p : Prepared) → IsAnswering (promises s from number p)
-promises_answer s from number p = by_two IsAnswering (nat_le (prepare_length p) most_record_bytes) _ _
+promises_answer s from number p = if_two IsAnswering (nat_le (prepare_length p) most_record_bytes) _ _
     (record { sends = (tt, tt); failed = (tt, tt); writes = λ c is. absurd (let never : ⊥ = cc in never); told = refl })
     (record { sends = (tt, tt); failed = tt; writes = unwritten None refl; told = refl })
 
 prepares_answer : (s : SiteState) (from number : ℕ) (tx : TxId) → IsAnswering (prepares s from number tx)
 prepares_answer s from number tx =
-    by_two IsAnswering (not (is_held s.held tx)) _ _
+    if_two IsAnswering (not (is_held s.held tx)) _ _
     (record { sends = (tt, tt); failed = tt; writes = unwritten None refl; told = refl })
-    (by_two IsAnswering (is_prepared s.prepared tx) _ (promises s from number (promise_of s tx))
+    (if_two IsAnswering (is_prepared s.prepared tx) _ (promises s from number (promise_of s tx))
     (record { sends = (tt, tt); failed = tt; writes = unwritten None refl; told = refl })
     (promises_answer s from number (promise_of s tx)))
 
@@ -100,7 +101,7 @@ site_answers : (decl : Declaration) (s : SiteState) (from number : ℕ) (m : Mes
 site_answers decl s from number m =
     site_cases decl s from number (λ m move. IsAnswering move)
     (λ m. record { sends = tt; failed = tt; writes = unwritten None refl; told = refl })
-    (λ q. by_two IsAnswering (names_declared decl q.tx q.want)
+    (λ q. if_two IsAnswering (names_declared decl q.tx q.want)
     (site_requested decl s from number q.tx q.want (fault_of s q.epoch q.life)) (sites.moved s quiet)
     (request_answers decl s from number q.tx q.want (fault_of s q.epoch q.life))
     (record { sends = tt; failed = tt; writes = unwritten None refl; told = refl }))

@@ -35,6 +35,7 @@ use Rattle.qc_client.specs.Vocabulary.{ClientMove, by_desk, by_front, called, co
 use Rattle.laws_turns.proofs.OwnFronts.{OwnFront}
 use Rattle.laws_turns.proofs.OwnFronts as own_fronts
 use Rattle.laws_turns.proofs.MessageCases.{message_cases}
+use Rattle.qc_list.proofs.Booleans.{and_first}
 
 abbrev pub AreStamped : List Posting → Type 0
 AreStamped ps = Every (λ (p : Posting). IsStamped p.message) ps
@@ -61,10 +62,6 @@ pub record OwnMove (k : ℕ) (m : ClientMove) : Type 0 where
   pub own : Own k m.client
   pub sends : AreStamped m.turn.sends
   pub writes : IsOwnWrite m.turn.write
-
-pub by_two : {A : Type 0} (P : A → Type 0) (t : Bool) (x y : A) → P x → P y → P (if t then x else y)
-by_two P true x y here there = here
-by_two P false x y here there = there
 
 -- the front end moves
 front_own : (k : ℕ) (c : Client) (m : FrontMove) → Own k c → OwnFront k m.front → AreStamped m.turn.sends
@@ -151,13 +148,9 @@ desk_own k c hand m own held (inr (inr a)) = record {
 
 -- a transaction is told by a record of it
 
-both_true : (x y : Bool) → (x && y) ≡ true → x ≡ true
-both_true true y is = refl
-both_true false y is = absurd (let never : ⊥ = cc in never)
-
-same_client : (x y : TxId) → same_tx x y ≡ true → x.client ≡ y.client
+pub same_client : (x y : TxId) → same_tx x y ≡ true → x.client ≡ y.client
 same_client x y same =
-    eqb-true x.client y.client (both_true (x.client == y.client) ((x.life == y.life) && (x.number == y.number)) same)
+    eqb-true x.client y.client (and_first (x.client == y.client) ((x.life == y.life) && (x.number == y.number)) same)
 
 known_own : (tx : TxId) (stamp : Stamp) (rs : List Commit) → Every IsOwnCommit rs
     → known_by (record_of rs tx) ≡ knowns.Committed stamp → stamp.client ≡ tx.client

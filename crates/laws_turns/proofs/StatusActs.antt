@@ -29,7 +29,7 @@ use Rattle.laws_turns.proofs.ClientCases.{sent_cases}
 
 -- the numbers of messages change nothing of it
 
-page_one : (c : Client) (number to : ℕ) (message : Message) → page_of (sent_one c number to message) ≡ page_of c
+pub page_one : (c : Client) (number to : ℕ) (message : Message) → page_of (sent_one c number to message) ≡ page_of c
 page_one c number to message =
     sent_cases c number to (λ (d : Client). page_of d ≡ page_of c) refl (by c.desk.voting) refl message
   where
@@ -37,7 +37,7 @@ page_one c number to message =
     by None = refl
     by (Some v) = refl
 
-page_posts : (decl : Declaration) (m : ClientMove) (ds : List Deed) → Every IsPost ds
+pub page_posts : (decl : Declaration) (m : ClientMove) (ds : List Deed) → Every IsPost ds
     → page_of (fold (client_does decl) m ds).client ≡ page_of m.client
 page_posts decl m [] all = refl
 page_posts decl m (Takes g ∷ ds) all = absurd all.0

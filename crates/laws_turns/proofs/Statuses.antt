@@ -1,12 +1,12 @@
 -- How a transaction's status goes on over a client's turns, and that each of their deeds is right for it.
 use Rattle.std.proofs.Common.{◌≡◌, ◌≢◌, ℕ, ◌+◌, ◌<◌, ◌⊎◌, inl, inr, Bool, true, false, cond, List, [], ◌∷◌, ◌++◌}
-use Rattle.std.proofs.Common.{Option, Some, None, refl, sym, ap, ◌∙◌, subst, arith}
+use Rattle.std.proofs.Common.{Option, Some, None, refl, sym, ap, ◌∙◌, arith}
 use Rattle.qc_list.specs.Vocabulary.{In}
 use Rattle.qc_list.proofs.Members.{In-first, In-last, In-more}
 use Rattle.qc_stamp.specs.declared.stamp.Stamp.{Stamp}
 use Rattle.qc_stamp.specs.declared.stamp.TxId.{TxId}
 use Rattle.qc_stamp.specs.Vocabulary.{same_tx}
-use Rattle.qc_stamp.proofs.Orders.{same_tx_is, same_tx_itself}
+use Rattle.qc_stamp.proofs.Orders.{same_tx_is, same_tx_test}
 use Rattle.qc_entry.specs.declared.record.Commit.{Commit}
 use Rattle.qc_promise.specs.Vocabulary.{Begun, Committed, Dead, Status, Unborn, given_up}
 use Rattle.laws_turns.proofs.DealingParts.{HasRecord}
@@ -38,9 +38,6 @@ new_status tx client life = record {
   mine = λ born. absurd (born refl);
 }
 
-tx_test : (a b : TxId) → a ≡ b → same_tx a b ≡ true
-tx_test a b same = subst (λ (t : TxId). same_tx a t ≡ true) same (same_tx_itself a)
-
 -- one begins
 pub began : (tx : TxId) (s : Status) (p : Page) (x : TxId) → p.name ≡ None
     → x ≡ record { client = p.client; life = p.life; number = p.count + 1 } → IsStatus tx s p
@@ -67,7 +64,7 @@ began tx s p x free named w = by (same_tx x tx) refl where
         mine = λ born. ap (λ (t : TxId). t.client) (sym same ∙ named);
       }
   by false is = record {
-    begun = λ e. absurd (let same : x ≡ tx = cc in let yes : same_tx x tx ≡ true = tx_test x tx same in
+    begun = λ e. absurd (let same : x ≡ tx = cc in let yes : same_tx x tx ≡ true = same_tx_test x tx same in
         let no : ⊥ = cc in no);
     is_begun = λ e. absurd (let old : p.name ≡ Some tx = w.is_begun e in let no : ⊥ = cc in no);
     committed = w.committed;
@@ -130,7 +127,7 @@ commits_one tx s p x named w = by (same_tx x.tx tx) refl where
   by false is = record {
     begun = λ e. absurd (let no : ⊥ = cc in no);
     is_begun = λ e. absurd (let old : p.name ≡ Some tx = w.is_begun e in let same : x.tx ≡ tx = cc in
-        let yes : same_tx x.tx tx ≡ true = tx_test x.tx tx same in let no : ⊥ = cc in no);
+        let yes : same_tx x.tx tx ≡ true = same_tx_test x.tx tx same in let no : ⊥ = cc in no);
     committed = λ c among its. one c its (In-more c x p.commits among);
     is_committed = λ stamp e. (let r : HasRecord p.commits tx stamp = w.is_committed stamp e in
         record {
@@ -145,4 +142,4 @@ commits_one tx s p x named w = by (same_tx x.tx tx) refl where
     one : (c : Commit) → c.tx ≡ tx → In c p.commits ⊎ (c ≡ x) → s ≡ Committed c.stamp
     one c its (inl old) = w.committed c old its
     one c its (inr new) = absurd (let same : x.tx ≡ tx = ap (λ (y : Commit). y.tx) (sym new)
-        ∙ its in let yes : same_tx x.tx tx ≡ true = tx_test x.tx tx same in let no : ⊥ = cc in no)
+        ∙ its in let yes : same_tx x.tx tx ≡ true = same_tx_test x.tx tx same in let no : ⊥ = cc in no)

@@ -2,7 +2,6 @@
 use Rattle.std.proofs.Common.{[], ◌≡◌, ℕ, ◌+◌, ◌-◌, ◌<◌, ◌≤◌, ◌==◌, ◌⊎◌, Bool, true, false, if◌then◌else◌, inl, inr}
 use Rattle.std.proofs.Common.{List, ◌∷◌, ◌++◌, drop, Some, slice_get, refl, sym, ap, ◌∙◌, subst, eqb-true, eq-eqb}
 use Rattle.std.specs.Prelude.{slice_set, MatchOption}
-use Rattle.std.specs.List.{AllByRecursion as Every}
 use Rattle.std.specs.Bool.{MatchBool}
 use Rattle.std.proofs.lemmas.List.Sums.{fold-append}
 use Rattle.qc_list.specs.Vocabulary.{In}
@@ -24,10 +23,10 @@ use Rattle.qc_script.specs.Vocabulary.{is_request, loss_taken, request_numbers}
 use Rattle.qc_site.specs.Vocabulary.{SiteState, moved, new_site, passed, site_after, site_at, site_does}
 use Rattle.laws_turns.specs.Vocabulary.{AsksDeclared, IsTaken}
 use Rattle.laws_turns.proofs.StepsKeep.{AreSomewhere, IsSomewhere}
-use Rattle.laws_turns.proofs.Places.{slice_get-set_other, slice_get-set_same}
 use Rattle.laws_turns.proofs.SiteReplies.{IsProperFrom, IsReply, request_reply}
 use Rattle.laws_turns.proofs.MessageCases.{message_cases}
 use Rattle.laws_turns.proofs.Rounds.{IsProper}
+use Rattle.qc_list.proofs.Places.{slice_get-set_other, slice_get-set_same}
 
 -- what a site's turn for a request begins with
 
@@ -57,10 +56,6 @@ pub site_turn : (decl : Declaration) (b : ℕ) (before : List Deed) (e : Envelop
     → site_after decl b (before ++ Takes (inputs.Got e) ∷ [])
     ≡ site_at decl (passed (site_after decl b before).site e.message) e.from e.number e.message
 site_turn decl b before e = fold-append (site_does decl) (moved (new_site b) quiet) before (Takes (inputs.Got e) ∷ [])
-
-pub second_all : {A : Type 0} (P : A → Type 0) (xs ys : List A) → Every P (xs ++ ys) → Every P ys
-second_all P [] ys all = all
-second_all P (x ∷ xs) ys all = second_all P xs ys all.1
 
 module _ (decl : Declaration) (script : Script) (accepted : IsAccepted decl) (asks : AsksDeclared decl script) (a : ℕ)
     (a_low : a < most_actors) where

@@ -48,14 +48,14 @@ pub after_taken : (decl : Declaration) (k : ℕ) (ds : List Deed) (g : Input)
     → client_after decl k (ds ++ Takes g ∷ []) ≡ client_takes decl (client_after decl k ds).client g
 after_taken decl k ds g = fold-append (client_does decl) (moved (new_client k) quiet) ds (Takes g ∷ [])
 
-sends_wait : (decl : Declaration) (m : ClientMove) (n : ℕ) (ps : List Posting) (told : Option Reply)
+pub sends_wait : (decl : Declaration) (m : ClientMove) (n : ℕ) (ps : List Posting) (told : Option Reply)
     → is_waiting (fold (client_does decl) m (sends_of n ps ++ tells_of told)).client ≡ is_waiting m.client
 sends_wait decl m n [] None = refl
 sends_wait decl m n [] (Some reply) = refl
 sends_wait decl m n (p ∷ ps) told =
     sends_wait decl (client_does decl m (Sends n p.to p.message)) (n + 1) ps told ∙ sent_waits m.client n p.to p.message
 
-turn_waits : (decl : Declaration) (m : ClientMove) (n : ℕ) (turn : Turn)
+pub turn_waits : (decl : Declaration) (m : ClientMove) (n : ℕ) (turn : Turn)
     → is_waiting (fold (client_does decl) m (turn_deeds n turn)).client ≡ is_waiting m.client
 turn_waits decl m n turn = by turn.write
   where
@@ -86,7 +86,7 @@ never_told m r rests =
       waits = λ is. rests.still;
     }
 
-ended_waits : (told waits : Bool) → told ≡ not waits → (true && not told) ≡ false → waits ≡ false
+pub ended_waits : (told waits : Bool) → told ≡ not waits → (true && not told) ≡ false → waits ≡ false
 ended_waits true true ends is = absurd (let never : ⊥ = cc in never)
 ended_waits true false ends is = refl
 ended_waits false waits ends is = absurd (let never : ⊥ = cc in never)

@@ -15,10 +15,9 @@ use Rattle.qc_msg.specs.declared.record.Record.{Record}
 use Rattle.qc_msg.specs.declared.reply.Reply.{Reply}
 use Rattle.qc_msg.specs.declared.turn.Posting.{Posting}
 use Rattle.qc_msg.specs.declared.turn.Turn.{Turn}
-use Rattle.qc_msg.specs.Vocabulary.{Deed, Sends, Tells, sends_of, tells_of, turn_deeds, writes_of}
-use Rattle.qc_msg.specs.Vocabulary.{Requested, inquiry_in}
-use Rattle.qc_promise.specs.Vocabulary.{AreRightFrom, Begun, Status, status_at, status_told}
-use Rattle.qc_promise.specs.Vocabulary.{given_up, Unborn}
+use Rattle.qc_msg.specs.Vocabulary.{Deed, Sends, Tells, sends_of, tells_of, turn_deeds, writes_of, Requested}
+use Rattle.qc_msg.specs.Vocabulary.{inquiry_in}
+use Rattle.qc_promise.specs.Vocabulary.{AreRightFrom, Begun, Status, status_at, status_told, given_up, Unborn}
 use Rattle.laws_turns.proofs.FrontGoesOn.{IsRequestFor, ToldNeutral, IsNeutral}
 use Rattle.laws_turns.proofs.Statuses.{IsStatus, Page}
 use Rattle.laws_turns.proofs.MessageCases.{message_cases}
@@ -36,7 +35,7 @@ request_for name P each m is =
     message_cases (λ m r a d i. MatchOption r ⊥ (λ (q : Requested). name ≡ Some q.tx) → P m) each
     (λ a never. absurd never) (λ v never. absurd never) (λ tx never. absurd never) (λ m never. absurd never) m is
 
-request_asks : (name : Option TxId) (m : Message) → IsRequestFor name m → IsNoInquiry m
+pub request_asks : (name : Option TxId) (m : Message) → IsRequestFor name m → IsNoInquiry m
 request_asks name m is = request_for name IsNoInquiry (λ q its. tt) m is
 
 pub verdicts_ask : (x : TxId) (v : Outcome) (sites : List ℕ)

@@ -1,32 +1,23 @@
 -- Deeds in which the actor neither falls nor rises: those of each run, and those of who takes inputs and posts turns.
 use Rattle.std.proofs.Common.{◌≡◌, ℕ, ◌+◌, ◌==◌, Bool, true, false, cond, List, [], ◌∷◌, ◌++◌, length, Option, Some}
 use Rattle.std.proofs.Common.{None, slice_get, refl, sym, subst, eqb-true}
-use Rattle.std.specs.List.{AllByRecursion as Every}
-use Rattle.qc_core.specs.Vocabulary.{Acts, AreSteady, IsSteady}
-use Rattle.qc_core.specs.Acts as acts
+use Rattle.qc_core.specs.Vocabulary.{AreSteady}
 use Rattle.qc_decl.specs.declared.declaration.Declaration.{Declaration}
 use Rattle.qc_decl.specs.Vocabulary.{controller}
 use Rattle.qc_msg.specs.declared.message.Envelope.{Envelope}
-use Rattle.qc_msg.specs.declared.record.Record.{Record}
-use Rattle.qc_msg.specs.declared.reply.Reply.{Reply}
 use Rattle.qc_msg.specs.declared.step.Input.{Input}
 use Rattle.qc_msg.specs.declared.step.Input.TheVariants as inputs
 use Rattle.qc_msg.specs.declared.step.Step.{Step}
 use Rattle.qc_msg.specs.declared.step.Step.TheVariants as steps
-use Rattle.qc_msg.specs.declared.turn.Posting.{Posting}
 use Rattle.qc_msg.specs.declared.turn.Turn.{Turn}
-use Rattle.qc_msg.specs.Vocabulary.{Deed, Entry, Falls, Rises, Sends, Takes, Tells, Writes, by, deed_at, deeds, heard}
-use Rattle.qc_msg.specs.Vocabulary.{mail, marked, posted, sends_of, step_of, tells_of, turn_deeds, writes_of}
+use Rattle.qc_msg.specs.Vocabulary.{Deed, Entry, by, deed_at, deeds, heard, mail, marked, posted, step_of, turn_deeds}
 use Rattle.qc_msg.proofs.DeedsGrow.{deeds-append, deeds-other}
 use Rattle.qc_msg.proofs.Growth.{deeds-posted}
 use Rattle.qc_script.specs.Vocabulary.{Runs, phase_of}
 use Rattle.qc_script.specs.Runs.{begins, takes, posts, phase, control}
 use Rattle.qc_script.specs.declared.script.Script.{Script}
-use Rattle.laws_turns.proofs.Mailed.{both_all}
 use Rattle.laws_turns.proofs.Numbered.{IsSilent, control_silent, phase_silent}
-
-pub both_up : (xs ys : List Deed) → AreSteady xs → AreSteady ys → AreSteady (xs ++ ys)
-both_up xs ys first second = both_all IsSteady xs ys first second
+use Rattle.qc_core.proofs.Steady.{both_steady, turn_steady}
 
 pub first_up : (xs ys : List Deed) → AreSteady (xs ++ ys) → AreSteady xs
 first_up [] ys up = tt
@@ -38,19 +29,7 @@ rest_up (x ∷ xs) ys up = rest_up xs ys up.1
 
 -- a turn that is posted, and an input
 
-sends_up : (n : ℕ) (ps : List Posting) (told : Option Reply) → AreSteady (sends_of n ps ++ tells_of told)
-sends_up n [] None = tt
-sends_up n [] (Some reply) = (tt, tt)
-sends_up n (p ∷ ps) told = (tt, sends_up (n + 1) ps told)
-
-pub turn_up : (n : ℕ) (turn : Turn) → AreSteady (turn_deeds n turn)
-turn_up n turn = by turn.write
-  where
-    by : (w : Option Record) → AreSteady (writes_of w ++ (sends_of n turn.sends ++ tells_of turn.told))
-    by None = sends_up n turn.sends turn.told
-    by (Some written) = (tt, sends_up n turn.sends turn.told)
-
-heard_up : (o : Option Envelope) → AreSteady (heard o)
+pub heard_up : (o : Option Envelope) → AreSteady (heard o)
 heard_up None = tt
 heard_up (Some envelope) = (tt, tt)
 
@@ -62,14 +41,14 @@ input_up ms (inputs.Lost number) = (tt, tt)
 -- one step more
 
 mine_up : (mine : Bool) (ds : List Deed) → AreSteady ds → AreSteady (cond mine ds [] ++ [])
-mine_up true ds up = both_up ds [] up tt
+mine_up true ds up = both_steady ds [] up tt
 mine_up false ds up = tt
 
 step_up : (a b : ℕ) (h : List Entry) (step : Step) → AreSteady (deed_at (mail h) step) → AreSteady (deeds a [] h)
     → AreSteady (deeds a [] (h ++ marked b step ∷ []))
 step_up a b h step up before =
     subst AreSteady (sym (deeds-append a [] h (marked b step ∷ [])))
-    (both_up (deeds a [] h) (cond (b == a) (deed_at (mail h) step) [] ++ []) before
+    (both_steady (deeds a [] h) (cond (b == a) (deed_at (mail h) step) [] ++ []) before
     (mine_up (b == a) (deed_at (mail h) step) up))
 
 silent_up : (ms : List Envelope) (step : Step) → IsSilent step → AreSteady (deed_at ms step)
@@ -91,8 +70,8 @@ run_up lawful decl script h open_inputs (posts c turn before older run taken law
         subst (λ (k : ℕ). AreSteady (deeds k [] older)
         → AreSteady (deeds k [] (older ++ by c (posted (length (mail older)) turn)))) (eqb-true c a same)
         (λ own. subst AreSteady (sym (deeds-posted c (length (mail older)) older turn))
-        (both_up (deeds c [] older) (turn_deeds (length (mail older)) turn) own
-        (turn_up (length (mail older)) turn))) up
+        (both_steady (deeds c [] older) (turn_deeds (length (mail older)) turn) own
+        (turn_steady (length (mail older)) turn))) up
     at false other up = subst AreSteady (sym (deeds-other c a [] older (posted (length (mail older)) turn) other)) up
 run_up lawful decl script h open_inputs (phase before older run none done quiet more) a =
     step_up a (controller decl) older (steps.Phase (phase_of older + 1))
@@ -103,10 +82,3 @@ run_up lawful decl script h open_inputs (control line lines step before older ru
     (run_up lawful decl script older before run a)
 
 -- and where an actor takes inputs and posts turns
-
-pub acts_up : (decl : Declaration) (a : ℕ) (ds : List Deed) (t : Bool) (n : ℕ) → Acts decl a ds t n → AreSteady ds
-acts_up decl a ds t n acts.starts = tt
-acts_up decl a ds t n (acts.takes older g m acts may) =
-    both_up older (Takes g ∷ []) (acts_up decl a older false m acts) (tt, tt)
-acts_up decl a ds t n (acts.posts older turn m first acts low law) =
-    both_up older (turn_deeds first turn) (acts_up decl a older true m acts) (turn_up first turn)

@@ -31,6 +31,7 @@ use Rattle.laws_turns.specs.Vocabulary.{is_waiting, waits}
 use Rattle.laws_turns.proofs.ClientCases.{heard_cases, sent_cases}
 use Rattle.qc_client.specs.Vocabulary.{ClientMove, answered, answered_by, by_desk, by_front, called, client_takes}
 use Rattle.qc_client.specs.Vocabulary.{commits, heard, sent_one}
+use Rattle.qc_list.proofs.Booleans.{not_false}
 
 -- it tells a reply just where it doesn't wait any more
 abbrev pub Ends : ClientMove → Type 0
@@ -47,12 +48,8 @@ no_votes : (voting : Option Voting) (doing : Doing) → waits voting doing ≡ f
 no_votes None doing is = refl
 no_votes (Some v) doing is = absurd (let never : ⊥ = cc in never)
 
-idle_of : (t : Bool) → not t ≡ false → t ≡ true
-idle_of true is = refl
-idle_of false is = absurd (let never : ⊥ = cc in never)
-
 no_round : (voting : Option Voting) (doing : Doing) → waits voting doing ≡ false → is_idle doing ≡ true
-no_round None doing is = idle_of (is_idle doing) is
+no_round None doing is = not_false (is_idle doing) is
 no_round (Some v) doing is = absurd (let never : ⊥ = cc in never)
 
 pub votes_none : (c : Client) → is_waiting c ≡ false → c.desk.voting ≡ None

@@ -1,8 +1,7 @@
 -- Where nothing is left to happen and no command runs, the run is whole.
-use Rattle.std.proofs.Common.{◌≡◌, ℕ, ◌+◌, ◌<◌, ◌≤◌, ◌==◌, ◌&&◌, ◌||◌, not, nat_le, nat_lt, Bool, true, false, cond}
-use Rattle.std.proofs.Common.{List, [], ◌∷◌, ◌++◌, length, None, refl, sym, subst, ap, ◌∙◌, arith}
+use Rattle.std.proofs.Common.{◌≡◌, ℕ, ◌+◌, ◌<◌, ◌≤◌, ◌==◌, ◌&&◌, ◌||◌, not, Bool, true, false, cond, List, [], ◌∷◌}
+use Rattle.std.proofs.Common.{◌++◌, length, None, refl, sym, subst, ap, ◌∙◌, arith}
 use Rattle.std.specs.Prelude.{replicate}
-use Rattle.std.proofs.lemmas.Bool.{ltb-true}
 use Rattle.std.proofs.lemmas.List.{append-nil, take_all}
 use Rattle.qc_decl.proofs.Clients.{client_within}
 use Rattle.qc_core.specs.Vocabulary.{IsLawful, is_running}
@@ -24,11 +23,7 @@ use Rattle.laws_turns.proofs.Ordered.{replies_answer_commands}
 use Rattle.laws_turns.proofs.Running.{busy_is_running}
 use Rattle.laws_turns.proofs.Up.{run_up}
 
-second_true : (x y : Bool) → (x && y) ≡ true → y ≡ true
-second_true true y is = is
-second_true false y is = absurd (let never : ⊥ = cc in never)
-
-no_commands : (t busy : Bool) (commands : List Command) → t ≡ true → busy ≡ false
+pub no_commands : (t busy : Bool) (commands : List Command) → t ≡ true → busy ≡ false
     → cond (t && not busy) (first_command commands) None ≡ None → commands ≡ []
 no_commands t busy [] may free is = refl
 no_commands true true (c ∷ commands) may free is = absurd (let never : ⊥ = cc in never)

@@ -39,7 +39,7 @@ pub other_stamp : AreRight tx (begun ∷ committed first ∷ says (outcomes.Comm
 other_stamp w = let e : Committed first ≡ Committed second = w.1.1.0 refl in let s : first ≡ second = cc in
     let n : first.clock ≡ second.clock = ap (λ (v : Stamp). v.clock) s in omega arith
 
-neither : (s : Status) → (s ≡ Begun → ⊥) → (s ≡ Dead → ⊥) → (s ≡ Begun) ⊎ (s ≡ Dead) → ⊥
+pub neither : (s : Status) → (s ≡ Begun → ⊥) → (s ≡ Dead → ⊥) → (s ≡ Begun) ⊎ (s ≡ Dead) → ⊥
 neither s live died (inl is) = live is
 neither s live died (inr is) = died is
 
@@ -64,7 +64,7 @@ abbrev first_resp : List Op → Option ℕ
 first_resp [] = None
 first_resp (o ∷ ops) = o.resp
 
-none_some : (x : Option ℕ) → x ≡ None → x ≡ Some 0 → ⊥
+pub none_some : (x : Option ℕ) → x ≡ None → x ≡ Some 0 → ⊥
 none_some x none some = let no : ⊥ = cc in no
 
 pub other : none_read ∷ [] ≡ (dealing_in reading tx).ops → ⊥

@@ -1,15 +1,14 @@
 -- A site that answers a Prepare for which a client waits doesn't say that it has forgotten, if what it would promise
 -- fits a record: it is in a later epoch than the transaction's or in another life than the request names, and says so,
 -- or it holds something.
-use Rattle.std.proofs.Common.{◌≡◌, ◌≢◌, ◌⊎◌, ◌<◌, ◌≤◌, ◌-◌, ◌==◌, nat_le, nat_lt, if◌then◌else◌, ℕ, Bool, true, false}
-use Rattle.std.proofs.Common.{List, [], ◌∷◌, ◌++◌, inl, inr, Option, Some, None, slice_get, refl, sym, ap, ◌∙◌, subst}
-use Rattle.std.proofs.Common.{arith, ltb-true, eqb-true}
+use Rattle.std.proofs.Common.{◌≡◌, ◌≢◌, ◌⊎◌, ◌<◌, ◌≤◌, ◌-◌, nat_le, ℕ, Bool, true, false, List, [], ◌∷◌, ◌++◌, inl, inr}
+use Rattle.std.proofs.Common.{Some, slice_get, refl, sym, ap, ◌∙◌, subst, arith, ltb-true}
 use Rattle.std.specs.List.{AllByRecursion as Every}
 use Rattle.qc_core.proofs.SiteLaws.{sites_are_read_off_their_steps}
 use Rattle.qc_core.proofs.SiteLives.{sites_that_live_serve}
 use Rattle.qc_core.specs.Vocabulary.{ActorMove, IsLawfulWithFalls, IsShown, IsSiteDeed, Lives, Serves, actor_after}
 use Rattle.qc_core.specs.Vocabulary.{actor_takes, is_up, up_at}
-use Rattle.std.proofs.lemmas.Bool.{cases_eq, lt-ltb}
+use Rattle.std.proofs.lemmas.Bool.{cases_eq}
 use Rattle.std.proofs.lemmas.List.Sums.{fold-append}
 use Rattle.laws_due.proofs.Standing.{actor_more}
 use Rattle.qc_core.specs.Lives as lives
@@ -27,19 +26,15 @@ use Rattle.laws_guarantees.proofs.AnswersToInputs.{IsAnswering, IsAnsweringTo, a
 use Rattle.laws_guarantees.proofs.SiteMoves.{prepares_remembered}
 use Rattle.laws_guarantees.specs.Vocabulary.{IsOpenVote}
 use Rattle.laws_votes.proofs.Nets.{at_number, backed, net, now, reached, refined}
-use Rattle.laws_votes.proofs.SiteClocks.{same_site}
 use Rattle.qc_link.specs.Vocabulary.{most_actors}
 use Rattle.qc_list.specs.Vocabulary.{In}
-use Rattle.laws_turns.proofs.Downs.{due}
 use Rattle.laws_turns.proofs.FallKept.{clients_rise_with_own_stamps_where_records_are_kept}
 use Rattle.laws_turns.proofs.FallServed.{sites_take_site_inputs_with_falls}
 use Rattle.laws_turns.proofs.Lived.{actors_live_in_runs_with_falls}
 use Rattle.laws_turns.specs.Vocabulary.{LivesIn}
 use Rattle.qc_lock.specs.Vocabulary.{held_of, is_held}
 use Rattle.qc_msg.specs.Vocabulary.{Deed, Entry, Takes, WasSentTo, deeds, has_granted, life_of, mail, prepare_length}
-use Rattle.qc_msg.specs.Vocabulary.{quiet}
 use Rattle.qc_msg.specs.declared.message.Answer.{Answer}
-use Rattle.qc_msg.specs.declared.message.Answer.TheVariants as answers
 use Rattle.qc_msg.specs.declared.message.Envelope.{Envelope}
 use Rattle.qc_msg.specs.declared.message.Message.{Message}
 use Rattle.qc_msg.specs.declared.message.Message.TheVariants as messages
@@ -58,13 +53,15 @@ use Rattle.laws_reach.proofs.Stood.{in_site}
 use Rattle.laws_reach.specs.Vocabulary.{HasTaken}
 use Rattle.qc_script.specs.Vocabulary.{IsScriptFor, RunsWithFalls}
 use Rattle.qc_script.specs.declared.script.Script.{Script}
-use Rattle.qc_site.specs.Vocabulary.{SiteState, closed_fault, fault_of, life_fault, moved, names_declared, passed}
-use Rattle.qc_site.specs.Vocabulary.{promise_of, requested, site_at, site_takes}
+use Rattle.qc_site.specs.Vocabulary.{SiteState, passed, promise_of, site_at, site_takes}
 use Rattle.qc_stamp.specs.declared.stamp.TxId.{TxId}
 use Rattle.laws_votes.proofs.Holding.{IsGrantedIn, granted, granted_below, is_held_with, still_held}
 use Rattle.laws_votes.proofs.LifeGrounds.{has_life_grounds}
 use Rattle.laws_votes.proofs.LivesAdded.{HasParticipant}
-use Rattle.laws_votes.proofs.RefusedRequests.{other_life, life_before, every_front}
+use Rattle.laws_votes.proofs.RefusedRequests.{other_life, life_before}
+use Rattle.qc_core.proofs.PostsByTurns.{called_turn}
+use Rattle.laws_reach.proofs.RunLaws.{same_site}
+use Rattle.qc_list.proofs.Members.{every-front}
 
 module _ (fits : ℕ → List Record → Type 0) (decl : Declaration) (script : Script) (h : List Entry)
     (open_inputs : List Bool) (accepted : IsAccepted decl) (sound : IsScriptFor decl script)
@@ -105,7 +102,7 @@ module _ (fits : ℕ → List Record → Type 0) (decl : Declaration) (script : 
       b_slot = actors_live_in_runs_with_falls decl script fits few h open_inputs run b true taken
 
       inputs : Every IsSiteDeed before
-      inputs = every_front IsSiteDeed before (Takes input ∷ [])
+      inputs = every-front IsSiteDeed before (Takes input ∷ [])
           (subst (Every IsSiteDeed) deeds_are (sites_take_site_inputs_with_falls decl script fits few h open_inputs run
           (clients_rise_with_own_stamps_where_records_are_kept decl script fits few h open_inputs run kept) b
           (ltb-true b decl.sites site)))
@@ -136,7 +133,7 @@ module _ (fits : ℕ → List Record → Type 0) (decl : Declaration) (script : 
     posted_here = subst (λ (m : Turn). In p m.sends)
         (sym (ap (λ (m : ActorMove). m.turn) (sym
         (ap (actor_after decl b) deeds_are ∙ actor_more decl b before (Takes input ∷ [])
-        ∙ ap (λ (v : Actor). actor_takes decl v input) was)) ∙ due decl b (deeds b [] h) turn law)) among
+        ∙ ap (λ (v : Actor). actor_takes decl v input) was)) ∙ called_turn decl b (deeds b [] h) turn law)) among
 
     first : IsAnswering input q.number
     first = answers_inputs decl s input p q.number y posted_here is

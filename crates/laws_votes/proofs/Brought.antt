@@ -28,6 +28,8 @@ use Rattle.qc_promise.specs.Vocabulary.{IsGivenBack, IsKeptAt, Journal, Kept, jo
 use Rattle.laws_reach.proofs.Written.{is_among}
 use Rattle.laws_reach.specs.Vocabulary.{records_of}
 use Rattle.laws_reach.proofs.RisingStamps.{commits_more, commits_of}
+use Rattle.laws_reach.proofs.Committing.{own_one}
+use Rattle.qc_list.proofs.Numbers.{test_turned}
 
 -- the commit records that a step brings to stand, where so many records stood before it
 abbrev pub brought_at : ℕ → Step → List CommitRecord
@@ -117,14 +119,6 @@ stands_by j (steps.Fell cause pending) = refl
 stands_by j (steps.Rose rs) = refl
 stands_by j (steps.Damaged offset) = refl
 
-other_way : (x y : ℕ) → (x == y) ≡ false → (y == x) ≡ false
-other_way x y other = by (y == x) refl
-  where
-    by : (t : Bool) → (y == x) ≡ t → t ≡ false
-    by true same = absurd (let yes : (x == y) ≡ true = eq-eqb x y (sym (eqb-true y x same)) in let never : ⊥ = cc in
-        never)
-    by false same = refl
-
 stands_from : (a : ℕ) (t : Tally) (j : Journal) (k : List Entry) → t.standing a ≡ length j.records
     → (fold tally_with t k).standing a ≡ length (fold journal_with j (own a k)).records
 stands_from a t j [] is = is
@@ -139,7 +133,7 @@ stands_from a t j (e ∷ k) is = at (e.actor == a) refl (stands_from a (tally_wi
 
     there : (e.actor == a) ≡ false → (tally_with t e).standing a ≡ length j.records
     there other = ap (λ (b : Bool). cond b (standing_after (t.standing a) e.step) (t.standing a))
-        (other_way e.actor a other) ∙ is
+        (test_turned e.actor a other) ∙ is
 
     at : (u : Bool) → (e.actor == a) ≡ u → ((tally_with t e).standing a ≡ length j.records
         → (fold tally_with (tally_with t e) k).standing a ≡ length (fold journal_with j (own a k)).records)
@@ -212,10 +206,6 @@ in_records n (steps.Told reply) c among = absurd among
 in_records n (steps.Fell cause pending) c among = absurd among
 in_records n (steps.Rose rs) c among = in_drop n (Commit c) rs (is_among c (drop n rs) among)
 in_records n (steps.Damaged offset) c among = absurd among
-
-own_one : (a : ℕ) (e : Entry) (t : Bool) → (e.actor == a) ≡ t → own a (e ∷ []) ≡ cond t (e.step ∷ []) []
-own_one a e true is = ap (λ (b : Bool). map (λ (k : Entry). k.step) (cond b (e ∷ []) [])) is
-own_one a e false is = ap (λ (b : Bool). map (λ (k : Entry). k.step) (cond b (e ∷ []) [])) is
 
 module _ (decl : Declaration) where
   -- the client whose transaction it is

@@ -12,7 +12,7 @@ use Rattle.laws_votes.proofs.VoteInputs.{IsCast}
 use Rattle.laws_votes.proofs.Voting.{post_casts, rise_casts}
 use Rattle.laws_turns.proofs.Numbered.{mail-silent, phase_silent}
 use Rattle.qc_list.specs.Vocabulary.{In}
-use Rattle.qc_list.proofs.Members.{In-first}
+use Rattle.qc_list.proofs.Members.{In-first, In-either}
 use Rattle.laws_turns.proofs.LivedMoves.{line_silent}
 use Rattle.qc_msg.proofs.GrownMail.{mail-append, mail-taken}
 use Rattle.qc_msg.proofs.Growth.{mail-posted_as}
@@ -24,13 +24,13 @@ use Rattle.qc_msg.specs.declared.record.Record.{Record}
 use Rattle.qc_msg.specs.declared.step.Step.TheVariants as steps
 use Rattle.qc_msg.specs.declared.turn.Turn.{Turn}
 use Rattle.laws_refinement.proofs.Posts.{Place, placed}
-use Rattle.theory_onecopy.proofs.Lists.{in_split}
 use Rattle.qc_promise.specs.Vocabulary.{Kept}
-use Rattle.laws_reach.proofs.RunsStand.{kept_of_first, runs_stand}
+use Rattle.laws_reach.proofs.RunsStand.{runs_stand}
 use Rattle.laws_reach.proofs.Stood.{Stood}
 use Rattle.qc_script.specs.Vocabulary.{IsScriptFor, RunsWithFalls, begins, control, damaged, falls, phase, phase_of}
 use Rattle.qc_script.specs.Vocabulary.{posts, rises, takes, unopened}
 use Rattle.qc_script.specs.declared.script.Script.{Script}
+use Rattle.qc_promise.proofs.Posts.{kept_part}
 
 -- of two beginnings of one list, one is a beginning of the other
 data Begins {A : Type 0} (early older : List A) : Type 0 where
@@ -119,7 +119,7 @@ module _ (decl : Declaration) where
     where
       by_mail : (e : Envelope) (to : ℕ) → In e (mail (older ++ xs)) → IsVote e to
           → In e (mail older) ⊎ IsCast (mail (older ++ xs)) to (life_at (older ++ xs) e.from)
-      by_mail e to among vote = elim (in_split e (mail older) (envelopes a (length (mail older)) ps)
+      by_mail e to among vote = elim (In-either e (mail older) (envelopes a (length (mail older)) ps)
           (subst (In e) grows among)) [
             | inl there ↦ inl there
             | inr now ↦ (let p : Place a ps (mail older ++ envelopes a (length (mail older)) ps) e =
@@ -150,7 +150,7 @@ module _ (decl : Declaration) where
         (mail-append older (by a (posted_as turn.append (length (mail older)) turn))
         ∙ ap (λ (ms : List Envelope). mail older ++ ms) (mail-posted_as turn.append a (length (mail older)) turn))
         (λ e to vote now p. post_casts decl accepted older inputs
-        (stood older inputs run (kept_of_first older _ kept)) a
+        (stood older inputs run (kept_part older _ kept)) a
         (subst (λ (b : ℕ). is_site decl b ≡ true) p.from vote.0) turn taken law e p.posting to vote.1.0 now p.among
         p.from p.message vote.1.1)
 
@@ -165,7 +165,7 @@ module _ (decl : Declaration) where
         (mail-append older (by a (steps.Rose given ∷ posted_as turn.append (length (mail older)) turn))
         ∙ ap (λ (ms : List Envelope). mail older ++ ms) (mail-posted_as turn.append a (length (mail older)) turn))
         (λ e to vote now p. absurd (rise_casts decl accepted older inputs
-        (stood older inputs run (kept_of_first older _ kept)) a
+        (stood older inputs run (kept_part older _ kept)) a
         (subst (λ (b : ℕ). is_site decl b ≡ true) p.from vote.0) turn given law p.posting to p.among
         (vote.1.0, sym p.message ∙ vote.1.1)))
 
@@ -174,29 +174,29 @@ module _ (decl : Declaration) where
     votes_are_cast_in_the_lives_that_they_name h inputs begins kept = λ early later is e to among vote. absurd among
     votes_are_cast_in_the_lives_that_they_name h inputs (takes a g before older run free rdy) kept =
         mute older (marked a (step_of g) ∷ []) kept
-        (votes_are_cast_in_the_lives_that_they_name older before run (kept_of_first older _ kept))
+        (votes_are_cast_in_the_lives_that_they_name older before run (kept_part older _ kept))
         (mail-taken older a g)
     votes_are_cast_in_the_lives_that_they_name h inputs (posts a turn before older run taken law) kept =
         posted older before run a turn kept (votes_are_cast_in_the_lives_that_they_name older before run
-        (kept_of_first older _ kept)) taken law
+        (kept_part older _ kept)) taken law
     votes_are_cast_in_the_lives_that_they_name h inputs (phase before older run idle done quiet more) kept =
         mute older (marked (controller decl) (steps.Phase (phase_of older + 1)) ∷ []) kept
-        (votes_are_cast_in_the_lives_that_they_name older before run (kept_of_first older _ kept))
+        (votes_are_cast_in_the_lives_that_they_name older before run (kept_part older _ kept))
         (mail-silent older (controller decl) (steps.Phase (phase_of older + 1)) (phase_silent (phase_of older + 1)))
     votes_are_cast_in_the_lives_that_they_name h inputs (control line lines acted before older run left is) kept =
         mute older (marked (controller decl) acted ∷ []) kept
-        (votes_are_cast_in_the_lives_that_they_name older before run (kept_of_first older _ kept))
+        (votes_are_cast_in_the_lives_that_they_name older before run (kept_part older _ kept))
         (mail-silent older (controller decl) acted (line_silent line acted is))
     votes_are_cast_in_the_lives_that_they_name h inputs (falls a lines before older run left) kept =
-        mute older _ kept (votes_are_cast_in_the_lives_that_they_name older before run (kept_of_first older _ kept))
+        mute older _ kept (votes_are_cast_in_the_lives_that_they_name older before run (kept_part older _ kept))
         (mail-append older _ ∙ append-nil (mail older))
     votes_are_cast_in_the_lives_that_they_name h inputs
         (rises a given turn lines before older run left fit has law) kept =
         risen older before run a given turn kept
-        (votes_are_cast_in_the_lives_that_they_name older before run (kept_of_first older _ kept)) law
+        (votes_are_cast_in_the_lives_that_they_name older before run (kept_part older _ kept)) law
     votes_are_cast_in_the_lives_that_they_name h inputs (damaged a offset lines before older run left) kept =
-        mute older _ kept (votes_are_cast_in_the_lives_that_they_name older before run (kept_of_first older _ kept))
+        mute older _ kept (votes_are_cast_in_the_lives_that_they_name older before run (kept_part older _ kept))
         (mail-append older _ ∙ append-nil (mail older))
     votes_are_cast_in_the_lives_that_they_name h inputs (unopened a cause lines before older run left disk) kept =
-        mute older _ kept (votes_are_cast_in_the_lives_that_they_name older before run (kept_of_first older _ kept))
+        mute older _ kept (votes_are_cast_in_the_lives_that_they_name older before run (kept_part older _ kept))
         (mail-append older _ ∙ append-nil (mail older))

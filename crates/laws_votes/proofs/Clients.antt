@@ -18,7 +18,6 @@ use Rattle.qc_decl.specs.declared.declaration.Declaration.{Declaration}
 use Rattle.laws_due.proofs.Declared.{run_declares}
 use Rattle.laws_due.proofs.KeptPlanned.{what_rises_is_planned_where_records_are_kept}
 use Rattle.qc_entry.specs.declared.record.Commit.{Commit as CommitRecord}
-use Rattle.laws_turns.proofs.Places.{slice_get-within}
 use Rattle.qc_link.specs.Vocabulary.{most_actors}
 use Rattle.laws_turns.specs.Vocabulary.{LivesIn}
 use Rattle.laws_turns.proofs.Lived.{actors_live_in_runs_with_falls, run_long}
@@ -31,6 +30,7 @@ use Rattle.qc_msg.specs.declared.turn.Turn.{Turn}
 use Rattle.qc_promise.specs.Vocabulary.{Account, IsRecordDue, Kept, account_taken, running_row}
 use Rattle.qc_script.specs.Vocabulary.{IsScriptFor, RunsWithFalls}
 use Rattle.qc_script.specs.declared.script.Script.{Script}
+use Rattle.qc_list.proofs.Places.{some_at}
 
 pub within : (decl : Declaration) (a : ℕ) → is_client decl a ≡ true → a < actors decl
 within decl a client = client_within decl a client
@@ -43,7 +43,7 @@ module _ (fits : ℕ → List Record → Type 0) (decl : Declaration) (script : 
 
   -- each client has an open input or none
   pub slot_of : (a : ℕ) → is_client decl a ≡ true → (t : Bool) × (slice_get open_inputs a ≡ Some t)
-  slot_of a client = slice_get-within open_inputs a
+  slot_of a client = some_at open_inputs a
       (subst (λ (k : ℕ). a < k) (sym (run_long decl script fits few h open_inputs run)) (within decl a client))
 
   pub client_at : (a : ℕ) → is_client decl a ≡ true → (t : Bool) → slice_get open_inputs a ≡ Some t

@@ -1,13 +1,12 @@
 -- A commit record is due where each participant of the begun transaction was asked for its promise, in the life of its
 -- first grant that counted, and has voted for it.
-use Rattle.std.proofs.Common.{[], ◌≡◌, ◌≢◌, ◌<◌, ◌≤◌, ◌+◌, zero, suc, ◌-◌, ℕ, nat_lt, Bool, true, false, cond, List}
-use Rattle.std.proofs.Common.{◌∷◌, inl, inr, length, filter, Option, Some, None, refl, sym, ap, ◌∙◌, subst, arith}
-use Rattle.std.proofs.Common.{ltb-true, ltb-false}
-use Rattle.std.specs.List.{find, range_with_len}
+use Rattle.std.proofs.Common.{[], ◌≡◌, ◌≢◌, ◌<◌, ◌≤◌, ◌+◌, ◌-◌, ℕ, nat_lt, Bool, true, false, cond, List, ◌∷◌, inl, inr}
+use Rattle.std.proofs.Common.{length, filter, Option, Some, None, refl, sym, ap, ◌∙◌, subst, arith, ltb-true, ltb-false}
+use Rattle.std.specs.List.{find}
 use Rattle.qc_decl.specs.Vocabulary.{first_site}
 use Rattle.qc_decl.specs.declared.declaration.Declaration.{Declaration}
 use Rattle.qc_list.specs.Vocabulary.{In}
-use Rattle.qc_list.proofs.Members.{In-filter, In-first, In-second, every-In}
+use Rattle.qc_list.proofs.Members.{In-filter, every-In}
 use Rattle.qc_msg.specs.Vocabulary.{has_granted, life_of}
 use Rattle.qc_msg.specs.declared.message.Answer.{Answer}
 use Rattle.qc_msg.specs.declared.message.Answer.TheVariants as answers
@@ -21,7 +20,6 @@ use Rattle.qc_msg.specs.declared.step.Input.{Input}
 use Rattle.qc_msg.specs.declared.step.Input.TheVariants as inputs
 use Rattle.laws_due.specs.Vocabulary.{IsPrepare, NoneRuns, Ties, appends, reads, rests, votes}
 use Rattle.qc_client.specs.declared.client.Client.{Client}
-use Rattle.laws_refinement.proofs.SiteNets.{place}
 use Rattle.laws_guarantees.proofs.Accounts.{told_requests}
 use Rattle.theory_onecopy.proofs.Lists.{Mapped, map_in}
 use Rattle.qc_plan.specs.Vocabulary.{cyclic}
@@ -29,6 +27,7 @@ use Rattle.qc_promise.specs.Vocabulary.{Account, ClientRequest, Current, account
 use Rattle.qc_promise.specs.Vocabulary.{counted_for, granted, is_open, is_prepare, participants, promised, taken_for}
 use Rattle.qc_promise.specs.Vocabulary.{told_by}
 use Rattle.laws_votes.proofs.VotesFor.{IsVotedFor, in_taken, KeepsVotes, same_votes}
+use Rattle.laws_guarantees.proofs.Verdicts.{in_cyclic}
 
 told_votes : (d : Account) (q : ClientRequest) (answer : Option Answer) → q.want ≡ Prepare
     → ((told_by d q answer).current ≡ d.current) × ((told_by d q answer).command ≡ d.command)
@@ -94,23 +93,6 @@ past k a n low high other = by (nat_lt a k) refl
     by : (t : Bool) → nat_lt a k ≡ t → a + 1 ≤ k
     by true is = let l : a < k = ltb-true a k is in omega arith
     by false is = let l : k ≤ a = ltb-false a k is in absurd (other (omega arith))
-
-range-in : (k a n : ℕ) → a ≤ k → k < a + n → In k (range_with_len a n)
-range-in k a zero low high = absurd (omega arith)
-range-in k a (suc n) low high =
-    elim (place k a)
-    [ inl same ↦ inl same | inr other ↦ inr (range-in k (a + 1) n (past k a (suc n) low high other) (omega arith)) ]
-
-in_cyclic : (k n from : ℕ) → k < n → In k (cyclic n from)
-in_cyclic k n from low = by (nat_lt k from) refl
-  where
-    by : (t : Bool) → nat_lt k from ≡ t → In k (cyclic n from)
-    by true is =
-        In-second k (range_with_len from (n - from)) (range_with_len 0 from)
-        (range-in k 0 from (omega arith) (let l : k < from = ltb-true k from is in omega arith))
-    by false is =
-        In-first k (range_with_len from (n - from)) (range_with_len 0 from)
-        (let l : from ≤ k = ltb-false k from is in range-in k from (n - from) (omega arith) (omega arith))
 
 none_of : {A : Type 0} (xs : List A) (x : A) → length xs ≡ 0 → In x xs → ⊥
 none_of [] x is among = among

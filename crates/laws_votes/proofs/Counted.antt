@@ -14,7 +14,6 @@ use Rattle.qc_entry.specs.declared.record.Commit.{Commit as CommitRecord}
 use Rattle.laws_guarantees.proofs.Against.{IsVote, lost_vote, taken_vote}
 use Rattle.laws_guarantees.proofs.Grounds.{turn_old}
 use Rattle.laws_guarantees.proofs.ForgettingAnswers.{Forgets}
-use Rattle.laws_guarantees.proofs.Stale.{at_in}
 use Rattle.laws_guarantees.specs.Vocabulary.{IsOpenVote}
 use Rattle.qc_list.specs.Vocabulary.{In}
 use Rattle.qc_msg.specs.Vocabulary.{Deed, Entry, Falls, Rises, Sends, Takes, Tells, Writes, answered, deeds, mail}
@@ -27,9 +26,10 @@ use Rattle.qc_msg.specs.declared.turn.Appended.TheVariants.{Done}
 use Rattle.qc_msg.specs.declared.turn.Posting.{Posting}
 use Rattle.qc_msg.specs.declared.turn.Turn.{Turn}
 use Rattle.qc_promise.specs.Vocabulary.{Account, ClientRequest, Kept, account_at, account_of, new_account, records}
-use Rattle.laws_reach.proofs.RunsStand.{kept_of_first}
 use Rattle.qc_script.specs.Vocabulary.{IsScriptFor, RunsWithFalls}
 use Rattle.qc_script.specs.declared.script.Script.{Script}
+use Rattle.qc_list.proofs.Members.{In-at}
+use Rattle.qc_promise.proofs.Posts.{kept_part}
 
 -- a record or a message of a client, as a turn that has no more
 abbrev turn_of : Option Record → List Posting → Turn
@@ -129,11 +129,11 @@ module _ (fits : ℕ → List Record → Type 0) (decl : Declaration) (script : 
       → IsVote (account_of decl (a - decl.sites) ds) q x → Forgets x → ⊥
   votes_remember ds rest is q x v forgets =
       (unforgotten fits decl script accepted sound commits within m.older m.inputs m.run
-      (kept_of_first m.older m.more (subst Kept (sym m.grows) kept)) was).votes a w.old x client
+      (kept_part m.older m.more (subst Kept (sym m.grows) kept)) was).votes a w.old x client
       (subst (λ (y : List Deed). IsOpenVote (account_of decl (a - decl.sites) y) w.old) (sym m.deeds_are) w.vote)
       (record {
         envelope = w.envelope;
-        sent = at_in (mail m.older) w.envelope.number w.envelope m.sent.0;
+        sent = In-at (mail m.older) w.envelope.number w.envelope m.sent.0;
         is = w.message;
       }) forgets
     where

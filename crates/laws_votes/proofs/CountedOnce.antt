@@ -2,8 +2,6 @@
 use Rattle.std.proofs.Common.{◌≡◌, ◌≤◌, ◌<◌, ◌+◌, ◌==◌, ℕ, Bool, true, List, refl, sym, subst, arith, eq-eqb, le-leb}
 use Rattle.std.proofs.Common.{lt-ltb}
 use Rattle.std.specs.Prelude.{sum_by, ◌&&◌}
-use Rattle.std.proofs.lemmas.Cmp.{tied_itself}
-use Rattle.std.specs.declared.cmp.Ordering.TheVariants.{Equal}
 use Rattle.laws_votes.proofs.Brought.{brought, counted_brought, home, in_journal}
 use Rattle.laws_votes.proofs.Distinct.{Differ, answers_of, distinct_by, ordered_within, rising_distinct}
 use Rattle.laws_votes.specs.Vocabulary.{committed_operations}
@@ -30,15 +28,10 @@ use Rattle.laws_reach.proofs.Written.{among_is, is_among}
 use Rattle.laws_reach.specs.Vocabulary.{IsOfClient, records_of}
 use Rattle.qc_script.specs.Vocabulary.{IsScriptFor, RunsWithFalls}
 use Rattle.qc_script.specs.declared.script.Script.{Script}
-use Rattle.qc_stamp.proofs.Orders.{stamps_are_ordered}
-use Rattle.qc_stamp.specs.Vocabulary.{stamp_cmp}
 use Rattle.laws_reach.proofs.RisingStamps.{commits_of}
 use Rattle.laws_reach.proofs.RecordsRise.{records_rise}
 use Rattle.std.specs.List.{AllPairs}
-
-never_itself : (c : CommitRecord) → IsStampedBefore c c → ⊥
-never_itself c before = let tied : stamp_cmp c.stamp c.stamp ≡ Equal = tied_itself stamps_are_ordered.total c.stamp in
-    let no : ⊥ = cc in no
+use Rattle.laws_reach.proofs.Sorted.{never_itself}
 
 named_client : (decl : Declaration) (n : ℕ) → n < decl.clients → is_client decl (decl.sites + n) ≡ true
 named_client decl n few =

@@ -22,9 +22,7 @@ use Rattle.qc_promise.specs.Vocabulary.{Account, AreDeedsDue, Current, IsDeedDue
 use Rattle.qc_promise.specs.Vocabulary.{account_taken, account_told, account_written, due, is_asked_for}
 use Rattle.qc_promise.specs.Vocabulary.{is_declared_for, new_account, pending_next, reply_to, row_of}
 use Rattle.qc_stamp.specs.declared.stamp.TxId.{TxId}
-
-true_false : (b : Bool) → b ≡ true → b ≡ false → ⊥
-true_false b yes_is no_is = let never : ⊥ = cc in never
+use Rattle.qc_list.proofs.Booleans.{not_both}
 
 module _ (decl : Declaration) where
   -- a transaction begins with the next number
@@ -128,7 +126,7 @@ module _ (decl : Declaration) where
   }
     where
       by : (b : Bool) → d.up ≡ b → (account_at decl d x).up ≡ false → (account_at decl d x).current ≡ None
-      by true up down = absurd (true_false (account_at decl d x).up (still_up d x steady up) down)
+      by true up down = absurd (not_both (account_at decl d x).up (still_up d x steady up) down)
       by false up down = none_more d x after steady is up (k.down up)
 
   deed_counts : (d : Account) (x : Deed) (after : List Deed) → IsDeedDue decl d x after → Counts d

@@ -34,10 +34,10 @@ use Rattle.qc_msg.specs.declared.turn.Turn.{Turn}
 use Rattle.laws_guarantees.proofs.Moments.{First, Second, split}
 use Rattle.laws_votes.proofs.Moments.{WroteAt, posted, risen}
 use Rattle.qc_promise.specs.Vocabulary.{Kept}
-use Rattle.laws_reach.proofs.RunsStand.{kept_of_first}
 use Rattle.qc_script.specs.Vocabulary.{IsScriptFor, RunsWithFalls, begins, control, controller_step, damaged, falls}
 use Rattle.qc_script.specs.Vocabulary.{phase, phase_of, posts, rises, takes, unopened}
 use Rattle.qc_script.specs.declared.script.Script.{Script}
+use Rattle.qc_promise.proofs.Posts.{kept_part}
 
 -- the actor falls as it writes the commit record
 abbrev pub falls_writing : ℕ → Fall → CommitRecord → Entry
@@ -235,44 +235,44 @@ module _ (fits : ℕ → List Record → Type 0) (decl : Declaration) (script : 
       absurd (dry_none [] (λ e never. absurd never) before a cause c after is)
   fallen_moment h inputs (takes b g slots older run free rdy) kept before a cause c after is =
       elim (split older (marked b (step_of g) ∷ []) before (falls_writing a cause c) after is) [
-        | First m s ↦ fallen_moment older slots run (kept_of_first older _ kept) before a cause c m s
+        | First m s ↦ fallen_moment older slots run (kept_part older _ kept) before a cause c m s
         | Second m e s ↦ absurd (dry_none _ (dry_one (marked b (step_of g)) (dry_taken g)) m a cause c after s)
       ]
   fallen_moment h inputs (posts b turn slots older run taken law) kept before a cause c after is =
       elim (split older (by b (posted_as turn.append (length (mail older)) turn)) before
       (falls_writing a cause c) after is) [
-        | First m s ↦ fallen_moment older slots run (kept_of_first older _ kept) before a cause c m s
+        | First m s ↦ fallen_moment older slots run (kept_part older _ kept) before a cause c m s
         | Second m e s ↦ subst (λ (k : List Entry). FellAt k a c) (sym e)
-            (fallen older slots run (kept_of_first older _ kept) b turn taken law m a cause c after s)
+            (fallen older slots run (kept_part older _ kept) b turn taken law m a cause c after s)
       ]
   fallen_moment h inputs (phase slots older run idle done quiet more) kept before a cause c after is =
       elim (split older (marked _ (steps.Phase (phase_of older + 1)) ∷ []) before (falls_writing a cause c) after is) [
-        | First m s ↦ fallen_moment older slots run (kept_of_first older _ kept) before a cause c m s
+        | First m s ↦ fallen_moment older slots run (kept_part older _ kept) before a cause c m s
         | Second m e s
             ↦ absurd (dry_none _ (dry_one (marked _ (steps.Phase (phase_of older + 1))) refl) m a cause c after
             s)
       ]
   fallen_moment h inputs (control line lines acted slots older run left acts) kept before a cause c after is =
       elim (split older (marked _ acted ∷ []) before (falls_writing a cause c) after is) [
-        | First m s ↦ fallen_moment older slots run (kept_of_first older _ kept) before a cause c m s
+        | First m s ↦ fallen_moment older slots run (kept_part older _ kept) before a cause c m s
         | Second m e s ↦ absurd (dry_none _ (dry_one (marked _ acted) (dry_line line acted acts)) m a cause c after s)
       ]
   fallen_moment h inputs (falls b lines slots older run left) kept before a cause c after is =
       elim (split older (marked b (steps.Fell causes.Script None) ∷ []) before (falls_writing a cause c) after is) [
-        | First m s ↦ fallen_moment older slots run (kept_of_first older _ kept) before a cause c m s
+        | First m s ↦ fallen_moment older slots run (kept_part older _ kept) before a cause c m s
         | Second m e s ↦
             absurd (dry_none _ (dry_one (marked b (steps.Fell causes.Script None)) refl) m a cause c after s)
       ]
   fallen_moment h inputs (rises b rs turn lines slots older run left fit has law) kept before a cause c after is =
       elim (split older (by b (steps.Rose rs ∷ posted_as turn.append (length (mail older)) turn)) before
       (falls_writing a cause c) after is) [
-        | First m s ↦ fallen_moment older slots run (kept_of_first older _ kept) before a cause c m s
-        | Second m e s ↦ absurd (no_rise older slots run (kept_of_first older _ kept) b rs turn law m a cause c after s)
+        | First m s ↦ fallen_moment older slots run (kept_part older _ kept) before a cause c m s
+        | Second m e s ↦ absurd (no_rise older slots run (kept_part older _ kept) b rs turn law m a cause c after s)
       ]
   fallen_moment h inputs (damaged b offset lines slots older run left) kept before a cause c after is =
       absurd (kept older [] (marked b (steps.Damaged offset)) refl)
   fallen_moment h inputs (unopened b why lines slots older run left disk) kept before a cause c after is =
       elim (split older (marked b (steps.Fell why None) ∷ []) before (falls_writing a cause c) after is) [
-        | First m s ↦ fallen_moment older slots run (kept_of_first older _ kept) before a cause c m s
+        | First m s ↦ fallen_moment older slots run (kept_part older _ kept) before a cause c m s
         | Second m e s ↦ absurd (dry_none _ (dry_one (marked b (steps.Fell why None)) refl) m a cause c after s)
       ]

@@ -27,9 +27,7 @@ use Rattle.qc_entry.specs.declared.record.Prepared.{Prepared}
 use Rattle.qc_fit.specs.Vocabulary.{HasInvocation}
 use Rattle.laws_guarantees.proofs.Lengths.{key, lock_count, log_count, own_count}
 use Rattle.laws_guarantees.proofs.Room.{numbered_within}
-use Rattle.laws_guarantees.proofs.Stale.{below_length}
 use Rattle.laws_votes.proofs.Nets.{logged_by, net, now, reached, refined}
-use Rattle.laws_votes.proofs.SiteClocks.{same_site}
 use Rattle.qc_link.specs.Vocabulary.{most_actors}
 use Rattle.qc_list.specs.Vocabulary.{In}
 use Rattle.qc_list.proofs.Members.{every-In}
@@ -45,7 +43,6 @@ use Rattle.theory_onecopy.specs.Vocabulary.{Executed, IsLogged, own_line}
 use Rattle.qc_promise.specs.Vocabulary.{Current, Kept, account, fits_record, promise_due, records}
 use Rattle.theory_machine.proofs.LogKeeps.{log_laws}
 use Rattle.theory_machine.specs.Vocabulary.{IsExecutedOrChosen, IsOwnClosedAt, LogLaws, State, items_of, site_after}
-use Rattle.laws_reach.proofs.RunsStand.{kept_of_first}
 use Rattle.laws_reach.proofs.Stood.{in_site}
 use Rattle.laws_reach.specs.Vocabulary.{HasTaken}
 use Rattle.qc_script.specs.Vocabulary.{IsScriptFor, RunsWithFalls}
@@ -54,6 +51,9 @@ use Rattle.qc_site.specs.Vocabulary.{SiteState, promise_of}
 use Rattle.qc_stamp.specs.declared.stamp.TxId.{TxId}
 use Rattle.qc_table.specs.Vocabulary.{Rules}
 use Rattle.qc_table.specs.declared.kind.Kind.{Kind}
+use Rattle.laws_reach.proofs.RunLaws.{same_site}
+use Rattle.qc_list.proofs.Places.{place_within}
+use Rattle.qc_promise.proofs.Posts.{kept_part}
 
 -- a declared object, and an invocation of its type
 named_low : (decl : Declaration) → IsAccepted decl → (object inv : ℕ) → HasInvocation decl object inv
@@ -75,7 +75,7 @@ named_low decl accepted object inv n = by (slice_get decl.objects object) refl n
         ≡ Some n.table → (object < 16) × (inv < 32)
     by None none is = absurd (let never : ⊥ = cc in never)
     by (Some number) at is =
-        let place : object < length decl.objects = below_length decl.objects object number at in
+        let place : object < length decl.objects = place_within decl.objects object number at in
         let objects : length decl.objects ≤ 16 = accepted.objects in
         let invs : inv < 32 = of_kind number (slice_get decl.kinds number) refl is in
         (omega arith, invs)
@@ -143,7 +143,7 @@ module _ (fits : ℕ → List Record → Type 0) (decl : Declaration) (script : 
         let was_up : is_up x.before ≡ true = sym (fold-append up_at true x.before (Takes x.given ∷ []))
         ∙ sym (ap is_up x.deeds_are) ∙ up in
         subst IsSeen m.deeds_are
-        (seen m.older m.inputs m.run (kept_of_first m.older m.more (subst Kept (sym m.grows) kept)) m.free
+        (seen m.older m.inputs m.run (kept_part m.older m.more (subst Kept (sym m.grows) kept)) m.free
         (ap is_up m.deeds_are ∙ was_up)
         (ap (λ (v : List Deed). (actor_after decl b v).actor) m.deeds_are ∙ x.was
         ∙ in_site decl (net fits decl script h open_inputs accepted sound run kept) b site))

@@ -26,8 +26,8 @@ use Rattle.qc_msg.specs.declared.turn.Appended.TheVariants.{Done, Failed, Stoppe
 use Rattle.qc_msg.specs.declared.turn.Posting.{Posting}
 use Rattle.qc_msg.specs.declared.turn.Turn.{Turn}
 use Rattle.laws_refinement.proofs.Posts.{Place, placed}
-use Rattle.theory_onecopy.proofs.Lists.{in_split}
 use Rattle.qc_promise.specs.Vocabulary.{Account, ClientRequest, account, account_at, new_account}
+use Rattle.qc_list.proofs.Members.{In-either}
 
 module _ (decl : Declaration) where
   pub record Unforgotten (h : List Entry) : Type 0 where
@@ -54,7 +54,7 @@ module _ (decl : Declaration) where
       is : posting.message ≡ messages.Answer n x
 
     old_or_new : (n : ℕ) (x : Answer) → IsAnswered (mail (h ++ by c xs)) n x → IsAnswered (mail h) n x ⊎ IsNew n x
-    old_or_new n x k = elim (in_split k.envelope (mail h) (envelopes c (length (mail h)) e.posted)
+    old_or_new n x k = elim (In-either k.envelope (mail h) (envelopes c (length (mail h)) e.posted)
         (subst (In k.envelope) e.mail_is k.sent)) [
           | inl old ↦ inl (record { envelope = k.envelope; sent = old; is = k.is })
           | inr new ↦ (let p : Place c e.posted (mail h ++ envelopes c (length (mail h)) e.posted) k.envelope =

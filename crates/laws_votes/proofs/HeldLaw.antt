@@ -12,11 +12,10 @@ use Rattle.qc_entry.specs.declared.record.Commit.{Commit as CommitRecord}
 use Rattle.laws_guarantees.specs.Vocabulary.{HasWanted, IsGrantedSince}
 use Rattle.laws_guarantees.proofs.Standing.{Agrees, IsWanted, WasTakenFor, not_ended, own_wanted, standing_held}
 use Rattle.laws_guarantees.proofs.Standing.{standing_more, was_taken}
-use Rattle.laws_guarantees.proofs.Mailed.{taken_mail}
 use Rattle.laws_guarantees.proofs.Room.{numbered_within}
 use Rattle.laws_votes.proofs.Nets.{backed, listed, now, refined}
 use Rattle.qc_list.specs.Vocabulary.{In}
-use Rattle.qc_list.proofs.Members.{In-first, In-second}
+use Rattle.qc_list.proofs.Members.{In-first, In-second, In-map}
 use Rattle.qc_lock.specs.Vocabulary.{held_of}
 use Rattle.qc_msg.specs.Vocabulary.{Deed, Entry, Takes, deeds, mail, request_in}
 use Rattle.qc_msg.specs.declared.message.Envelope.{Envelope}
@@ -29,7 +28,6 @@ use Rattle.qc_msg.specs.declared.message.Want.TheVariants.{Append, Prepare, Read
 use Rattle.qc_msg.specs.declared.record.Record.{Record}
 use Rattle.qc_msg.specs.declared.step.Input.TheVariants as inputs
 use Rattle.laws_refinement.specs.Vocabulary.{IsHeld, own_item, own_items}
-use Rattle.theory_onecopy.proofs.Lists.{in_map}
 use Rattle.theory_onecopy.specs.Vocabulary.{Executed, own_line}
 use Rattle.qc_promise.specs.Vocabulary.{Grant, Kept, committed, held_of_promises, held_shown, is_ended, is_final}
 use Rattle.qc_promise.specs.Vocabulary.{is_granted, last_cut, prepared_shown, records, standing, standing_as}
@@ -42,6 +40,7 @@ use Rattle.laws_reach.proofs.Committing as commits
 use Rattle.qc_script.specs.Vocabulary.{IsScriptFor, RunsWithFalls}
 use Rattle.qc_script.specs.declared.script.Script.{Script}
 use Rattle.qc_stamp.specs.declared.stamp.TxId.{TxId}
+use Rattle.laws_atomic.proofs.Heard.{took_sent}
 
 -- what came since the last rise, Close or Install is among all deeds
 since_in : (x : Deed) (ds : List Deed) → In x (last_cut ds).since → In x ds
@@ -68,7 +67,7 @@ module _ (fits : ℕ → List Record → Type 0) (decl : Declaration) (script : 
       (messages.Request tx epoch life (Append object view own)) sent is in
       let c : IsOwnClosedAt decl then.executed then.chosen tx view (own_items own) o =
       (laws_now.appends (record { tx = tx; items = own_items own; view = view }) b.3.0).own_closed o
-      (in_map own_item o own among) in
+      (In-map own_item o own among) in
       (c.operation, c.known, c.is)
 
   past : (tx : TxId) (c d : Executed) → In c (then.executed tx) → d.number ≡ suc (length (then.executed tx))
@@ -94,7 +93,7 @@ module _ (fits : ℕ → List Record → Type 0) (decl : Declaration) (script : 
     since = (last_cut (deeds site [] h)).since
 
     taken_sent : (e : Envelope) → In (Takes (inputs.Got e)) since → In e (mail h)
-    taken_sent e among = taken_mail site [] h e (since_in (Takes (inputs.Got e)) (deeds site [] h) among)
+    taken_sent e among = took_sent site [] h e (since_in (Takes (inputs.Got e)) (deeds site [] h) among)
 
     -- no final Decision came, where none came that it committed
     never_ended : (e : Envelope) (verdict : Outcome) → In (Takes (inputs.Got e)) since

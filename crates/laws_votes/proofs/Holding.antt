@@ -5,7 +5,7 @@ use Rattle.std.proofs.Common.{Some, None, is_some, unwrap_or, slice_get, refl, s
 use Rattle.qc_core.specs.Vocabulary.{IsLawfulWithFalls, IsShown, is_up}
 use Rattle.qc_decl.specs.Vocabulary.{IsAccepted, is_client, is_site}
 use Rattle.qc_decl.specs.declared.declaration.Declaration.{Declaration}
-use Rattle.laws_guarantees.proofs.Mailed.{sent_as, sent_mail, taken_mail}
+use Rattle.laws_guarantees.proofs.Mailed.{sent_as, sent_mail}
 use Rattle.laws_guarantees.proofs.SiteMoves.{IsFull}
 use Rattle.laws_votes.proofs.Nets.{at_number, backed, net, now, one_request, reached, refined}
 use Rattle.laws_votes.proofs.SiteClocks.{mirrors, shown}
@@ -39,6 +39,7 @@ use Rattle.laws_guarantees.specs.Vocabulary.{IsOpenVote}
 use Rattle.laws_votes.proofs.LifeGrounds.{has_life_grounds}
 use Rattle.laws_votes.proofs.LivesAdded.{HasParticipant, IsToldLife}
 use Rattle.laws_votes.proofs.HoldsOn.{NeverEnds, holds_on}
+use Rattle.laws_atomic.proofs.Heard.{took_sent}
 
 -- what is wanted has an item
 record HasItem (want : Want) : Type 0 where
@@ -161,7 +162,7 @@ module _ (fits : ℕ → List Record → Type 0) (decl : Declaration) (script : 
     granted =
         at (backed fits decl script h open_inputs accepted sound run kept told.taken.envelope
         (messages.Answer told.q.number (answers.Granted (grant_with (life_of t.lives site) told.clock told.log)))
-        (taken_mail a [] h told.taken.envelope told.taken.taken) told.taken.is)
+        (took_sent a [] h told.taken.envelope told.taken.taken) told.taken.is)
       where
         at : IsGrantTo decl then (net fits decl script h open_inputs accepted sound run kept).mail
             told.taken.envelope.from told.q.number (life_of t.lives site) told.clock told.log → IsGrantedIn

@@ -13,8 +13,8 @@ use Rattle.laws_turns.proofs.Acted.{deeds-silent}
 use Rattle.laws_turns.proofs.Numbered.{IsSilent, phase_silent}
 use Rattle.qc_list.specs.Vocabulary.{In}
 use Rattle.qc_list.proofs.Members.{In-second, every-In}
-use Rattle.laws_turns.proofs.LivedMoves.{deeds-fall, deeds-rise, line_silent}
-use Rattle.qc_msg.proofs.DeedsGrow.{deeds-other}
+use Rattle.laws_turns.proofs.LivedMoves.{deeds-fall, line_silent}
+use Rattle.qc_msg.proofs.DeedsGrow.{deeds-other, deeds-rise}
 use Rattle.qc_msg.proofs.Growth.{deeds-posted_as, deeds-taken}
 use Rattle.qc_msg.specs.Vocabulary.{Deed, Entry, Falls, Rises, Takes, WasSentTo, by, deeds, deeds_as, mail, marked}
 use Rattle.qc_msg.specs.Vocabulary.{posted_as, step_of}

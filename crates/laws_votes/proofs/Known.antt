@@ -5,7 +5,6 @@ use Rattle.std.proofs.Common.{option_to_list, refl, sym, ap, ◌∙◌, subst, a
 use Rattle.std.proofs.lemmas.List.{append-nil}
 use Rattle.qc_entry.specs.declared.record.Commit.{Commit as CommitRecord}
 use Rattle.laws_votes.proofs.Recorded.{IsKnown}
-use Rattle.laws_votes.proofs.SiteLives.{journal_next}
 use Rattle.qc_list.specs.Vocabulary.{In}
 use Rattle.qc_list.proofs.Members.{In-more}
 use Rattle.qc_msg.specs.Vocabulary.{Entry, marked, own}
@@ -15,6 +14,7 @@ use Rattle.qc_msg.specs.declared.step.Fall.{Fall}
 use Rattle.qc_msg.specs.declared.step.Step.{Step}
 use Rattle.qc_msg.specs.declared.step.Step.TheVariants as steps
 use Rattle.qc_promise.specs.Vocabulary.{IsGivenBack, IsKeptAt, Journal, Kept, journal_of, journal_with, pending_with}
+use Rattle.laws_reach.proofs.Committing.{journal_next}
 
 -- the step writes the record, or its actor falls as it writes it
 abbrev pub IsWriting : CommitRecord → Step → Type 0

@@ -30,7 +30,7 @@ use Rattle.qc_entry.specs.declared.line.OwnLine.{OwnLine}
 use Rattle.std.proofs.lemmas.List.Sums.{fold-append}
 use Rattle.qc_entry.specs.declared.line.Line.{Line}
 use Rattle.qc_msg.specs.declared.message.Want.TheVariants.{Append, Prepare, Read}
-use Rattle.laws_guarantees.proofs.Accounts.{HasGrounds, and_first, and_second}
+use Rattle.laws_guarantees.proofs.Accounts.{HasGrounds}
 use Rattle.laws_guarantees.proofs.RequestGrounds.{has_grounds}
 use Rattle.laws_guarantees.proofs.SiteMoves.{IsFull}
 use Rattle.std.specs.Cmp.Lexicographic.{pointwise}
@@ -38,6 +38,7 @@ use Rattle.laws_votes.proofs.LivesAdded.{HasParticipant, HasLifeGrounds, same_no
 use Rattle.laws_votes.proofs.LivesAdded.{bare_grounds}
 use Rattle.laws_votes.proofs.LivesTold.{told_alike}
 use Rattle.laws_votes.proofs.TakenGrounds.{take_grounds}
+use Rattle.qc_list.proofs.Booleans.{and_first, and_second}
 
 -- a record changes no transaction
 write_grounds : (ds : List Deed) (d : Account) (w : Record) → HasLifeGrounds ds d

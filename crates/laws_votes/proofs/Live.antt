@@ -20,26 +20,24 @@ use Rattle.qc_list.specs.Vocabulary.{In}
 use Rattle.qc_msg.specs.Vocabulary.{Deed, Entry, Takes, deeds, has_granted, life_of}
 use Rattle.qc_msg.specs.declared.begun.LifeAt.{LifeAt}
 use Rattle.qc_msg.specs.declared.record.Record.{Record}
-use Rattle.laws_refinement.specs.Vocabulary.{BegunMirrors, ClientMirrors, RunningMirrors, TransactionMirrors, status_by}
+use Rattle.laws_refinement.specs.Vocabulary.{BegunMirrors, ClientMirrors, RunningMirrors, TransactionMirrors}
 use Rattle.laws_guarantees.proofs.Begun.{IsKept, WasBegun, logged, taken_kept, tied_kept}
 use Rattle.laws_guarantees.proofs.FirstGrants.{same_lives}
-use Rattle.laws_guarantees.proofs.Live.{Live}
+use Rattle.laws_guarantees.proofs.Live.{Live, status_cases}
 use Rattle.laws_guarantees.proofs.Persists.{IsNumbered}
 use Rattle.laws_refinement.proofs.ClientKeeps.{clients_kept}
 use Rattle.laws_reach.specs.Vocabulary.{HasTaken, records_of}
 use Rattle.laws_votes.proofs.SameLife.{life_of as life_of_records}
 use Rattle.laws_votes.proofs.Counts.{Counts, counts_all}
 use Rattle.qc_promise.specs.Vocabulary.{Account, AreRepliesDue, Current, Kept, account, account_taken}
-use Rattle.theory_machine.specs.Vocabulary.{Active, Granted, IsShown, State, Status, op_of}
+use Rattle.theory_machine.specs.Vocabulary.{Active, Granted, IsShown, State, op_of}
 use Rattle.theory_machine.specs.State as machine
 use Rattle.laws_reach.proofs.Stood.{in_client}
 use Rattle.qc_script.specs.Vocabulary.{IsScriptFor, RunsWithFalls}
 use Rattle.qc_script.specs.declared.script.Script.{Script}
 use Rattle.qc_stamp.specs.declared.stamp.TxId.{TxId}
 use Rattle.std.proofs.lemmas.List.{append-nil}
-
-same_client : (c d : Client) → actor.Client c ≡ actor.Client d → c ≡ d
-same_client c d is = let same : c ≡ d = cc in same
+use Rattle.laws_reach.proofs.VerdictsLifelong.{same_client}
 
 same_last : (xs ys : List Deed) (x y : Deed) → xs ++ x ∷ [] ≡ ys ++ y ∷ [] → xs ≡ ys
 same_last [] [] x y is = refl
@@ -52,10 +50,6 @@ same_last (z ∷ xs) (w ∷ ys) x y is =
     let rest : xs ++ x ∷ [] ≡ ys ++ y ∷ [] = cc in
     let more : xs ≡ ys = same_last xs ys x y rest in
     λ i. first i ∷ more i
-
-status_cases : (o : Option Voting) (s : Status) → s ≡ status_by o → (s ≡ Active) ⊎ (s ≡ machine.Voting)
-status_cases None s is = inl is
-status_cases (Some v) s is = inr is
 
 none_begun : (o : Option Current) (t : Current) → o ≡ None → o ≡ Some t → ⊥
 none_begun o t none some = let never : ⊥ = cc in never

@@ -11,7 +11,7 @@ use Rattle.qc_entry.specs.declared.record.Prepared.{Prepared}
 use Rattle.qc_list.specs.Vocabulary.{In}
 use Rattle.qc_list.proofs.Members.{In-more, In-unfiltered}
 use Rattle.qc_lock.proofs.Entries.{held-without_other, locks_given}
-use Rattle.qc_lock.specs.Vocabulary.{append_clash, held_of, is_held, read_clash, with_held, with_lock, with_locks}
+use Rattle.qc_lock.specs.Vocabulary.{append_clash, held_of, is_held, read_clash, with_held}
 use Rattle.qc_lock.specs.declared.clash.Clash.{Clash as Conflict}
 use Rattle.qc_lock.specs.declared.held.Held.{Held}
 use Rattle.qc_msg.specs.Vocabulary.{prepare_length, quiet}
@@ -21,7 +21,7 @@ use Rattle.qc_msg.specs.declared.message.Want.{Want}
 use Rattle.qc_msg.specs.declared.message.Want.TheVariants.{Append, Prepare, Read}
 use Rattle.qc_msg.specs.declared.record.Record.{Record}
 use Rattle.qc_msg.specs.declared.turn.Turn.{Turn}
-use Rattle.laws_refinement.proofs.Held.{given_case, lock_more, lock_new}
+use Rattle.laws_refinement.proofs.Held.{given_case}
 use Rattle.qc_site.specs.Vocabulary.{SiteState, answers, appends_by, dropped, fault_of, grants, holds, is_prepared}
 use Rattle.qc_site.specs.Vocabulary.{moved, promise_of, promised, reads_by, relation_at, requested, votes}
 use Rattle.qc_site.specs.Vocabulary.{without_prepared}
@@ -29,18 +29,10 @@ use Rattle.qc_stamp.proofs.Orders.{other_tx_sym}
 use Rattle.qc_stamp.specs.Vocabulary.{same_tx}
 use Rattle.qc_stamp.specs.declared.stamp.TxId.{TxId}
 use Rattle.laws_votes.proofs.PromisesKept.{HoldsLocks, WritePasses, MoveKeeps}
+use Rattle.qc_site.proofs.Holding.{locks_more}
+use Rattle.laws_refinement.proofs.HeldByPromises.{locks_new}
 
 -- what is held more, and what is dropped
-
-locks_more : (ls locks : List ReadLock) (l : ReadLock) → In l ls → In l (with_locks ls locks)
-locks_more ls [] l among = among
-locks_more ls (x ∷ locks) l among = locks_more (with_lock ls x) locks l (lock_more ls x l among)
-
-pub locks_all : (ls locks : List ReadLock) (l : ReadLock) → In l locks → In l (with_locks ls locks)
-locks_all ls [] l among = absurd among
-locks_all ls (x ∷ locks) l (inl same) =
-    locks_more (with_lock ls x) locks l (subst (λ (y : ReadLock). In y (with_lock ls x)) (sym same) (lock_new ls x))
-locks_all ls (x ∷ locks) l (inr there) = locks_all (with_lock ls x) locks l there
 
 holds_more : (s : SiteState) (tx : TxId) (locks : List ReadLock) (own : List OwnLine) → HoldsLocks s
     → HoldsLocks (record s { held = with_held s.held tx locks own })
@@ -91,7 +83,7 @@ has_locks [] held p among l there = absurd among
 has_locks (q ∷ ps) held p (inl same) l there =
     subst (λ (x : Prepared). In l x.locks → In l (held_of (fold holds (holds held q) ps) x.tx).locks) (sym same)
     (λ mine. locks_stay ps (holds held q) q.tx l
-    (subst (In l) (sym (locks_given held q.tx q.locks q.own)) (locks_all (held_of held q.tx).locks q.locks l mine)))
+    (subst (In l) (sym (locks_given held q.tx q.locks q.own)) (locks_new (held_of held q.tx).locks q.locks l mine)))
     there
 has_locks (q ∷ ps) held p (inr among) l there = has_locks ps (holds held q) p among l there
 

@@ -1,5 +1,5 @@
 -- Where a commit record was written in a run with falls: the entries before it are a run, in which its client has an
--- open input, and there it is due.
+-- open input, and there it is called_turn.
 use Rattle.std.proofs.Common.{◌≡◌, ◌+◌, not, ℕ, Bool, true, false, List, [], ◌∷◌, ◌++◌, inl, inr, length, Option, Some}
 use Rattle.std.proofs.Common.{None, slice_get, refl, sym, ap, ◌∙◌, subst}
 use Rattle.std.proofs.lemmas.List.{append-nil}
@@ -14,7 +14,7 @@ use Rattle.laws_votes.proofs.Clients.{IsCommitting, client_at, committing}
 use Rattle.laws_votes.proofs.Nets.{net, reached}
 use Rattle.qc_mailbox.specs.Vocabulary.{is_down}
 use Rattle.qc_list.specs.Vocabulary.{In}
-use Rattle.laws_turns.proofs.Downs.{due, who_is_down_only_tells, up_is}
+use Rattle.laws_turns.proofs.Downs.{who_is_down_only_tells, up_is}
 use Rattle.qc_msg.proofs.DeedsGrow.{deeds-append, deeds-rose}
 use Rattle.qc_msg.specs.Vocabulary.{Deed, Entry, by, commit_in, deeds, fell, mail, marked, posted_as, sents, step_of}
 use Rattle.qc_msg.specs.Vocabulary.{told}
@@ -37,13 +37,14 @@ use Rattle.laws_atomic.proofs.Silent.{site_silent}
 use Rattle.laws_guarantees.proofs.Moments.{First, IsFirst, Second, first_posted, none_in, one_in, split, wrote}
 use Rattle.qc_promise.specs.Vocabulary.{Kept}
 use Rattle.laws_reach.proofs.PostedTurns.{takes_inputs}
-use Rattle.laws_reach.proofs.RunsStand.{kept_of_first}
 use Rattle.laws_reach.proofs.Stood.{in_site}
 use Rattle.laws_reach.specs.Vocabulary.{HasTaken, TakesInputs}
 use Rattle.qc_script.specs.Vocabulary.{IsScriptFor, RunsWithFalls, begins, control, controller_step, damaged, falls}
 use Rattle.qc_script.specs.Vocabulary.{phase, phase_of, posts, rises, takes, unopened}
 use Rattle.qc_script.specs.declared.script.Script.{Script}
 use Rattle.qc_site.specs.Vocabulary.{site_takes}
+use Rattle.qc_core.proofs.PostsByTurns.{called_turn}
+use Rattle.qc_promise.proofs.Posts.{kept_part}
 
 -- steps that write no commit record
 
@@ -118,14 +119,14 @@ module _ (fits : ℕ → List Record → Type 0) (decl : Declaration) (script : 
             ap (λ (m : ActorMove). m.turn) (sym (x.is
             ∙ ap (λ (v : _). actor_takes decl v x.given)
             (in_site decl (net fits decl script h inputs accepted sound run kept) b site)))
-            ∙ due decl b ds turn law in
+            ∙ called_turn decl b ds turn law in
             some_commit (site_takes decl ((net fits decl script h inputs accepted sound run kept).sites b)
             x.given).turn.write c (ap (λ (t : Turn). t.write) same ∙ writes)
             (site_silent decl ((net fits decl script h inputs accepted sound run kept).sites b) x.given)
         by false down = none_commit turn.write c writes
             ((who_is_down_only_tells decl).writes_none b ds turn law (fallen (is_down ds) (up_is ds) down))
 
-    -- so a client does, where it is due
+    -- so a client does, where it is called_turn
     pub posted : slice_get inputs b ≡ Some true → IsLawfulWithFalls decl b ds turn → WroteAt h b c
     posted taken law = by_kind (takes_inputs decl b ds turn law)
       where
@@ -135,7 +136,7 @@ module _ (fits : ℕ → List Record → Type 0) (decl : Declaration) (script : 
             let w : WritesAsAdmin (actor_after decl b ds).turn.write =
             subst (λ (a : ℕ). WritesAsAdmin (actor_after decl a ds).turn.write) (sym at)
             (admin_over decl ds).writes in
-            subst WritesAsAdmin (ap (λ (t : Turn). t.write) (due decl b ds turn law) ∙ writes) w
+            subst WritesAsAdmin (ap (λ (t : Turn). t.write) (called_turn decl b ds turn law) ∙ writes) w
 
         by_kind : TakesInputs decl b → WroteAt h b c
         by_kind (inl site) = absurd (silent site taken law)
@@ -158,7 +159,7 @@ module _ (fits : ℕ → List Record → Type 0) (decl : Declaration) (script : 
             ap (λ (m : ActorMove). m.turn) (sym (ap (actor_after decl b)
             (deeds-append b [] h (by b (steps.Rose rs ∷ []))
             ∙ ap (λ (v : List Deed). ds ++ v) (deeds-rose b (mail h) rs)) ∙ actor_laws.rises decl b ds rs))
-            ∙ due decl b (deeds b [] (h ++ marked b (steps.Rose rs) ∷ [])) turn law
+            ∙ called_turn decl b (deeds b [] (h ++ marked b (steps.Rose rs) ∷ [])) turn law
 
         by : (s t : Bool) → (rises_by decl b rs s t).turn ≡ with_record turn → ⊥
         by true t is = let both : Some records.Life ≡ Some (records.Commit c) = ap (λ (t : Turn). t.write) is
@@ -174,12 +175,12 @@ module _ (fits : ℕ → List Record → Type 0) (decl : Declaration) (script : 
   moment h inputs begins kept before a c after is = absurd (none_in [] (λ e never. absurd never) before a c after is)
   moment h inputs (takes b g slots older run free rdy) kept before a c after is =
       elim (split older (marked b (step_of g) ∷ []) before (wrote a c) after is) [
-        | First m s ↦ moment older slots run (kept_of_first older _ kept) before a c m s
+        | First m s ↦ moment older slots run (kept_part older _ kept) before a c m s
         | Second m e s ↦ absurd (one_in (marked b (step_of g)) (taken_writes g) m a c after s)
       ]
   moment h inputs (posts b turn slots older run taken law) kept before a c after is =
       elim (split older (by b (posted_as turn.append (length (mail older)) turn)) before (wrote a c) after is) [
-        | First m s ↦ moment older slots run (kept_of_first older _ kept) before a c m s
+        | First m s ↦ moment older slots run (kept_part older _ kept) before a c m s
         | Second m e s ↦ at m e (first_of b (length (mail older)) turn.append turn m a c after s)
       ]
     where
@@ -189,26 +190,26 @@ module _ (fits : ℕ → List Record → Type 0) (decl : Declaration) (script : 
           ∙ sym e in
           subst (λ (k : List Entry). WroteAt k a c) same
           (subst (λ (n : ℕ). WroteAt older n c) f.actor
-          (posted older slots run (kept_of_first older _ kept) b turn c f.writes taken law))
+          (posted older slots run (kept_part older _ kept) b turn c f.writes taken law))
   moment h inputs (phase slots older run idle done quiet more) kept before a c after is =
       elim (split older (marked _ (steps.Phase (phase_of older + 1)) ∷ []) before (wrote a c) after is) [
-        | First m s ↦ moment older slots run (kept_of_first older _ kept) before a c m s
+        | First m s ↦ moment older slots run (kept_part older _ kept) before a c m s
         | Second m e s ↦ absurd (one_in (marked _ (steps.Phase (phase_of older + 1))) refl m a c after s)
       ]
   moment h inputs (control line lines acted slots older run left acts) kept before a c after is =
       elim (split older (marked _ acted ∷ []) before (wrote a c) after is) [
-        | First m s ↦ moment older slots run (kept_of_first older _ kept) before a c m s
+        | First m s ↦ moment older slots run (kept_part older _ kept) before a c m s
         | Second m e s ↦ absurd (one_in (marked _ acted) (line_none line acted acts) m a c after s)
       ]
   moment h inputs (falls b lines slots older run left) kept before a c after is =
       elim (split older (marked b (steps.Fell causes.Script None) ∷ []) before (wrote a c) after is) [
-        | First m s ↦ moment older slots run (kept_of_first older _ kept) before a c m s
+        | First m s ↦ moment older slots run (kept_part older _ kept) before a c m s
         | Second m e s ↦ absurd (one_in (marked b (steps.Fell causes.Script None)) refl m a c after s)
       ]
   moment h inputs (rises b rs turn lines slots older run left fit has law) kept before a c after is =
       elim (split older (by b (steps.Rose rs ∷ posted_as turn.append (length (mail older)) turn)) before
       (wrote a c) after is) [
-        | First m s ↦ moment older slots run (kept_of_first older _ kept) before a c m s
+        | First m s ↦ moment older slots run (kept_part older _ kept) before a c m s
         | Second m e s ↦ absurd (never m s)
       ]
     where
@@ -217,12 +218,12 @@ module _ (fits : ℕ → List Record → Type 0) (decl : Declaration) (script : 
       never [] s = one_in (marked b (steps.Rose rs)) refl [] a c []
           (let same : marked b (steps.Rose rs) ≡ wrote a c = cc in ap (λ (x : Entry). x ∷ []) same)
       never (x ∷ m) s = let rest : by b (posted_as turn.append (length (mail older)) turn) ≡ m ++ wrote a c ∷ after =
-          cc in risen older slots run (kept_of_first older _ kept) b turn c
+          cc in risen older slots run (kept_part older _ kept) b turn c
           (first_of b (length (mail older)) turn.append turn m a c after rest).writes rs law
   moment h inputs (damaged b offset lines slots older run left) kept before a c after is =
       absurd (kept older [] (marked b (steps.Damaged offset)) refl)
   moment h inputs (unopened b cause lines slots older run left disk) kept before a c after is =
       elim (split older (marked b (steps.Fell cause None) ∷ []) before (wrote a c) after is) [
-        | First m s ↦ moment older slots run (kept_of_first older _ kept) before a c m s
+        | First m s ↦ moment older slots run (kept_part older _ kept) before a c m s
         | Second m e s ↦ absurd (one_in (marked b (steps.Fell cause None)) refl m a c after s)
       ]

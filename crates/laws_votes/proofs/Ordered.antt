@@ -6,10 +6,8 @@ use Rattle.qc_core.specs.Vocabulary.{ActorMove, actor_after, actor_does, actor_r
 use Rattle.qc_core.proofs.ByNumber.{new_by, rises_by}
 use Rattle.qc_decl.specs.Vocabulary.{is_client, is_site}
 use Rattle.qc_decl.specs.declared.declaration.Declaration.{Declaration}
-use Rattle.qc_entry.specs.declared.record.Prepared.{Prepared}
 use Rattle.qc_lock.proofs.Order.{sound-without}
 use Rattle.qc_lock.specs.Vocabulary.{IsSound}
-use Rattle.qc_lock.specs.declared.held.Held.{Held}
 use Rattle.qc_msg.specs.Vocabulary.{Deed, Falls, Rises, Sends, Takes, Tells, Writes, quiet}
 use Rattle.qc_msg.specs.declared.message.Message.{Message}
 use Rattle.qc_msg.specs.declared.record.Record.{Record}
@@ -17,7 +15,7 @@ use Rattle.qc_msg.specs.declared.record.Record.TheVariants as records
 use Rattle.qc_msg.specs.declared.step.Input.{Input}
 use Rattle.qc_msg.specs.declared.step.Input.TheVariants as inputs
 use Rattle.qc_recover.specs.Vocabulary.{kept_by}
-use Rattle.qc_site.specs.Vocabulary.{SiteState, holds, passed, site_at, site_takes}
+use Rattle.qc_site.specs.Vocabulary.{SiteState, passed, site_at, site_takes}
 use Rattle.qc_site.proofs.Cases.{state_cases}
 use Rattle.qc_site.proofs.Sorted.{held-sound, sound-held}
 
@@ -61,15 +59,11 @@ sent Down number to message sound = tt
 
 -- a rise
 
-promises_held : (held : List Held) (ps : List Prepared) → IsSound held → IsSound (fold holds held ps)
-promises_held held [] sound = sound
-promises_held held (p ∷ ps) sound = promises_held (holds held p) ps (sound-held held p.tx p.locks p.own sound)
-
 risen : (decl : Declaration) (a : ℕ) (rs : List Record) → HoldsInOrder (actor_rises decl a rs).actor
 risen decl a rs = at (is_site decl a) (is_client decl a)
   where
     at : (site client : Bool) → HoldsInOrder (rises_by decl a rs site client).actor
-    at true client = promises_held [] (kept_by (rs ++ records.Life ∷ [])).promises none_held
+    at true client = held-sound [] (kept_by (rs ++ records.Life ∷ [])).promises none_held
     at false true = tt
     at false false = tt
 

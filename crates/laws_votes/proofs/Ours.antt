@@ -10,7 +10,7 @@ use Rattle.laws_votes.proofs.Clients.{IsNumbered, numbered}
 use Rattle.laws_votes.proofs.Promising.{IsRecording, its_client, its_moment, now_recording}
 use Rattle.laws_votes.proofs.Recorded.{IsKnown}
 use Rattle.laws_votes.proofs.Recording.{Moment}
-use Rattle.laws_votes.proofs.SiteLives.{journal_next, record_stays}
+use Rattle.laws_votes.proofs.SiteLives.{record_stays}
 use Rattle.laws_votes.specs.Vocabulary.{AreWriting, IsToldBy}
 use Rattle.qc_list.specs.Vocabulary.{In}
 use Rattle.qc_list.proofs.Members.{In-last}
@@ -30,11 +30,12 @@ use Rattle.laws_votes.proofs.Reader.{says}
 use Rattle.laws_votes.proofs.Since.{stays_steady}
 use Rattle.laws_votes.proofs.Splits.{snoc_same}
 use Rattle.qc_promise.specs.Vocabulary.{Current, Journal, Kept, journal_of}
-use Rattle.laws_reach.proofs.RunsStand.{kept_of_first}
 use Rattle.laws_reach.specs.Vocabulary.{IsOfClient, records_of}
 use Rattle.qc_script.specs.Vocabulary.{IsScriptFor, RunsWithFalls}
 use Rattle.qc_script.specs.declared.script.Script.{Script}
 use Rattle.qc_stamp.specs.declared.stamp.TxId.{TxId}
+use Rattle.laws_reach.proofs.Committing.{journal_next}
+use Rattle.qc_promise.proofs.Posts.{kept_part}
 
 -- a step that writes two records writes one
 
@@ -189,7 +190,7 @@ module _ (fits : ℕ → List Record → Type 0) (decl : Declaration) (script : 
           (sym (journal_next k.actor before (marked k.actor (steps.Wrote (records.Commit c))) true
           (eq-eqb k.actor k.actor refl))) (In-last (records.Commit c) (journal_of (own k.actor before)).records) in
           inl (record_stays (records.Commit c) k.actor ours n (ours ++ n) refl
-          (kept_of_first (ours ++ n) rest (subst Kept stands kept))
+          (kept_part (ours ++ n) rest (subst Kept stands kept))
           (subst (λ (xs : List Step). In (records.Commit c) (records_of (before ++ by k.actor xs) k.actor))
           (sym wrote) now))
       at (inr (why, fell)) = elim (known_since c k.actor (ours ++ n) rest h (sym stands) kept in_the_end) [

@@ -12,11 +12,9 @@ use Rattle.qc_decl.specs.Vocabulary.{actors}
 use Rattle.qc_decl.specs.declared.declaration.Declaration.{Declaration}
 use Rattle.qc_entry.specs.declared.record.Prepared.{Prepared}
 use Rattle.laws_guarantees.proofs.ForgettingAnswers.{Forgets, same_answer}
-use Rattle.laws_turns.proofs.Places.{slice_get-more}
 use Rattle.qc_link.specs.Vocabulary.{most_actors}
 use Rattle.qc_list.specs.Vocabulary.{In}
 use Rattle.qc_list.proofs.Members.{every-In}
-use Rattle.laws_turns.proofs.LivedMoves.{deeds-rise}
 use Rattle.laws_turns.proofs.Lived.{actors_live_in_runs_with_falls}
 use Rattle.laws_turns.specs.Vocabulary.{LivesIn}
 use Rattle.qc_msg.proofs.GrownMail.{mail-append}
@@ -45,6 +43,8 @@ use Rattle.qc_site.specs.Vocabulary.{SiteMove, SiteState, answering, finishes, g
 use Rattle.qc_site.specs.Vocabulary.{site_at, site_takes}
 use Rattle.qc_stamp.specs.declared.stamp.Stamp.{Stamp}
 use Rattle.qc_stamp.specs.declared.stamp.TxId.{TxId}
+use Rattle.qc_list.proofs.Places.{slice_get-more}
+use Rattle.qc_msg.proofs.DeedsGrow.{deeds-rise}
 
 -- what a site sends where its record isn't written
 

@@ -7,7 +7,7 @@ use Rattle.laws_due.proofs.Standing.{actor_more}
 use Rattle.qc_core.proofs.ByNumber.{site_new, site_risen}
 use Rattle.qc_core.proofs.LivesOfActors.{rises as actor_rising}
 use Rattle.qc_core.specs.Vocabulary.{ActorMove, IsLawfulWithFalls, Serves, actor_after, actor_takes, by_site, crashes}
-use Rattle.qc_core.specs.Vocabulary.{journal_after, journal_at, rises, serves, stays_up, unopened}
+use Rattle.qc_core.specs.Vocabulary.{journal_after, journal_at, rises, serves, unopened}
 use Rattle.qc_core.specs.Sites.{starts}
 use Rattle.qc_core.specs.declared.actor.Actor.{Actor}
 use Rattle.qc_core.specs.declared.actor.Actor.TheVariants.{Site}
@@ -15,7 +15,6 @@ use Rattle.qc_decl.specs.Vocabulary.{is_site}
 use Rattle.qc_decl.specs.declared.declaration.Declaration.{Declaration}
 use Rattle.qc_entry.specs.declared.record.Prepared.{Prepared}
 use Rattle.qc_list.specs.Vocabulary.{In}
-use Rattle.laws_turns.proofs.Downs.{due}
 use Rattle.qc_msg.specs.Vocabulary.{Deed, Rises, Takes, deeds_as, quiet, turn_deeds}
 use Rattle.qc_msg.specs.declared.message.Answer.{Answer}
 use Rattle.qc_msg.specs.declared.message.Message.{Message}
@@ -34,14 +33,17 @@ use Rattle.qc_site.proofs.Cases.{install_cases}
 use Rattle.qc_site.specs.Vocabulary.{SiteMove, SiteState, answers, clock_after, clock_told, finishes, installs, joins}
 use Rattle.qc_site.specs.Vocabulary.{names_declared, new_site, passed, prepared_of, site_on, site_takes}
 use Rattle.qc_promise.specs.Vocabulary.{Journal, no_journal}
-use Rattle.theory_onecopy.proofs.Lists.{in_split}
 use Rattle.laws_reach.proofs.Growing.{actor_posted, all_sent, journal_posted}
 use Rattle.qc_recover.proofs.SiteLaws.{clocks_passed, locks_held}
 use Rattle.qc_recover.specs.Vocabulary.{nothing_kept, site_of, site_rises}
 use Rattle.qc_stamp.specs.declared.stamp.Stamp.{Stamp}
 use Rattle.qc_stamp.specs.declared.stamp.TxId.{TxId}
 use Rattle.laws_votes.proofs.PromisesKept.{HoldsLocks, PassesDones, Keeps, IsPassed, WritePasses, MoveKeeps, clock_up}
-use Rattle.laws_votes.proofs.LocksPromised.{locks_all, holds_dropped, has_locks, stays, append, asked}
+use Rattle.laws_votes.proofs.LocksPromised.{holds_dropped, has_locks, stays, append, asked}
+use Rattle.qc_core.proofs.PostsByTurns.{called_turn}
+use Rattle.qc_core.proofs.SiteStates.{was_written}
+use Rattle.laws_refinement.proofs.HeldByPromises.{locks_new}
+use Rattle.qc_list.proofs.Members.{In-either}
 
 module _ (decl : Declaration) (s : SiteState) (old : HoldsLocks s) (from number : ℕ) where
   join : (tx : TxId) (stamp : Stamp) → stamp.clock ≤ s.clock → (o : Option Prepared) → MoveKeeps s (joins s tx stamp o)
@@ -103,7 +105,7 @@ move_keeps : (rs : List Record) (before : SiteState) (move : SiteMove) → Keeps
     → Keeps (rs ++ option_to_list move.turn.write) move.site
 move_keeps rs before move old m = record {
   locks = m.locks;
-  dones = λ tx done among. elim (in_split (records.Done tx done) rs (option_to_list move.turn.write) among) [
+  dones = λ tx done among. elim (In-either (records.Done tx done) rs (option_to_list move.turn.write) among) [
     | inl earlier ↦
         (let low : done ≤ before.clock = old.dones tx done earlier in
         let up : before.clock ≤ move.site.clock = m.rises in omega arith)
@@ -115,14 +117,9 @@ move_keeps rs before move old m = record {
 
 risen_keeps : (number : ℕ) (rs : List Record) → Keeps rs (site_of number rs)
 risen_keeps number rs = record {
-  locks = λ p among l there. subst (In l) (sym (locks_held rs p among)) (locks_all [] p.locks l there);
+  locks = λ p among l there. subst (In l) (sym (locks_held rs p among)) (locks_new [] p.locks l there);
   dones = λ tx done among. clocks_passed nothing_kept rs (records.Done tx done) done among (inl refl);
 }
-
-was_written : (end : Appended) → stays_up end ≡ true → end ≡ ends.Done
-was_written ends.Done is = refl
-was_written ends.Failed is = absurd (let never : ⊥ = cc in never)
-was_written ends.Stopped is = absurd (let never : ⊥ = cc in never)
 
 module _ (decl : Declaration) (site : ℕ) (is : is_site decl site ≡ true) where
   pub record Stands (ds : List Deed) : Type 0 where
@@ -144,7 +141,8 @@ module _ (decl : Declaration) (site : ℕ) (is : is_site decl site ≡ true) whe
   }
     where
       write_is : move.turn.write ≡ turn.write
-      write_is = ap (λ (t : Turn). t.write) (ap (λ (m : ActorMove). m.turn) (sym at) ∙ due decl site ds turn law)
+      write_is =
+          ap (λ (t : Turn). t.write) (ap (λ (m : ActorMove). m.turn) (sym at) ∙ called_turn decl site ds turn law)
 
   pub stands : (ds : List Deed) (up : Bool) → Serves decl site ds up → up ≡ true → Stands ds
   stands ds up starts on = record {

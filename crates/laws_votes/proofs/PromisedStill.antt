@@ -11,7 +11,7 @@ use Rattle.qc_entry.specs.declared.record.Prepared.{Prepared}
 use Rattle.laws_votes.proofs.Nets.{net, now, reached}
 use Rattle.laws_votes.proofs.PromisedItems.{items_held}
 use Rattle.laws_votes.proofs.PromisedLocks.{Stands, stands}
-use Rattle.laws_votes.proofs.SiteClocks.{mirrors, same_site, shown}
+use Rattle.laws_votes.proofs.SiteClocks.{mirrors, shown}
 use Rattle.laws_votes.specs.Vocabulary.{HasPromisedItems, IsLastPromise, IsPromisedStill}
 use Rattle.qc_link.specs.Vocabulary.{most_actors}
 use Rattle.qc_list.specs.Vocabulary.{In}
@@ -32,6 +32,7 @@ use Rattle.qc_script.specs.declared.script.Script.{Script}
 use Rattle.qc_site.specs.Vocabulary.{SiteState}
 use Rattle.qc_stamp.specs.declared.stamp.TxId.{TxId}
 use Rattle.laws_votes.proofs.StandingPromises.{among_promises, records_are}
+use Rattle.laws_reach.proofs.RunLaws.{same_site}
 
 module _ (fits : ℕ → List Record → Type 0) (decl : Declaration) (script : Script) (h : List Entry)
     (open_inputs : List Bool) (accepted : IsAccepted decl) (sound : IsScriptFor decl script)

@@ -10,7 +10,7 @@ use Rattle.qc_entry.specs.declared.record.Commit.{Commit as CommitRecord}
 use Rattle.laws_guarantees.proofs.Accounts.{HasGrounds, WasGranted, WasSent, WasTaken}
 use Rattle.laws_guarantees.proofs.DueStamps.{due_stamp}
 use Rattle.laws_guarantees.proofs.RequestGrounds.{has_grounds}
-use Rattle.laws_guarantees.proofs.Mailed.{sent_as, sent_mail, taken_mail}
+use Rattle.laws_guarantees.proofs.Mailed.{sent_as, sent_mail}
 use Rattle.laws_votes.specs.Vocabulary.{HasPromised, HaveAllPromised, IsRecorded}
 use Rattle.laws_votes.proofs.VotesFor.{IsVotedFor, due_votes}
 use Rattle.laws_votes.proofs.CommitDue.{IsAskedAndFor, asked_for}
@@ -38,6 +38,7 @@ use Rattle.qc_script.specs.Vocabulary.{IsScriptFor, RunsWithFalls}
 use Rattle.qc_script.specs.declared.script.Script.{Script}
 use Rattle.qc_stamp.specs.declared.stamp.Stamp.{Stamp}
 use Rattle.qc_stamp.specs.declared.stamp.TxId.{TxId}
+use Rattle.laws_atomic.proofs.Heard.{took_sent}
 
 same_commit : (o : Option Current) (t : Current) (stamp : Stamp) (c : CommitRecord) → o ≡ Some t
     → option_map (λ (x : Current). record { stamp = stamp; tx = x.tx; ops = x.ops }) o ≡ Some c
@@ -88,7 +89,7 @@ module _ (fits : ℕ → List Record → Type 0) (decl : Declaration) (script : 
       → is_site decl site ≡ true
   granted_site site current has = by (backed fits decl script h open_inputs accepted sound run kept g.taken.envelope
       (messages.Answer g.number (answers.Granted (grant_with g.life g.clock g.log)))
-      (taken_mail a [] h g.taken.envelope g.taken.taken) g.taken.is)
+      (took_sent a [] h g.taken.envelope g.taken.taken) g.taken.is)
     where
       g : WasGranted ds t.tx site
       g = grounds.granted t site current has
@@ -116,7 +117,7 @@ module _ (fits : ℕ → List Record → Type 0) (decl : Declaration) (script : 
     taken = grounds.taken k.q (answers.Yes k.clock) k.among k.taken
 
     vote_sent : In taken.envelope (mail h)
-    vote_sent = taken_mail a [] h taken.envelope taken.taken
+    vote_sent = took_sent a [] h taken.envelope taken.taken
 
     its_request : IsAsked k.q.number k.q.site t.tx k.q.want
     its_request = sent_request k.q.number k.q.site t.tx sent.epoch k.q.life k.q.want sent.is

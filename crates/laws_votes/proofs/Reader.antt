@@ -33,9 +33,9 @@ use Rattle.laws_votes.proofs.Safe as promises
 use Rattle.laws_votes.proofs.Since.{account_since, since_due, stays_steady}
 use Rattle.laws_votes.proofs.Splits.{snoc_same, snoc_split}
 use Rattle.qc_promise.specs.Vocabulary.{Account, AreDeedsDue, Current, Kept, account, account_at, new_account}
-use Rattle.laws_reach.proofs.RunsStand.{kept_of_first}
 use Rattle.qc_script.specs.Vocabulary.{IsScriptFor, RunsWithFalls}
 use Rattle.qc_script.specs.declared.script.Script.{Script}
+use Rattle.qc_promise.proofs.Posts.{kept_part}
 
 -- the step falls as it writes the record
 abbrev pub IsFalling : CommitRecord → Step → Type 0
@@ -122,7 +122,7 @@ module _ (fits : ℕ → List Record → Type 0) (decl : Declaration) (script : 
     r = due_at before k.actor c m
 
     pub early_kept : Kept k.early
-    early_kept = kept_of_first k.early k.middle m.kept
+    early_kept = kept_part k.early k.middle m.kept
 
     pub same_name : r.t.tx ≡ t.tx
     same_name = sym r.its ∙ sym k.its

@@ -6,7 +6,6 @@ use Rattle.qc_decl.specs.Vocabulary.{IsAccepted}
 use Rattle.qc_decl.specs.declared.declaration.Declaration.{Declaration}
 use Rattle.qc_entry.specs.declared.record.Commit.{Commit as CommitRecord}
 use Rattle.laws_votes.specs.Vocabulary.{AreWriting}
-use Rattle.laws_votes.proofs.SiteLives.{journal_next}
 use Rattle.qc_list.specs.Vocabulary.{In}
 use Rattle.qc_msg.specs.Vocabulary.{Entry, by, own, posted_as, sents, step_of, told}
 use Rattle.qc_msg.specs.Steps as post
@@ -23,11 +22,12 @@ use Rattle.qc_msg.specs.declared.step.Step.TheVariants as steps
 use Rattle.qc_msg.specs.declared.turn.Appended.{Appended}
 use Rattle.qc_msg.specs.declared.turn.Appended.TheVariants as ends
 use Rattle.qc_msg.specs.declared.turn.Turn.{Turn}
-use Rattle.theory_onecopy.proofs.Lists.{in_split}
 use Rattle.qc_promise.specs.Vocabulary.{IsGivenBack, Journal, journal_of, journal_with}
 use Rattle.laws_reach.proofs.Growing.{ended_journal}
 use Rattle.qc_script.specs.Vocabulary.{IsScriptFor, RunsWithFalls, controller_step}
 use Rattle.qc_script.specs.declared.script.Script.{Script}
+use Rattle.laws_reach.proofs.Committing.{journal_next}
+use Rattle.qc_list.proofs.Members.{In-either}
 
 -- it is in the journal, or pending there
 abbrev pub IsKnown : CommitRecord → Journal → Type 0
@@ -42,7 +42,7 @@ only (Some r) c (inr never) = absurd never
 pub posted_known : (c : CommitRecord) (end : Appended) (write : Option Record) (j : Journal)
     → IsKnown c (ended_journal end write j) → IsKnown c j ⊎ (write ≡ Some (Commit c))
 posted_known c ends.Done write j (inl among) =
-    elim (in_split (Commit c) j.records (option_to_list write) among)
+    elim (In-either (Commit c) j.records (option_to_list write) among)
     [ inl old ↦ inl (inl old) | inr new ↦ inr (only write c new) ]
 posted_known c ends.Done write j (inr is) = inl (inr is)
 posted_known c ends.Failed None j known = inl known
@@ -57,7 +57,7 @@ pub back_known : (c : CommitRecord) (j : Journal) (given : List Record) → IsGi
     → IsKnown c j
 back_known c j given (inl same) among = inl (subst (In (Commit c)) same among)
 back_known c j given (inr more) among =
-    elim (in_split (Commit c) j.records (option_to_list j.pending) (subst (In (Commit c)) more among))
+    elim (In-either (Commit c) j.records (option_to_list j.pending) (subst (In (Commit c)) more among))
     [ inl old ↦ inl old | inr new ↦ inr (only j.pending c new) ]
 
 pub given_known : (c : CommitRecord) (given : List Record) → IsKnown c (record { records = given; pending = None })

@@ -28,13 +28,13 @@ use Rattle.qc_msg.specs.declared.step.Step.TheVariants as steps
 use Rattle.qc_msg.specs.declared.turn.Turn.{Turn}
 use Rattle.qc_promise.specs.Vocabulary.{IsGivenBack, Journal, Kept, journal_of, journal_with, no_journal}
 use Rattle.laws_reach.proofs.Growing.{ended_journal, journal_posted}
-use Rattle.laws_reach.proofs.RunsStand.{kept_of_first}
 use Rattle.qc_script.specs.Vocabulary.{IsScriptFor, RunsWithFalls, begins, control, damaged, falls, phase, phase_of}
 use Rattle.qc_script.specs.Vocabulary.{posts, rises, takes, unopened}
 use Rattle.qc_script.specs.declared.script.Script.{Script}
 use Rattle.std.proofs.lemmas.List.Sums.{fold-append}
 use Rattle.laws_votes.proofs.Recorded.{IsKnown, posted_known, back_known, given_known, taken_same, controlled_same}
 use Rattle.laws_votes.proofs.Recorded.{entry_same, first_post}
+use Rattle.qc_promise.proofs.Posts.{kept_part}
 
 module _ (fits : ℕ → List Record → Type 0) (decl : Declaration) (script : Script) (accepted : IsAccepted decl)
     (sound : IsScriptFor decl script) where
@@ -226,24 +226,24 @@ module _ (fits : ℕ → List Record → Type 0) (decl : Declaration) (script : 
       [ inl never ↦ never | inr none ↦ (let no : None ≡ Some (Commit c) = none in let never : ⊥ = cc in never) ])
   all_recorded h inputs (takes b g before older run free rdy) kept =
       mute older (marked b (step_of g)) (λ c j. taken_same c j g)
-      (all_recorded older before run (kept_of_first older _ kept))
+      (all_recorded older before run (kept_part older _ kept))
   all_recorded h inputs (posts b turn before older run taken law) kept =
-      posted older before run (kept_of_first older _ kept) (all_recorded older before run (kept_of_first older _ kept))
+      posted older before run (kept_part older _ kept) (all_recorded older before run (kept_part older _ kept))
       b turn taken law
   all_recorded h inputs (phase before older run idle done quiet more) kept =
       mute older (marked (controller decl) (steps.Phase (phase_of older + 1))) (λ c j known. known)
-      (all_recorded older before run (kept_of_first older _ kept))
+      (all_recorded older before run (kept_part older _ kept))
   all_recorded h inputs (control line lines acted before older run left is) kept =
       mute older (marked (controller decl) acted) (λ c j. controlled_same c j line acted is)
-      (all_recorded older before run (kept_of_first older _ kept))
+      (all_recorded older before run (kept_part older _ kept))
   all_recorded h inputs (falls b lines before older run left) kept =
       mute older (marked b (steps.Fell causes.Script None)) (λ c j known. known)
-      (all_recorded older before run (kept_of_first older _ kept))
+      (all_recorded older before run (kept_part older _ kept))
   all_recorded h inputs (rises b given turn lines before older run left fit has law) kept =
-      risen older before run (kept_of_first older _ kept) (all_recorded older before run (kept_of_first older _ kept)) b
+      risen older before run (kept_part older _ kept) (all_recorded older before run (kept_part older _ kept)) b
       given turn law (kept older _ (marked b (steps.Rose given)) refl)
   all_recorded h inputs (damaged b offset lines before older run left) kept =
       absurd (kept older [] (marked b (steps.Damaged offset)) refl)
   all_recorded h inputs (unopened b cause lines before older run left disk) kept =
       mute older (marked b (steps.Fell cause None)) (λ c j known. known)
-      (all_recorded older before run (kept_of_first older _ kept))
+      (all_recorded older before run (kept_part older _ kept))

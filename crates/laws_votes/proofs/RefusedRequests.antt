@@ -1,67 +1,23 @@
 -- Requests of an earlier epoch, and those that name another life, are refused for that.
-use Rattle.std.proofs.Common.{◌≡◌, ◌≢◌, ◌⊎◌, ◌<◌, ◌≤◌, ◌-◌, ◌==◌, nat_le, nat_lt, if◌then◌else◌, ℕ, Bool, true, false}
-use Rattle.std.proofs.Common.{List, [], ◌∷◌, ◌++◌, inl, inr, Option, Some, None, slice_get, refl, sym, ap, ◌∙◌, subst}
-use Rattle.std.proofs.Common.{arith, ltb-true, eqb-true}
-use Rattle.std.specs.List.{AllByRecursion as Every}
-use Rattle.qc_core.proofs.SiteLaws.{sites_are_read_off_their_steps}
-use Rattle.qc_core.proofs.SiteLives.{sites_that_live_serve}
-use Rattle.qc_core.specs.Vocabulary.{ActorMove, IsLawfulWithFalls, IsShown, IsSiteDeed, Lives, Serves, actor_after}
-use Rattle.qc_core.specs.Vocabulary.{actor_takes, is_up, up_at}
-use Rattle.std.proofs.lemmas.Bool.{cases_eq, lt-ltb}
-use Rattle.std.proofs.lemmas.List.Sums.{fold-append}
-use Rattle.laws_due.proofs.Standing.{actor_more}
+use Rattle.std.proofs.Common.{◌≡◌, ◌≢◌, ◌⊎◌, ◌<◌, ◌≤◌, ◌-◌, ◌==◌, nat_lt, if◌then◌else◌, ℕ, Bool, true, false, List, []}
+use Rattle.std.proofs.Common.{◌∷◌, ◌++◌, inl, inr, Option, Some, None, refl, sym, ap, ◌∙◌, subst, arith, ltb-true}
+use Rattle.std.proofs.Common.{eqb-true}
+use Rattle.qc_core.specs.Vocabulary.{Lives}
+use Rattle.std.proofs.lemmas.Bool.{lt-ltb}
 use Rattle.qc_core.specs.Lives as lives
-use Rattle.qc_core.specs.declared.actor.Actor.{Actor}
-use Rattle.qc_entry.specs.Vocabulary.{without}
-use Rattle.qc_entry.specs.declared.record.Prepared.{Prepared}
-use Rattle.qc_core.specs.declared.actor.Actor.TheVariants as actor
-use Rattle.qc_decl.specs.Vocabulary.{IsAccepted, actors, is_client, is_site, most_record_bytes}
 use Rattle.qc_decl.specs.declared.declaration.Declaration.{Declaration}
-use Rattle.laws_guarantees.proofs.Accounts.{HasGrounds, WasSent}
-use Rattle.laws_guarantees.proofs.RequestGrounds.{has_grounds}
-use Rattle.laws_guarantees.proofs.Mailed.{sent_as, sent_mail}
 use Rattle.laws_guarantees.proofs.ForgettingAnswers.{Forgets}
-use Rattle.laws_guarantees.proofs.AnswersToInputs.{IsAnswering, IsAnsweringTo, answers_inputs, answers_request}
-use Rattle.laws_guarantees.proofs.SiteMoves.{prepares_remembered}
-use Rattle.laws_guarantees.specs.Vocabulary.{IsOpenVote}
-use Rattle.laws_votes.proofs.Nets.{at_number, backed, net, now, reached, refined}
-use Rattle.laws_votes.proofs.SiteClocks.{same_site}
-use Rattle.qc_link.specs.Vocabulary.{most_actors}
 use Rattle.qc_list.specs.Vocabulary.{In}
-use Rattle.laws_turns.proofs.Downs.{due}
-use Rattle.laws_turns.proofs.FallKept.{clients_rise_with_own_stamps_where_records_are_kept}
-use Rattle.laws_turns.proofs.FallServed.{sites_take_site_inputs_with_falls}
-use Rattle.laws_turns.proofs.Lived.{actors_live_in_runs_with_falls}
-use Rattle.laws_turns.specs.Vocabulary.{LivesIn}
-use Rattle.qc_lock.specs.Vocabulary.{held_of, is_held}
-use Rattle.qc_msg.specs.Vocabulary.{Deed, Entry, Takes, WasSentTo, deeds, has_granted, life_of, mail, prepare_length}
-use Rattle.qc_msg.specs.Vocabulary.{quiet}
+use Rattle.qc_msg.specs.Vocabulary.{Deed, Takes, quiet}
 use Rattle.qc_msg.specs.declared.message.Answer.{Answer}
 use Rattle.qc_msg.specs.declared.message.Answer.TheVariants as answers
-use Rattle.qc_msg.specs.declared.message.Envelope.{Envelope}
-use Rattle.qc_msg.specs.declared.message.Message.{Message}
 use Rattle.qc_msg.specs.declared.message.Message.TheVariants as messages
-use Rattle.qc_msg.specs.declared.message.Want.{Want}
 use Rattle.qc_msg.specs.declared.message.Want.TheVariants.{Prepare}
-use Rattle.qc_msg.specs.declared.record.Record.{Record}
 use Rattle.qc_msg.specs.declared.step.Input.{Input}
 use Rattle.qc_msg.specs.declared.turn.Posting.{Posting}
-use Rattle.qc_msg.specs.declared.turn.Turn.{Turn}
-use Rattle.laws_refinement.specs.Vocabulary.{Backed, SiteMirrors}
-use Rattle.laws_votes.proofs.Live.{live}
-use Rattle.laws_votes.proofs.Splits.{snoc_same}
-use Rattle.qc_promise.specs.Vocabulary.{ClientRequest, Current, Kept, account, fits_record, promise_due}
-use Rattle.theory_machine.specs.Vocabulary.{Active, State, Voting, epoch_from, items_of, site_after}
-use Rattle.laws_reach.proofs.Stood.{in_site}
-use Rattle.laws_reach.specs.Vocabulary.{HasTaken}
-use Rattle.qc_script.specs.Vocabulary.{IsScriptFor, RunsWithFalls}
-use Rattle.qc_script.specs.declared.script.Script.{Script}
-use Rattle.qc_site.specs.Vocabulary.{SiteState, closed_fault, fault_of, life_fault, moved, names_declared, passed}
-use Rattle.qc_site.specs.Vocabulary.{promise_of, requested, site_at, site_takes}
+use Rattle.qc_site.specs.Vocabulary.{SiteState, closed_fault, fault_of, life_fault, moved, names_declared, requested}
+use Rattle.qc_site.specs.Vocabulary.{site_at}
 use Rattle.qc_stamp.specs.declared.stamp.TxId.{TxId}
-use Rattle.laws_votes.proofs.Holding.{IsGrantedIn, granted, granted_below, is_held_with, still_held}
-use Rattle.laws_votes.proofs.LifeGrounds.{has_life_grounds}
-use Rattle.laws_votes.proofs.LivesAdded.{HasParticipant}
 
 -- a request of an earlier epoch, or one that names another life, is refused for that
 
@@ -147,7 +103,3 @@ life_before decl a ds b n (lives.crashes before m life up) is = absurd (let neve
 life_before decl a ds b n (lives.rises before records turn m first life up above lawful) is =
     absurd (let never : ⊥ = cc in never)
 life_before decl a ds b n (lives.unopened before cause m life up by_disk) is = absurd (let never : ⊥ = cc in never)
-
-pub every_front : {A : Type 0} (P : A → Type 0) (xs ys : List A) → Every P (xs ++ ys) → Every P xs
-every_front P [] ys all = tt
-every_front P (x ∷ xs) ys all = (all.0, every_front P xs ys all.1)

@@ -13,8 +13,6 @@ use Rattle.qc_core.proofs.ByNumber.{rises_by}
 use Rattle.qc_decl.specs.Vocabulary.{IsAccepted, is_client, is_site}
 use Rattle.qc_decl.specs.declared.declaration.Declaration.{Declaration}
 use Rattle.laws_votes.proofs.Clients.{client_at}
-use Rattle.laws_turns.proofs.Places.{slice_get-set_same}
-use Rattle.laws_turns.proofs.Downs.{due}
 use Rattle.qc_msg.proofs.DeedsGrow.{deeds-append, deeds-rose}
 use Rattle.qc_msg.specs.Vocabulary.{Deed, Entry, HasRecord, MayEnd, Takes, by, deeds, mail, marked, posted_as, sents}
 use Rattle.qc_msg.specs.Vocabulary.{step_of, told}
@@ -34,12 +32,14 @@ use Rattle.qc_msg.specs.declared.turn.Turn.{Turn}
 use Rattle.laws_guarantees.proofs.Moments.{First, Second, split}
 use Rattle.laws_votes.specs.Vocabulary.{EndsTurn, IsRunWithout, unknown_fall}
 use Rattle.qc_promise.specs.Vocabulary.{Kept}
-use Rattle.laws_reach.proofs.RunsStand.{kept_of_first}
 use Rattle.qc_script.specs.Vocabulary.{IsScriptFor, RunsWithFalls, begins, control, damaged, falls, phase, phase_of}
 use Rattle.qc_script.specs.Vocabulary.{posts, rises, takes, unopened}
 use Rattle.qc_script.specs.declared.script.Script.{Script}
 use Rattle.laws_votes.proofs.Untold.{reply_of, tells, silent_none, silent_one, silent_taken, silent_line}
 use Rattle.laws_votes.proofs.RepliesLast.{IsToldIn, told_in, at_end, as_failed, as_stopped}
+use Rattle.qc_core.proofs.PostsByTurns.{called_turn}
+use Rattle.qc_list.proofs.Places.{slice_get-set_same}
+use Rattle.qc_promise.proofs.Posts.{kept_part}
 
 -- a turn that tells nothing
 never_told : (end : Appended) (b n : ℕ) (turn : Turn) → turn.told ≡ None → turn.failed_told ≡ None
@@ -189,7 +189,7 @@ module _ (fits : ℕ → List Record → Type 0) (decl : Declaration) (script : 
           (deeds-append b [] older (post.by b (steps.Rose rs ∷ []))
           ∙ ap (λ (v : List Deed). deeds b [] older ++ v) (deeds-rose b (mail older) rs))
           ∙ actor_laws.rises decl b (deeds b [] older) rs))
-          ∙ due decl b (deeds b [] (older ++ marked b (steps.Rose rs) ∷ [])) turn law
+          ∙ called_turn decl b (deeds b [] (older ++ marked b (steps.Rose rs) ∷ [])) turn law
 
       by : (s c : Bool) → (rises_by decl b rs s c).turn ≡ with_record turn
           → (turn.told ≡ None) × (turn.failed_told ≡ None)
@@ -207,7 +207,7 @@ module _ (fits : ℕ → List Record → Type 0) (decl : Declaration) (script : 
       elim (split older (marked b (step_of g) ∷ []) before (tells a reply) after is) [
         | First m s ↦
             ends_more older _ a before reply (replies_end_their_turns_through_falls older slots run
-            (kept_of_first older _ kept) before a reply m client s)
+            (kept_part older _ kept) before a reply m client s)
         | Second m e s ↦ absurd (silent_none _ (silent_one (marked b (step_of g)) (silent_taken g)) m a reply after s)
       ]
   replies_end_their_turns_through_falls h inputs (posts b turn slots older run taken law)
@@ -215,7 +215,7 @@ module _ (fits : ℕ → List Record → Type 0) (decl : Declaration) (script : 
       elim (split older (by b (posted_as turn.append (length (mail older)) turn)) before (tells a reply) after is) [
         | First m s ↦
             ends_more older _ a before reply (replies_end_their_turns_through_falls older slots run
-            (kept_of_first older _ kept) before a reply m client s)
+            (kept_part older _ kept) before a reply m client s)
         | Second m e s ↦ at m e s (actor_of (told_in turn.append b (length (mail older)) turn m a reply after s))
       ]
     where
@@ -233,7 +233,7 @@ module _ (fits : ℕ → List Record → Type 0) (decl : Declaration) (script : 
           (sym e)
           (subst (λ (c : ℕ). Ends (older ++ by b (posted_as turn.append (length (mail older)) turn)) c (older ++ m)
           reply) same
-          (posted older slots run (kept_of_first older _ kept) b turn taken law m reply after
+          (posted older slots run (kept_part older _ kept) b turn taken law m reply after
           (subst (λ (c : ℕ). is_client decl c ≡ true) (sym same) client)
           (s ∙ ap (λ (c : ℕ). m ++ tells c reply ∷ after) (sym same))))
   replies_end_their_turns_through_falls h inputs (phase slots older run idle done quiet more)
@@ -241,7 +241,7 @@ module _ (fits : ℕ → List Record → Type 0) (decl : Declaration) (script : 
       elim (split older (marked _ (steps.Phase (phase_of older + 1)) ∷ []) before (tells a reply) after is) [
         | First m s ↦
             ends_more older _ a before reply (replies_end_their_turns_through_falls older slots run
-            (kept_of_first older _ kept) before a reply m client s)
+            (kept_part older _ kept) before a reply m client s)
         | Second m e s ↦
             absurd (silent_none _ (silent_one (marked _ (steps.Phase (phase_of older + 1))) refl) m a reply after s)
       ]
@@ -250,7 +250,7 @@ module _ (fits : ℕ → List Record → Type 0) (decl : Declaration) (script : 
       elim (split older (marked _ acted ∷ []) before (tells a reply) after is) [
         | First m s ↦
             ends_more older _ a before reply (replies_end_their_turns_through_falls older slots run
-            (kept_of_first older _ kept) before a reply m client s)
+            (kept_part older _ kept) before a reply m client s)
         | Second m e s ↦
             absurd (silent_none _ (silent_one (marked _ acted) (silent_line line acted acts)) m a reply after s)
       ]
@@ -259,7 +259,7 @@ module _ (fits : ℕ → List Record → Type 0) (decl : Declaration) (script : 
       elim (split older (marked b (steps.Fell causes.Script None) ∷ []) before (tells a reply) after is) [
         | First m s ↦
             ends_more older _ a before reply (replies_end_their_turns_through_falls older slots run
-            (kept_of_first older _ kept) before a reply m client s)
+            (kept_part older _ kept) before a reply m client s)
         | Second m e s ↦
             absurd (silent_none _ (silent_one (marked b (steps.Fell causes.Script None)) refl) m a reply after s)
       ]
@@ -269,7 +269,7 @@ module _ (fits : ℕ → List Record → Type 0) (decl : Declaration) (script : 
       after is) [
         | First m s ↦
             ends_more older _ a before reply (replies_end_their_turns_through_falls older slots run
-            (kept_of_first older _ kept) before a reply m client s)
+            (kept_part older _ kept) before a reply m client s)
         | Second m e s ↦ absurd (never m s)
       ]
     where
@@ -290,6 +290,6 @@ module _ (fits : ℕ → List Record → Type 0) (decl : Declaration) (script : 
       elim (split older (marked b (steps.Fell cause None) ∷ []) before (tells a reply) after is) [
         | First m s ↦
             ends_more older _ a before reply (replies_end_their_turns_through_falls older slots run
-            (kept_of_first older _ kept) before a reply m client s)
+            (kept_part older _ kept) before a reply m client s)
         | Second m e s ↦ absurd (silent_none _ (silent_one (marked b (steps.Fell cause None)) refl) m a reply after s)
       ]

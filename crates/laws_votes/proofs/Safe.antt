@@ -18,7 +18,6 @@ use Rattle.qc_msg.specs.declared.message.Message.TheVariants as messages
 use Rattle.qc_msg.specs.declared.message.Want.TheVariants.{Prepare}
 use Rattle.qc_msg.specs.declared.record.Record.{Record}
 use Rattle.laws_refinement.specs.Vocabulary.{IsRequest, IsVoteTo, KeptMirrors}
-use Rattle.laws_refinement.proofs.Machine.{slice_get-append}
 use Rattle.laws_guarantees.proofs.FirstGrants.{KeepsLives}
 use Rattle.laws_guarantees.proofs.Settled.{IsSafe}
 use Rattle.laws_votes.proofs.Live.{IsParticipant, participant}
@@ -28,6 +27,7 @@ use Rattle.theory_machine.specs.Vocabulary.{Granted, State, StateLaws, YesVote}
 use Rattle.qc_recover.specs.Vocabulary.{kept_by}
 use Rattle.qc_script.specs.Vocabulary.{IsScriptFor, RunsWithFalls}
 use Rattle.qc_script.specs.declared.script.Script.{Script}
+use Rattle.qc_list.proofs.Places.{slice_get-more}
 
 module _ (fits : ℕ → List Record → Type 0) (decl : Declaration) (script : Script) (h : List Entry)
     (open_inputs : List Bool) (accepted : IsAccepted decl) (sound : IsScriptFor decl script)
@@ -123,7 +123,7 @@ module _ (fits : ℕ → List Record → Type 0) (decl : Declaration) (script : 
               late_at : (e : Envelope) → slice_get (mail h) p.number ≡ Some e → slice_get (mail late) p.number ≡ Some e
               late_at e found = subst (λ (ms : List Envelope). slice_get ms p.number ≡ Some e)
                   (sym (mail-append h middle) ∙ ap mail later)
-                  (slice_get-append (mail h) (mail middle) p.number e found)
+                  (slice_get-more (mail h) (mail middle) p.number e found)
 
       -- or it is cast later, in the life that its request names
       cast_later : IsCastSince h late p.vote.from p.number → then.life g.site ≡ g.life

@@ -12,6 +12,7 @@ use Rattle.qc_msg.specs.declared.step.Fall.TheVariants as causes
 use Rattle.qc_promise.specs.Vocabulary.{Account, Act, AreDeedsDue, Fell, IsGivenBack, Journal, Sent, Told, Wrote}
 use Rattle.qc_promise.specs.Vocabulary.{account_at, fallen_in, posted_due, posted_next, rising_turn}
 use Rattle.qc_recover.specs.Clients.{Kept, keeps, kept_by, nothing_kept}
+use Rattle.laws_reach.proofs.StatusFalls.{grows}
 
 abbrev pub life_of : List Record → ℕ
 life_of rs = (kept_by rs).life
@@ -27,14 +28,9 @@ life_one k (records.Install start) = omega arith
 life_one k (records.Commit commit) = omega arith
 life_one k (records.Decide start) = omega arith
 
-life_more : (k : Kept) (rs : List Record) → k.life ≤ (fold keeps k rs).life
-life_more k [] = omega arith
-life_more k (r ∷ rs) = let one : k.life ≤ (keeps k r).life = life_one k r in
-    let more : (keeps k r).life ≤ (fold keeps (keeps k r) rs).life = life_more (keeps k r) rs in omega arith
-
 life_append : (rs more : List Record) → life_of rs ≤ life_of (rs ++ more)
 life_append rs more = subst (λ (k : Kept). life_of rs ≤ k.life) (sym (fold-append keeps nothing_kept rs more))
-    (life_more (kept_by rs) more)
+    (grows (kept_by rs) more)
 
 life_same : (rs : List Record) → life_of rs ≤ life_of rs
 life_same rs = omega arith

@@ -3,7 +3,6 @@ use Rattle.std.proofs.Common.{◌≡◌, ◌≤◌, ℕ, Bool, true, false, List
 use Rattle.std.proofs.Common.{ltb-true}
 use Rattle.qc_core.specs.Vocabulary.{IsLawfulWithFalls, IsShown, is_up}
 use Rattle.qc_core.proofs.SiteLines.{began_shows}
-use Rattle.qc_core.specs.declared.actor.Actor.TheVariants as actor
 use Rattle.qc_decl.specs.Vocabulary.{IsAccepted, actors, is_site}
 use Rattle.qc_decl.specs.declared.declaration.Declaration.{Declaration}
 use Rattle.qc_entry.specs.Vocabulary.{union}
@@ -20,10 +19,7 @@ use Rattle.qc_promise.specs.Vocabulary.{Kept, clock_shown, log_shown}
 use Rattle.laws_reach.proofs.Stood.{in_site}
 use Rattle.qc_script.specs.Vocabulary.{IsScriptFor, RunsWithFalls}
 use Rattle.qc_script.specs.declared.script.Script.{Script}
-use Rattle.qc_site.specs.Vocabulary.{SiteState}
-
-pub same_site : (s t : SiteState) → actor.Site s ≡ actor.Site t → s ≡ t
-same_site s t is = let same : s ≡ t = cc in same
+use Rattle.laws_reach.proofs.RunLaws.{same_site}
 
 module _ (fits : ℕ → List Record → Type 0) (decl : Declaration) (script : Script) (h : List Entry)
     (open_inputs : List Bool) (accepted : IsAccepted decl) (sound : IsScriptFor decl script)

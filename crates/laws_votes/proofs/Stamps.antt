@@ -10,7 +10,7 @@ use Rattle.qc_decl.specs.declared.declaration.Declaration.{Declaration}
 use Rattle.laws_due.proofs.KeptPlanned.{runs_with_falls_are_due_where_records_are_kept}
 use Rattle.qc_entry.specs.declared.record.Commit.{Commit as CommitRecord}
 use Rattle.laws_guarantees.proofs.ClockLaw.{counted_passes, reply_clock, sent_clock, take_clock, written_clock}
-use Rattle.laws_guarantees.proofs.DueStamps.{do_stamp, none_some, stamp_of}
+use Rattle.laws_guarantees.proofs.DueStamps.{do_stamp, stamp_of}
 use Rattle.laws_guarantees.specs.Vocabulary.{IsCounted}
 use Rattle.laws_votes.proofs.Clients.{IsNumbered, numbered}
 use Rattle.laws_votes.specs.Vocabulary.{IsCountedInLife, IsRecorded}
@@ -32,6 +32,7 @@ use Rattle.qc_promise.specs.Vocabulary.{row_of, vote_row}
 use Rattle.qc_script.specs.Vocabulary.{IsScriptFor, RunsWithFalls}
 use Rattle.qc_script.specs.declared.script.Script.{Script}
 use Rattle.qc_stamp.specs.declared.stamp.Stamp.{Stamp}
+use Rattle.laws_due.proofs.Unwritten.{none_some}
 
 module _ (decl : Declaration) where
   -- a commit that is due has the stamp that comes next

@@ -29,6 +29,7 @@ use Rattle.qc_promise.specs.Vocabulary.{with_deed}
 use Rattle.qc_stamp.proofs.Orders.{same_tx_is, same_tx_itself}
 use Rattle.qc_stamp.specs.Vocabulary.{same_tx}
 use Rattle.qc_stamp.specs.declared.stamp.TxId.{TxId}
+use Rattle.qc_list.proofs.Booleans.{or_second, or_parts}
 
 -- an element of two lists that are appended stands in the first or in the second
 data IsIn {A : Type 0} (xs ys before : List A) (x : A) (after : List A) : Type 0 where
@@ -54,33 +55,25 @@ placed x [] among = absurd among
 placed x (y ∷ ys) (inl same) = ([], ys, (λ i. sym same i ∷ ys))
 placed x (y ∷ ys) (inr there) = let p = placed x ys there in (y ∷ p.0, p.1, ap (λ (k : List _). y ∷ k) p.2)
 
-false_both : (x y : Bool) → (x || y) ≡ false → (x ≡ false) × (y ≡ false)
-false_both true y is = absurd (let never : ⊥ = cc in never)
-false_both false y is = (refl, is)
-
 both_false : (x y : Bool) → x ≡ false → y ≡ false → (x || y) ≡ false
 both_false x y one two = ap (λ (b : Bool). b || y) one ∙ two
-
-true_second : (x y : Bool) → y ≡ true → (x || y) ≡ true
-true_second true y is = refl
-true_second false y is = is
 
 any_first : {A : Type 0} (test : A → Bool) (xs ys : List A) → list_any test (xs ++ ys) ≡ false
     → list_any test xs ≡ false
 any_first test [] ys none = refl
 any_first test (x ∷ xs) ys none =
-    let both = false_both (test x) (list_any test (xs ++ ys)) none in
+    let both = or_parts (test x) (list_any test (xs ++ ys)) none in
     both_false (test x) (list_any test xs) both.0 (any_first test xs ys both.1)
 
 any_second : {A : Type 0} (test : A → Bool) (xs ys : List A) → list_any test (xs ++ ys) ≡ false
     → list_any test ys ≡ false
 any_second test [] ys none = none
-any_second test (x ∷ xs) ys none = any_second test xs ys (false_both (test x) (list_any test (xs ++ ys)) none).1
+any_second test (x ∷ xs) ys none = any_second test xs ys (or_parts (test x) (list_any test (xs ++ ys)) none).1
 
 any_among : {A : Type 0} (test : A → Bool) (x : A) (xs : List A) → In x xs → test x ≡ true → list_any test xs ≡ true
 any_among test x [] among is = absurd among
 any_among test x (y ∷ ys) (inl same) is = ap (λ (b : Bool). b || list_any test ys) (ap test (sym same) ∙ is)
-any_among test x (y ∷ ys) (inr there) is = true_second (test y) (list_any test ys) (any_among test x ys there is)
+any_among test x (y ∷ ys) (inr there) is = or_second (test y) (list_any test ys) (any_among test x ys there is)
 
 -- an actor's records are those that it rose with, and those that it wrote since
 
@@ -149,7 +142,7 @@ unfreed tx (Takes g ∷ ds) none never = both_false (frees tx (Takes g)) (is_ove
     (taken_over tx g (λ e is. never e (inl (ap (λ (x : Input). Takes x) (sym is)))))
     (unfreed tx ds none (λ e among. never e (inr among)))
 unfreed tx (Writes w ∷ ds) none never = let both =
-    false_both (redeems tx w) (list_any (redeems tx) (filter_map written_in ds)) none in
+    or_parts (redeems tx w) (list_any (redeems tx) (filter_map written_in ds)) none in
     both_false (redeems tx w) (is_over tx ds) both.0 (unfreed tx ds both.1 (λ e among. never e (inr among)))
 unfreed tx (Sends n to m ∷ ds) none never = unfreed tx ds none (λ e among. never e (inr among))
 unfreed tx (Tells reply ∷ ds) none never = unfreed tx ds none (λ e among. never e (inr among))

@@ -13,21 +13,21 @@ use Rattle.qc_msg.specs.declared.message.Message.TheVariants as messages
 use Rattle.qc_msg.specs.declared.message.Want.{Want}
 use Rattle.qc_msg.specs.declared.step.Input.{Input}
 use Rattle.qc_msg.specs.declared.step.Input.TheVariants as inputs
-use Rattle.qc_msg.specs.Vocabulary.{Deed, Takes, has_granted, life_of}
+use Rattle.qc_msg.specs.Vocabulary.{Deed, Takes, has_granted, life_of, grant_with}
 use Rattle.qc_promise.specs.Vocabulary.{Account, ClientRequest, Current, account_heard, account_taken, counted}
 use Rattle.qc_promise.specs.Vocabulary.{counted_for, is_open, taken_for, told_by}
 use Rattle.qc_entry.specs.declared.line.Line.{Line}
 use Rattle.qc_msg.specs.declared.message.Answer.TheVariants as answers
 use Rattle.qc_msg.specs.declared.message.Envelope.{Envelope}
 use Rattle.qc_msg.specs.declared.message.Want.TheVariants.{Prepare}
-use Rattle.qc_msg.specs.Vocabulary.{grant_with}
-use Rattle.laws_guarantees.proofs.Accounts.{HasGrounds, WasSent, WasTaken, after_taken, and_first, found_in, sent_more}
+use Rattle.laws_guarantees.proofs.Accounts.{HasGrounds, WasSent, WasTaken, after_taken, found_in, sent_more}
 use Rattle.laws_guarantees.proofs.Accounts.{told_requests}
 use Rattle.laws_guarantees.proofs.SiteMoves.{IsFull}
 use Rattle.laws_guarantees.proofs.FirstGrants.{life_added}
 use Rattle.laws_votes.proofs.LivesAdded.{IsToldLife, HasParticipant, HasLifeGrounds, told_more, same_now, same_grounds}
 use Rattle.laws_votes.proofs.LivesAdded.{bare_grounds, not_yet, HasOneMore}
 use Rattle.laws_votes.proofs.LivesTold.{IsChangedBy, told_changed, told_forward}
+use Rattle.qc_list.proofs.Booleans.{and_first}
 
 -- something is taken, and counts
 

@@ -19,7 +19,6 @@ use Rattle.laws_guarantees.proofs.Against.{IsForgottenVote, due_why}
 use Rattle.laws_votes.proofs.Stamps.{client_due, due_behind}
 use Rattle.qc_mailbox.proofs.FallMail.{ready_messages_were_sent_through_falls}
 use Rattle.laws_turns.proofs.Acted.{deeds-silent}
-use Rattle.laws_turns.proofs.Downs.{due as lawful_due}
 use Rattle.laws_turns.proofs.Numbered.{IsSilent, phase_silent}
 use Rattle.qc_link.specs.Vocabulary.{most_actors}
 use Rattle.qc_list.specs.Vocabulary.{In}
@@ -43,7 +42,6 @@ use Rattle.qc_msg.specs.declared.turn.Appended.{Appended}
 use Rattle.qc_msg.specs.declared.turn.Appended.TheVariants as ends
 use Rattle.qc_msg.specs.declared.turn.Posting.{Posting}
 use Rattle.qc_msg.specs.declared.turn.Turn.{Turn}
-use Rattle.theory_onecopy.proofs.Lists.{in_split}
 use Rattle.qc_promise.specs.Vocabulary.{Account, AreByTurns, AreDeedsDue, AreRepliesDue, Current, Kept, Place}
 use Rattle.qc_promise.specs.Vocabulary.{account_of, are_votes_in, commit_row, due, first_against, goes_on}
 use Rattle.qc_promise.specs.Vocabulary.{is_declared_for, is_prepare, new_account, pending_next, place_after, reply_to}
@@ -54,6 +52,8 @@ use Rattle.laws_reach.specs.Vocabulary.{TakesInputs}
 use Rattle.qc_script.specs.Vocabulary.{IsScriptFor, RunsWithFalls, begins, control, damaged, falls, phase, phase_of}
 use Rattle.qc_script.specs.Vocabulary.{posts, rises, takes, unopened}
 use Rattle.qc_script.specs.declared.script.Script.{Script}
+use Rattle.qc_core.proofs.PostsByTurns.{called_turn}
+use Rattle.qc_list.proofs.Members.{In-either}
 
 -- where an element stands
 pub in_place : {A : Type 0} (x : A) (xs : List A) → In x xs
@@ -178,7 +178,7 @@ module _ (decl : Declaration) (script : Script) (fits : ℕ → List Record → 
     where
       at : (t : Bool) → (c == a) ≡ t → IsMute (deeds a [] (h ++ by c xs))
       at true is = λ why among.
-          elim (in_split (Tells (replies.Aborted why)) (deeds a [] h) new
+          elim (In-either (Tells (replies.Aborted why)) (deeds a [] h) new
           (subst (In (Tells (replies.Aborted why)))
           (subst (λ (k : ℕ). deeds k [] (h ++ by c xs) ≡ deeds k [] h ++ new) (eqb-true c a is) same) among)) [
             | inl before ↦ old why before
@@ -204,7 +204,7 @@ module _ (decl : Declaration) (script : Script) (fits : ℕ → List Record → 
       → IsMute (deeds_as turn.append n turn)
   his_mute c n ds turn law same =
       let m : IsAdminMove (actor_after decl c ds) = his_move c ds turn law same in
-      let is : (actor_after decl c ds).turn ≡ with_record turn = lawful_due decl c ds turn law in
+      let is : (actor_after decl c ds).turn ≡ with_record turn = called_turn decl c ds turn law in
       turn_mute turn.append n turn (subst SaysAsAdmin (ap (λ (t : Turn). t.told) is) m.says)
       (subst SaysAsAdmin (ap (λ (t : Turn). t.failed_told) is) m.fails_say)
 

@@ -18,7 +18,6 @@ use Rattle.laws_guarantees.proofs.Accounts.{WasSent}
 use Rattle.laws_guarantees.proofs.RequestGrounds.{has_grounds}
 use Rattle.laws_guarantees.proofs.Mailed.{sent_as, sent_mail}
 use Rattle.laws_guarantees.proofs.ForgettingAnswers.{Forgets}
-use Rattle.laws_guarantees.proofs.Stale.{below_length}
 use Rattle.laws_guarantees.proofs.AccountsStay.{account_silent}
 use Rattle.laws_guarantees.specs.Vocabulary.{IsOpenVote}
 use Rattle.laws_votes.proofs.Nets.{at_number, net}
@@ -26,8 +25,7 @@ use Rattle.qc_mailbox.proofs.FallMail.{ready_messages_were_sent_through_falls}
 use Rattle.laws_turns.proofs.Numbered.{IsSilent, mail-silent, phase_silent}
 use Rattle.qc_link.specs.Vocabulary.{most_actors}
 use Rattle.qc_list.specs.Vocabulary.{In}
-use Rattle.qc_list.proofs.Members.{In-first, In-second}
-use Rattle.laws_turns.proofs.Downs.{due}
+use Rattle.qc_list.proofs.Members.{In-first, In-second, In-either}
 use Rattle.laws_turns.proofs.LivedMoves.{deeds-fall, line_silent}
 use Rattle.qc_msg.proofs.GrownMail.{mail-append, mail-taken}
 use Rattle.qc_msg.proofs.Growth.{deeds-posted_as, deeds-taken, mail-posted_as}
@@ -47,9 +45,7 @@ use Rattle.qc_msg.specs.declared.turn.Appended.{Appended}
 use Rattle.qc_msg.specs.declared.turn.Appended.TheVariants as ends
 use Rattle.qc_msg.specs.declared.turn.Posting.{Posting}
 use Rattle.qc_msg.specs.declared.turn.Turn.{Turn}
-use Rattle.theory_onecopy.proofs.Lists.{in_split}
 use Rattle.qc_promise.specs.Vocabulary.{ClientRequest, Current, Kept, account, commits_by, records}
-use Rattle.laws_reach.proofs.RunsStand.{kept_of_first}
 use Rattle.laws_reach.proofs.Stood.{in_site}
 use Rattle.laws_reach.specs.Vocabulary.{HasTaken}
 use Rattle.qc_script.specs.Vocabulary.{IsScriptFor, RunsWithFalls, begins, control, damaged, falls, phase, phase_of}
@@ -60,12 +56,15 @@ use Rattle.laws_votes.proofs.Answering.{never_forgotten}
 use Rattle.laws_votes.proofs.Holding.{granted}
 use Rattle.laws_votes.proofs.LifeGrounds.{has_life_grounds}
 use Rattle.laws_votes.proofs.LivesAdded.{HasParticipant}
+use Rattle.qc_core.proofs.PostsByTurns.{called_turn}
+use Rattle.qc_list.proofs.Places.{place_within}
+use Rattle.qc_promise.proofs.Posts.{kept_part}
 
 -- a history that goes on keeps its committed records
 pub records_more : (decl : Declaration) (h k : List Entry) (c : CommitRecord) → In c (records decl h)
     → In c (records decl (h ++ k))
 records_more decl [] k c among = absurd among
-records_more decl (e ∷ h) k c among = elim (in_split c (commits_by decl e) (records decl h) among) [
+records_more decl (e ∷ h) k c among = elim (In-either c (commits_by decl e) (records decl h) among) [
   | inl here ↦ In-first c (commits_by decl e) (records decl (h ++ k)) here
   | inr there ↦ In-second c (commits_by decl e) (records decl (h ++ k)) (records_more decl h k c there)
 ]
@@ -121,7 +120,7 @@ module _ (fits : ℕ → List Record → Type 0) (decl : Declaration) (script : 
       turn_is = ap (λ (m : ActorMove). m.turn)
           (sym (taking.is ∙ ap (λ (v : Actor). actor_takes decl v taking.given)
           (in_site decl (net fits decl script h inputs accepted sound run kept) b site)))
-          ∙ due decl b (deeds b [] h) turn law
+          ∙ called_turn decl b (deeds b [] h) turn law
 
       pub post_remembers : ⊥
       post_remembers = by turn.append among
@@ -148,7 +147,7 @@ module _ (fits : ℕ → List Record → Type 0) (decl : Declaration) (script : 
           (opens_posted decl turn.append (account decl b h) (length (mail h)) turn);
       low = λ p n x among is forgets. (let of : IsOfTaken h b n =
           answers_of_taken decl script fits few h inputs run b turn taken law p n x among is in
-          below_length (mail h) n of.envelope of.sent);
+          place_within (mail h) n of.envelope of.sent);
       remembers = λ a q client vote p x among is forgets. post_remembers a client q vote p x among is forgets;
     }
 
@@ -191,38 +190,38 @@ module _ (fits : ℕ → List Record → Type 0) (decl : Declaration) (script : 
   unforgotten h inputs (takes b g slots older run free rdy) kept all =
       grown decl older b (step_of g ∷ []) (take_event older b g
       (ready_messages_were_sent_through_falls (IsLawfulWithFalls decl) fits decl script older slots run b g rdy))
-      (unforgotten older slots run (kept_of_first older _ kept)
+      (unforgotten older slots run (kept_part older _ kept)
       (λ c among. all c (records_more decl older (marked b (step_of g) ∷ []) c among)))
   unforgotten h inputs (posts b turn slots older run taken law) kept all =
       let was : AreAll older = (λ c among. all c
       (records_more decl older (by b (posted_as turn.append (length (mail older)) turn)) c among)) in
       grown decl older b (posted_as turn.append (length (mail older)) turn)
-      (post_event older slots run (kept_of_first older _ kept) was b turn taken law)
-      (unforgotten older slots run (kept_of_first older _ kept) was)
+      (post_event older slots run (kept_part older _ kept) was b turn taken law)
+      (unforgotten older slots run (kept_part older _ kept) was)
   unforgotten h inputs (phase slots older run none done quiet more) kept all =
       grown decl older (controller decl) (steps.Phase (phase_of older + 1) ∷ [])
       (still_event older (controller decl) (steps.Phase (phase_of older + 1)) (phase_silent (phase_of older + 1)))
-      (unforgotten older slots run (kept_of_first older _ kept)
+      (unforgotten older slots run (kept_part older _ kept)
       (λ c among. all c (records_more decl older
       (marked (controller decl) (steps.Phase (phase_of older + 1)) ∷ []) c among)))
   unforgotten h inputs (control line lines step slots older run left is) kept all =
       grown decl older (controller decl) (step ∷ [])
       (still_event older (controller decl) step (line_silent line step is))
-      (unforgotten older slots run (kept_of_first older _ kept)
+      (unforgotten older slots run (kept_part older _ kept)
       (λ c among. all c (records_more decl older (marked (controller decl) step ∷ []) c among)))
   unforgotten h inputs (falls b lines slots older run left) kept all =
       grown decl older b (steps.Fell causes.Script None ∷ []) (fall_event older b causes.Script)
-      (unforgotten older slots run (kept_of_first older _ kept)
+      (unforgotten older slots run (kept_part older _ kept)
       (λ c among. all c (records_more decl older (marked b (steps.Fell causes.Script None) ∷ []) c among)))
   unforgotten h inputs (rises b rs turn lines slots older run left fit has law) kept all =
       grown decl older b (steps.Rose rs ∷ posted_as turn.append (length (mail older)) turn)
       (rise_event older b rs turn law)
-      (unforgotten older slots run (kept_of_first older _ kept)
+      (unforgotten older slots run (kept_part older _ kept)
       (λ c among. all c (records_more decl older
       (by b (steps.Rose rs ∷ posted_as turn.append (length (mail older)) turn)) c among)))
   unforgotten h inputs (damaged b offset lines slots older run left) kept all =
       absurd (kept older [] (marked b (steps.Damaged offset)) refl)
   unforgotten h inputs (unopened b cause lines slots older run left disk) kept all =
       grown decl older b (steps.Fell cause None ∷ []) (fall_event older b cause)
-      (unforgotten older slots run (kept_of_first older _ kept)
+      (unforgotten older slots run (kept_part older _ kept)
       (λ c among. all c (records_more decl older (marked b (steps.Fell cause None) ∷ []) c among)))

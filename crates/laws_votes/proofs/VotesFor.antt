@@ -5,7 +5,7 @@ use Rattle.std.specs.Prelude.{option_and_then}
 use Rattle.std.specs.List.{list_all}
 use Rattle.std.specs.Option.{option_or}
 use Rattle.qc_decl.specs.declared.declaration.Declaration.{Declaration}
-use Rattle.laws_guarantees.proofs.DueStamps.{do_stamp, none_some, stamp_of}
+use Rattle.laws_guarantees.proofs.DueStamps.{do_stamp, stamp_of}
 use Rattle.qc_list.specs.Vocabulary.{In}
 use Rattle.qc_msg.specs.declared.message.Answer.{Answer}
 use Rattle.qc_msg.specs.declared.message.Answer.TheVariants as answers
@@ -18,6 +18,8 @@ use Rattle.qc_promise.specs.Vocabulary.{Account, ClientRequest, Current, against
 use Rattle.qc_promise.specs.Vocabulary.{first_against, is_open, is_prepare, participants, requests_for, row_of}
 use Rattle.qc_promise.specs.Vocabulary.{running_row, taken_for, vote_row}
 use Rattle.qc_stamp.specs.declared.stamp.Stamp.{Stamp}
+use Rattle.laws_due.proofs.Unwritten.{none_some}
+use Rattle.qc_list.proofs.Booleans.{and_parts}
 
 -- a vote that isn't against, and is in, is for
 
@@ -62,10 +64,6 @@ all_taken (p ∷ qs) all q among = by (is_some p.taken) refl all among (all_take
     by true at rest (inr later) more = more rest q later
     by false at rest here more = absurd (let never : ⊥ = cc in never)
 
-both_true : (x y : Bool) → (x && y) ≡ true → (x ≡ true) × (y ≡ true)
-both_true true y is = (refl, is)
-both_true false y is = absurd (let never : ⊥ = cc in never)
-
 -- the row of a commit is Committed
 
 pub record IsVotedFor (decl : Declaration) (d : Account) (t : Current) : Type 0 where
@@ -81,7 +79,7 @@ module _ (decl : Declaration) where
   voted d t command current in_all none =
       let both : ((length (participants decl d t) == length (requests_for is_prepare d)) ≡ true)
       × (list_all (λ (q : ClientRequest). is_some q.taken) (requests_for is_prepare d) ≡ true) =
-      both_true (length (participants decl d t) == length (requests_for is_prepare d))
+      and_parts (length (participants decl d t) == length (requests_for is_prepare d))
       (list_all (λ (q : ClientRequest). is_some q.taken) (requests_for is_prepare d)) in_all in
       record {
         command = command;

@@ -16,7 +16,7 @@ use Rattle.qc_list.specs.Vocabulary.{In}
 use Rattle.qc_list.proofs.Members.{In-second}
 use Rattle.qc_entry.specs.declared.record.Prepared.{Prepared}
 use Rattle.qc_msg.specs.declared.step.Step.TheVariants as steps
-use Rattle.laws_turns.proofs.Downs.{due, who_is_down_only_tells}
+use Rattle.laws_turns.proofs.Downs.{who_is_down_only_tells}
 use Rattle.qc_msg.proofs.DeedsGrow.{deeds-append, deeds-rose}
 use Rattle.qc_msg.proofs.Growth.{deeds-posted_as}
 use Rattle.qc_msg.specs.Vocabulary.{Deed, Entry, HasRecord, MayEnd, WasSentTo, by, deeds, envelopes, mail, posted_as}
@@ -45,6 +45,7 @@ use Rattle.qc_recover.specs.Vocabulary.{kept_by, most_inquiries, site_rises}
 use Rattle.qc_site.specs.Vocabulary.{SiteMove, SiteState, closes_in, in_order, site_takes}
 use Rattle.laws_atomic.proofs.Stood.{may_come}
 use Rattle.laws_votes.proofs.VoteInputs.{IsCast, IsVote, takes_life, takes_none, fallen}
+use Rattle.qc_core.proofs.PostsByTurns.{called_turn}
 
 module _ (decl : Declaration) (accepted : IsAccepted decl) (h : List Entry) (inputs : List Bool)
     (old : Stood decl h inputs) (a : ℕ) (site : is_site decl a ≡ true) (turn : Turn) where
@@ -75,7 +76,7 @@ module _ (decl : Declaration) (accepted : IsAccepted decl) (h : List Entry) (inp
       turn_is =
           ap (λ (m : ActorMove). m.turn)
           (sym (x.is ∙ ap (λ (v : Actor). actor_takes decl v x.given) (in_site decl old.net a site)))
-          ∙ due decl a ds turn law
+          ∙ called_turn decl a ds turn law
 
       abbrev next : Net
       next = after_site old.net a move
@@ -196,7 +197,7 @@ module _ (decl : Declaration) (accepted : IsAccepted decl) (h : List Entry) (inp
           ∙ ap (actor_after decl a)
           (sym (deeds-append a [] h (by a (steps.Rose records ∷ []))
           ∙ ap (λ (v : List Deed). deeds a [] h ++ v) (deeds-rose a (mail h) records))))
-          ∙ due decl a (deeds a [] (h ++ by a (steps.Rose records ∷ []))) turn law
+          ∙ called_turn decl a (deeds a [] (h ++ by a (steps.Rose records ∷ []))) turn law
 
       by : (end : Appended) → In p (sends_as end turn) → ⊥
       by Done sent =

@@ -1,14 +1,14 @@
 -- What an answer without a fault came from.
-use Rattle.std.proofs.Common.{◌≡◌, ℕ, suc, ◌+◌, ◌≤◌, Bool, true, false, cond, ◌&&◌, List, [], ◌∷◌, ◌++◌, length, Option}
-use Rattle.std.proofs.Common.{Some, None, Ok, Err, refl, subst, arith}
-use Rattle.std.specs.Prelude.{All, nat_le, option_map, option_and_then}
-use Rattle.std.proofs.lemmas.Bool.{leb-true}
+use Rattle.std.proofs.Common.{◌≡◌, ℕ, suc, ◌+◌, ◌≤◌, cond, List, [], ◌∷◌, ◌++◌, length, Option, Some, None, Ok, Err}
+use Rattle.std.proofs.Common.{refl, subst, arith}
+use Rattle.std.specs.Prelude.{All, option_map, option_and_then}
 use Rattle.std.proofs.lemmas.List.Elements.{All-append, All-cons, All-nil}
 use Rattle.std.proofs.lemmas.Option.{cond_some}
 use Rattle.toml.specs.Data.{Data, Members, as_array}
 use Rattle.qc_list.specs.Vocabulary.{◌>>=◌}
 use Rattle.qc_accept.specs.Vocabulary.{Answer, each, items, items_between, listed, read_each, required, told}
 use Rattle.qc_decl.specs.Vocabulary.{is_between}
+use Rattle.qc_decl.proofs.Clients.{between}
 
 -- an answer of two steps: what the first gave
 pub record Came {A B : Type 0} (answer : Answer A) (next : A → Answer B) (b : B) : Type 0 where
@@ -72,17 +72,6 @@ read_each_keeps P add keeps n a (b ∷ bs) last holds is =
     found (add a b) (λ next. read_each add next bs) last is in
     subst (λ m. P m last) (let same : suc n + length bs ≡ n + length (b ∷ bs) = omega arith in same)
     (read_each_keeps P add keeps (suc n) c.value bs last (keeps n a b c.value holds c.first) c.rest)
-
--- a number between two
-pub both : (a b : Bool) → (a && b) ≡ true → (a ≡ true) × (b ≡ true)
-both true true is = (refl, refl)
-both true false is = absurd (let never : ⊥ = cc in never)
-both false b is = absurd (let never : ⊥ = cc in never)
-
-pub between : (least most n : ℕ) → is_between least most n ≡ true → (least ≤ n) × (n ≤ most)
-between least most n is =
-    let parts : (nat_le least n ≡ true) × (nat_le n most ≡ true) = both (nat_le least n) (nat_le n most) is in
-    (leb-true least n parts.0, leb-true n most parts.1)
 
 -- an array that is there has so many items
 pub so_many : (path : List ℕ) (table : Members) (key : List ℕ) (least most : ℕ) (ds : List Data)

@@ -16,11 +16,12 @@ use Rattle.qc_accept.specs.Vocabulary.{items, keys_path, kind_of, name_among, na
 use Rattle.qc_accept.specs.Vocabulary.{number, number_between, object_keys, objects_of, optional, places, places_of}
 use Rattle.qc_accept.specs.Vocabulary.{plan_in, plan_of, plans_of, read_each, required, told, weights, with_name}
 use Rattle.qc_accept.specs.Vocabulary.{with_object, with_plan, with_weight}
-use Rattle.qc_accept.proofs.Answered.{came, found, mapped, told_some, same_ok, each_keeps, read_each_keeps, between}
-use Rattle.qc_accept.proofs.Answered.{so_many, one_more}
+use Rattle.qc_accept.proofs.Answered.{came, found, mapped, told_some, same_ok, each_keeps, read_each_keeps, so_many}
+use Rattle.qc_accept.proofs.Answered.{one_more}
 use Rattle.qc_accept.proofs.Listed.{IsThreshold, list_of, needs_at, needs_long, needs_small, thresholds_long}
 use Rattle.qc_accept.proofs.Naming.{all_named, names_more, no_names}
 use Rattle.qc_accept.proofs.Kept.{among_within, name_more}
+use Rattle.qc_decl.proofs.Clients.{between}
 
 -- what holds of each holds of the one at a place
 pub all_at : {A : Type 0} (P : A → Type 0) (xs : List A) (k : ℕ) (x : A) → All P xs → slice_get xs k ≡ Some x → P x

@@ -8,8 +8,7 @@ use Rattle.std.specs.Str.{bytes_eq}
 use Rattle.std.proofs.lemmas.List.{map-append, length-map, take_more, get_or-take, length-take}
 use Rattle.qc_table.specs.declared.row.Event.{Event}
 use Rattle.qc_table.specs.Vocabulary.{same_event}
-use Rattle.qc_table.proofs.Distinct.{AreDistinct}
-use Rattle.qc_table.proofs.Numbered.{same_is, same_itself}
+use Rattle.qc_table.proofs.Distinct.{AreDistinct, flipped}
 use Rattle.qc_accept.proofs.Texts.{any_place}
 
 module _ {X Y : Type 0} (see : X → Y) (p : Y → Bool) where
@@ -45,14 +44,6 @@ name_inserted keys after text is_new new is = (
     by true true e i = absurd (let never : ⊥ = cc in never)
     by false false e i = absurd (let never : ⊥ = cc in never)
 
--- events that differ one way differ the other way
-apart_back : (a b : Event) → same_event b a ≡ false → same_event a b ≡ false
-apart_back a b differ = by (same_event a b) refl
-  where
-    by : (t : Bool) → same_event a b ≡ t → t ≡ false
-    by true is = let whole : a ≡ b = same_is a b is in sym (same_itself a) ∙ ap (λ e. same_event e a) whole ∙ differ
-    by false is = refl
-
 -- none of the distinct events before one is the same
 pub event_is_new : (events : List Event) (i : ℕ) (e d : Event) → AreDistinct events → i < length events
     → e ≡ get_or events i d → list_any (same_event e) (take i events) ≡ false
@@ -67,7 +58,7 @@ event_is_new events i e d distinct l is = by (list_any (same_event e) (take i ev
         ap (same_event e) (sym (get_or-take i events k.0 d before)) ∙ k.2 in
         let other : same_event (get_or events k.0 d) e ≡ false = ap (same_event (get_or events k.0 d)) is
         ∙ distinct.apart k.0 i d before l in
-        let never : true ≡ false = sym one ∙ apart_back e (get_or events k.0 d) other in
+        let never : true ≡ false = sym one ∙ flipped e (get_or events k.0 d) other in
         never
 
 -- so inserting them one after another lists them

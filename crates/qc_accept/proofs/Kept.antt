@@ -1,17 +1,17 @@
 -- What the types of a declaration keep: limits, tables that are sound, and triples of their states.
 use Rattle.std.proofs.Common.{◌≡◌, ℕ, suc, ◌+◌, ◌<◌, ◌≤◌, Bool, true, false, cond, ◌&&◌, not, List, [], ◌∷◌, ◌++◌}
 use Rattle.std.proofs.Common.{length, Option, Some, None, Ok, refl, sym, ap, ◌∙◌, subst, arith}
-use Rattle.std.specs.Prelude.{All, codes, nat_le, nat_lt, position, option_and_then}
+use Rattle.std.specs.Prelude.{All, codes, nat_le, option_and_then}
 use Rattle.std.specs.List.{list_any}
 use Rattle.std.specs.Str.{bytes_eq}
-use Rattle.std.proofs.lemmas.Bool.{leb-true, leb-false}
+use Rattle.std.proofs.lemmas.Bool.{leb-true}
 use Rattle.std.proofs.lemmas.List.{length-append}
 use Rattle.std.proofs.lemmas.List.Elements.{All-nil}
 use Rattle.std.proofs.lemmas.List.Quantifiers.{position-Some}
 use Rattle.std.proofs.lemmas.Option.{cond_some}
 use Rattle.toml.specs.Data.{Data, Members, as_str}
 use Rattle.qc_cert.specs.declared.triple.Triple.{Triple}
-use Rattle.qc_table.specs.Vocabulary.{IsSound, Rules, events_of, fault_of, first_repeat, is_unknown, ranked, rules_of}
+use Rattle.qc_table.specs.Vocabulary.{IsSound, Rules, events_of, fault_of, rules_of}
 use Rattle.qc_table.specs.declared.fault.TableFault.{TableFault}
 use Rattle.qc_table.specs.declared.row.Event.{Event}
 use Rattle.qc_table.specs.declared.row.Row.{Row}
@@ -25,6 +25,8 @@ use Rattle.qc_accept.specs.Vocabulary.{with_read, with_text, with_type, words}
 use Rattle.qc_accept.proofs.Naming.{names_are, names_more, no_names}
 use Rattle.qc_accept.proofs.Answered.{Came, came, Found, found, mapped, told_some, same_ok, each_keeps, read_each_keeps}
 use Rattle.qc_accept.proofs.Answered.{so_many, one_more}
+use Rattle.qc_list.proofs.Numbers.{zero_first}
+use Rattle.qc_table.proofs.Few.{few_events}
 
 -- a name more
 pub name_more : (known : List (List ℕ)) (d : Data) (next : List (List ℕ)) → with_name known d ≡ Some next
@@ -96,21 +98,6 @@ pub ruled_ok : (place : ℕ) (name : List ℕ) (rules r : Rules) (fault : Option
     → ruled place name rules fault ≡ Ok r → (fault ≡ None) × (rules ≡ r)
 ruled_ok place name rules r None is = (refl, same_ok rules r is)
 ruled_ok place name rules r (Some fault) is = absurd (let never : ⊥ = cc in never)
-
-ranked_none : (unknown repeat : Option ℕ) (many : Bool) → ranked unknown repeat many ≡ None → many ≡ false
-ranked_none (Some row) repeat many is = absurd (let never : ⊥ = cc in never)
-ranked_none None (Some row) many is = absurd (let never : ⊥ = cc in never)
-ranked_none None None true is = absurd (let never : ⊥ = cc in never)
-ranked_none None None false is = refl
-
--- rows without fault have few events
-pub few_events : (rules : Rules) → fault_of rules ≡ None → length (events_of rules.rows) ≤ most_events
-few_events rules none =
-    let few : length (events_of rules.rows) < 65 =
-    leb-false 65 (length (events_of rules.rows))
-    (ranked_none (position (is_unknown rules.states rules.invs rules.resps) rules.rows) (first_repeat rules.rows)
-    (nat_lt 64 (length (events_of rules.rows))) none) in
-    omega arith
 
 -- the table of rows is the one of the words
 pub record IsTable (w : WordsOf) (rules : Rules) : Type 0 where
@@ -277,9 +264,6 @@ pub record AreTypesKept (types : TypesOf) : Type 0 where
   pub named : AreNames (length types.list) types.names
   pub kept : All IsTypeKept types.list
 
-nothing : (n : ℕ) → 0 + n ≡ n
-nothing n = omega arith
-
 pub types_kept : (path : List ℕ) (table : Members) (types : TypesOf) → types_of path table ≡ Ok types
     → AreTypesKept types
 types_kept path table types is =
@@ -289,7 +273,7 @@ types_kept path table types is =
     let are : AreTypes (0 + length c.value) types =
     each_keeps AreTypes with_type type_more 0 (record { names = []; list = [] }) c.value types
     (record { names = refl; named = no_names; long = refl; kept = All-nil IsTypeKept }) c.rest in
-    let long : length types.list ≡ length c.value = are.long ∙ nothing (length c.value) in
+    let long : length types.list ≡ length c.value = are.long ∙ zero_first (length c.value) in
     record {
       some = omega arith;
       few = omega arith;

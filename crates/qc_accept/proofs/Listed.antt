@@ -16,14 +16,9 @@ use Rattle.qc_accept.specs.declared.epochs.Side.{Side}
 use Rattle.qc_accept.specs.Vocabulary.{EntryOf, StoreOf, entries_in, entry_in, is_at, kind_of, needs_of, number_in}
 use Rattle.qc_accept.specs.Vocabulary.{number_of, place_in, places_of, three, threshold_of, thresholds, value_of}
 use Rattle.qc_accept.specs.Vocabulary.{with_entry, with_item}
-use Rattle.qc_accept.proofs.Answered.{both, found, mapped, one_more, read_each_keeps}
-
--- an item of a list that grows at its end
-pub get_before : {A : Type 0} (xs ys : List A) (k : ℕ) (x : A) → slice_get xs k ≡ Some x
-    → slice_get (xs ++ ys) k ≡ Some x
-get_before [] ys k x is = absurd (let never : ⊥ = cc in never)
-get_before (y ∷ xs) ys zero x is = is
-get_before (y ∷ xs) ys (suc k) x is = get_before xs ys k x is
+use Rattle.qc_accept.proofs.Answered.{found, mapped, one_more, read_each_keeps}
+use Rattle.qc_list.proofs.Booleans.{and_parts}
+use Rattle.qc_list.proofs.Places.{slice_get-more}
 
 pub get_last : {A : Type 0} (xs : List A) (k : ℕ) (x : A) → length xs ≡ k → slice_get (xs ++ x ∷ []) k ≡ Some x
 get_last [] zero x is = refl
@@ -56,7 +51,7 @@ module _ {A : Type 0} (at : ℕ → A) where
           get_last (made n) k (at n) long ∙ ap (λ i. Some (at i)) (sym one)
       by false apart more =
           let other : k ≢ n = eqb-false k n apart in
-          get_before (made n) (at n ∷ []) k (at k) (more (omega arith))
+          slice_get-more (made n) (at n ∷ []) k (at k) (more (omega arith))
 
   pub made_all : (P : A → Type 0) → ((k : ℕ) → P (at k)) → (n : ℕ) → All P (made n)
   made_all P each_is zero = All-nil P
@@ -137,9 +132,9 @@ number_small : (text : List ℕ) (n : ℕ) → number_in text ≡ Some n → n �
 number_small text n is =
     let t = cond_some (is_between 1 most_digits (length text)
     && (list_all (is_between 48 57) text && nat_le (value_of text) greatest_threshold)) (value_of text) n is in
-    let p = both (is_between 1 most_digits (length text))
+    let p = and_parts (is_between 1 most_digits (length text))
     (list_all (is_between 48 57) text && nat_le (value_of text) greatest_threshold) t.0 in
-    let q = both (list_all (is_between 48 57) text) (nat_le (value_of text) greatest_threshold) p.1 in
+    let q = and_parts (list_all (is_between 48 57) text) (nat_le (value_of text) greatest_threshold) p.1 in
     subst IsThreshold t.1 (leb-true (value_of text) greatest_threshold q.1)
 
 entry_small : (store : StoreOf) (side : Side) (text : List ℕ) (e : EntryOf) → entry_in store side text ≡ Some e

@@ -16,10 +16,11 @@ use Rattle.qc_accept.specs.Vocabulary.{AreListed, EntryOf, IsListed, StoreOf, Ty
 use Rattle.qc_accept.specs.Vocabulary.{entry_in, epoch_keys, is_at, kind_of, needs, needs_of, no_others, number_in}
 use Rattle.qc_accept.specs.Vocabulary.{number_of, optional, place_in, places, places_of, plan_of, read_each, three}
 use Rattle.qc_accept.specs.Vocabulary.{threshold_of, told, weights, with_item}
-use Rattle.qc_accept.proofs.Answered.{both, came, found, mapped, same_ok, told_some}
+use Rattle.qc_accept.proofs.Answered.{came, found, mapped, same_ok, told_some}
 use Rattle.qc_accept.proofs.Kept.{number_within}
 use Rattle.qc_accept.proofs.Listed.{IsEntry, entry_more, need_is, need_past_objects, need_past_places}
 use Rattle.qc_accept.proofs.Spelling.{optional_are}
+use Rattle.qc_list.proofs.Booleans.{and_parts}
 
 -- what is found stays found where the list grows
 find_before : {A : Type 0} (p : A → Bool) (xs ys : List A) (x : A) → find p xs ≡ Some x → find p (xs ++ ys) ≡ Some x
@@ -113,7 +114,7 @@ module _ (store : StoreOf) (side : Side) where
     where
       by : (y : EntryOf) (b : Bool) → is_at object place y ≡ b → (y.object ≡ object → y.place ≡ place → ⊥) → b ≡ false
       by y true is never =
-          let p = both (y.object == object) (y.place == place) is in
+          let p = and_parts (y.object == object) (y.place == place) is in
           absurd (never (eqb-true y.object object p.0) (eqb-true y.place place p.1))
       by y false is never = refl
 

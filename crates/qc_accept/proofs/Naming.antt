@@ -11,7 +11,8 @@ use Rattle.std.proofs.lemmas.Slice.Eq.{bytes_eq-Decides}
 use Rattle.toml.specs.Data.{Data, Members, as_str}
 use Rattle.qc_decl.specs.Vocabulary.{AreNames, is_name}
 use Rattle.qc_accept.specs.Vocabulary.{items, names, read_each, told, with_name, with_text}
-use Rattle.qc_accept.proofs.Answered.{both, came, found, read_each_keeps, told_some}
+use Rattle.qc_accept.proofs.Answered.{came, found, read_each_keeps, told_some}
+use Rattle.qc_list.proofs.Booleans.{and_parts}
 
 -- none yet
 pub no_names : AreNames 0 []
@@ -34,7 +35,7 @@ names_more n known d next are is =
     let t = cond_some (is_name f.value && not (list_any (bytes_eq f.value) known))
     (known ++ f.value ∷ []) next f.rest in
     let p : (is_name f.value ≡ true) × (not (list_any (bytes_eq f.value) known) ≡ true) =
-    both (is_name f.value) (not (list_any (bytes_eq f.value) known)) t.0 in
+    and_parts (is_name f.value) (not (list_any (bytes_eq f.value) known)) t.0 in
     let long : length (known ++ f.value ∷ []) ≡ length known + 1 = length-append known (f.value ∷ []) in
     let before : length known ≡ n = are.count in
     let counted : length (known ++ f.value ∷ []) ≡ suc n = omega arith in

@@ -14,8 +14,9 @@ use Rattle.qc_list.specs.Vocabulary.{◌>>=◌}
 use Rattle.qc_accept.specs.Vocabulary.{Answer, TypeOf, WordsOf, items, no_others, relation, row_in, rows, rows_in}
 use Rattle.qc_accept.specs.Vocabulary.{table_of, told, triples, type_keys, type_of, with_read, words}
 use Rattle.qc_accept.proofs.Answered.{came, read_each_keeps, told_some, so_many}
-use Rattle.qc_accept.proofs.Kept.{IsTable, few_events, read_long, table_is, words_are}
+use Rattle.qc_accept.proofs.Kept.{IsTable, read_long, table_is, words_are}
 use Rattle.qc_accept.proofs.Told.{then_ok, then_err}
+use Rattle.qc_table.proofs.Few.{few_events}
 
 -- the rows are as few as their items
 pub few_rows : (path : List ℕ) (table : Members) (w : WordsOf) (ds : List Data) (rs : List Row)

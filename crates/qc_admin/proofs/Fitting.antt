@@ -21,18 +21,18 @@ use Rattle.qc_plan.specs.Vocabulary.{RoundState, note, verdict}
 use Rattle.qc_front.specs.Vocabulary.{sites_called}
 use Rattle.qc_front.proofs.Awaited.{sites_stay}
 use Rattle.qc_epoch.specs.Vocabulary.{Admin, Asking, Closing, Doing, Installing, Question, Resting, ShutSite}
-use Rattle.qc_msg.specs.declared.payload.EpochStart.{EpochStart}
 use Rattle.qc_epoch.specs.Vocabulary.{admin_takes, again, all_sites, all_taken, answered_in, ask_of, asking_takes, asks}
 use Rattle.qc_epoch.specs.Vocabulary.{called, close_round, closes, closes_by, closing_takes, decide_turn, decides}
 use Rattle.qc_epoch.specs.Vocabulary.{decision, doing, first_doubt, heard, in_asked_order, installing, installing_takes}
 use Rattle.qc_epoch.specs.Vocabulary.{most_asks, moved, moves_to, outcome_in, questions_of, replies_with, settles}
 use Rattle.qc_epoch.specs.Vocabulary.{settles_by, site_set, standing_of, taken_for, with_installed, with_shut_of}
+use Rattle.qc_msg.specs.declared.payload.EpochStart.{EpochStart}
 use Rattle.qc_admin.specs.Vocabulary.{AdminFits, AnswerFits, AreSites, DoingFits, GivenFits, InstallsFit, MessageFits}
 use Rattle.qc_admin.specs.Vocabulary.{ShutsFit, numbered, sent, sites_in}
 use Rattle.qc_admin.proofs.Bits.{last_bit, taken_bit}
 use Rattle.qc_admin.proofs.Moves.{last_fits, shut_last}
-use Rattle.qc_admin.proofs.NumberedCloses.{from_sites}
 use Rattle.qc_admin.proofs.RoundBits.{closed_bits, note_fits, round_begins, row_sites}
+use Rattle.qc_front.proofs.Numbering.{from_sites}
 
 -- Installs begin
 

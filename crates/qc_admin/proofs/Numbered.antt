@@ -12,9 +12,9 @@ use Rattle.qc_msg.specs.declared.call.Call.{Call}
 use Rattle.qc_msg.specs.declared.turn.Turn.{Turn}
 use Rattle.qc_msg.specs.Vocabulary.{calls_from, sending, with_call}
 use Rattle.qc_epoch.specs.Vocabulary.{Admin, Asking, Installing, Question, ShutSite, all_sites, ask_of, doing}
-use Rattle.qc_msg.specs.declared.payload.EpochStart.{EpochStart}
 use Rattle.qc_epoch.specs.Vocabulary.{install_of, install_sends, installing, is_number, is_questioned, most_asks, moved}
 use Rattle.qc_epoch.specs.Vocabulary.{numbered_first, taken_for, with_question, with_questions}
+use Rattle.qc_msg.specs.declared.payload.EpochStart.{EpochStart}
 use Rattle.qc_msg.specs.declared.message.Outcome.{Outcome}
 use Rattle.qc_admin.specs.Vocabulary.{IsNumberedAtOnce, is_unasked, numbered_all, sent_each}
 
@@ -91,10 +91,6 @@ all_unasked qs [] all = all
 all_unasked qs (s ∷ ss) all = all_unasked (with_questions qs s) ss (some_unasked s.site qs s.prepared all)
 
 -- and one that has a number keeps it
-
-and_false : (b : Bool) → (b && false) ≡ false
-and_false true = refl
-and_false false = refl
 
 asked_first : (qs : List Question) (number : ℕ) → is_unasked qs ≡ false → is_unasked (numbered_first qs number) ≡ false
 asked_first [] number some = some

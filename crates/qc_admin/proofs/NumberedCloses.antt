@@ -1,10 +1,8 @@
 -- Closes and Asks get their numbers: a round after what came of a request, as requests are numbered.
-use Rattle.std.proofs.Common.{[], ◌≡◌, ℕ, ◌+◌, ◌<◌, ◌==◌, Bool, true, false, cond, List, ◌∷◌, ◌++◌, length, map, take}
-use Rattle.std.proofs.Common.{Some, inl, inr, refl, sym, ap, ◌∙◌, subst, append_assoc, arith}
-use Rattle.std.specs.Ordering.{nat_cmp}
+use Rattle.std.proofs.Common.{[], ◌≡◌, ℕ, ◌+◌, ◌==◌, Bool, true, false, cond, List, ◌∷◌, ◌++◌, length, map, take, Some}
+use Rattle.std.proofs.Common.{refl, sym, ap, ◌∙◌, subst, append_assoc, arith}
 use Rattle.std.proofs.lemmas.Bool.{ne_eqb}
 use Rattle.std.proofs.lemmas.List.{append-nil}
-use Rattle.qc_list.specs.Vocabulary.{Ascends, In}
 use Rattle.qc_decl.specs.declared.declaration.Declaration.{Declaration}
 use Rattle.qc_msg.specs.declared.call.Call.{Call}
 use Rattle.qc_msg.specs.declared.turn.Turn.{Turn}
@@ -17,30 +15,14 @@ use Rattle.qc_front.proofs.Apart.{AreApart}
 use Rattle.qc_front.proofs.Awaited.{asking_awaits, asking_round, asking_waits}
 use Rattle.qc_front.proofs.NotedRounds.{note_round, note_wants, round_apart}
 use Rattle.qc_front.proofs.Noting.{awaits_some, no_calls, note_numbered, note_open, noted_awaits}
-use Rattle.qc_front.proofs.Recording.{below_one}
 use Rattle.qc_epoch.specs.Vocabulary.{Admin, Asking, Closing, Doing, Installing, Resting, ShutSite, called, close_of}
 use Rattle.qc_epoch.specs.Vocabulary.{doing, goes_on, most_asks, moved}
 use Rattle.qc_admin.specs.Vocabulary.{AdminHolds, ClosingHolds, DoingHolds, IsNumberedAtOnce, numbered, numbered_all}
 use Rattle.qc_admin.specs.Vocabulary.{sent_each}
+use Rattle.qc_front.proofs.Numbering.{from_sites, from_ascends}
 
 -- calls with consecutive numbers
 
-pub from_sites : (first : ℕ) (sites : List ℕ) → sites_called (calls_from first sites) ≡ sites
-from_sites first [] = refl
-from_sites first (s ∷ ss) = ap (λ (rest : List ℕ). s ∷ rest) (from_sites (first + 1) ss)
-
-from_later : (n first : ℕ) (sites : List ℕ) → n < first → (k : ℕ)
-    → In k (map (λ (c : Call). c.number) (calls_from first sites)) → n < k
-from_later n first [] low k among = absurd among
-from_later n first (s ∷ ss) low k (inl same) = let eq : k ≡ first = same in omega arith
-from_later n first (s ∷ ss) low k (inr later) = from_later n (first + 1) ss (omega arith) k later
-
-from_ascends : (first : ℕ) (sites : List ℕ) → Ascends nat_cmp (map (λ (c : Call). c.number) (calls_from first sites))
-from_ascends first [] = tt
-from_ascends first (s ∷ ss) = (
-  below_one first (map (λ (c : Call). c.number) (calls_from (first + 1) ss))
-      (from_later first (first + 1) ss (omega arith)),
-  from_ascends (first + 1) ss,
 )
 
 some_calls : (calls : List Call) (sites : List ℕ) (first : ℕ) → (length calls == 0) ≡ false

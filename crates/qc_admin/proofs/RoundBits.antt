@@ -3,22 +3,24 @@ use Rattle.std.proofs.Common.{◌≡◌, ℕ, zero, suc, ◌+◌, ◌-◌, ◌*�
 use Rattle.std.proofs.Common.{◌∷◌, ◌++◌, filter, length, map, Option, Some, None, refl, sym, ap, ◌∙◌, subst, eqb-true}
 use Rattle.std.proofs.Common.{arith}
 use Rattle.std.specs.List.{range_with_len}
-use Rattle.std.specs.Prelude.{nat_lt, slice_get}
+use Rattle.std.specs.Prelude.{nat_lt}
 use Rattle.std.proofs.Math.Nat.{pow-suc, pow-zero}
 use Rattle.std.proofs.Math.Pow.{pow_mono}
 use Rattle.std.proofs.lemmas.List.{append-nil, map-append}
 use Rattle.std.proofs.lemmas.List.FromFn.{length-range_with_len}
 use Rattle.qc_decl.specs.declared.declaration.Declaration.{Declaration}
-use Rattle.qc_decl.specs.Vocabulary.{IsAccepted, IsGood, plan_in}
+use Rattle.qc_decl.specs.Vocabulary.{IsAccepted, plan_in}
 use Rattle.qc_plan.specs.declared.plan.Plan.{Plan}
 use Rattle.qc_plan.specs.declared.standing.Asked.{Asked}
 use Rattle.qc_plan.specs.declared.standing.Standing.{Standing}
-use Rattle.qc_plan.specs.Vocabulary.{RoundState, note, note_in, start, weight_at}
+use Rattle.qc_plan.specs.Vocabulary.{RoundState, note, start, weight_at}
 use Rattle.qc_front.specs.Vocabulary.{sites_of}
 use Rattle.qc_epoch.specs.Vocabulary.{ShutSite, close_need, close_round, close_round_by, in_asked_order, shut_at}
 use Rattle.qc_epoch.specs.Vocabulary.{shut_list, site_set}
 use Rattle.qc_admin.specs.Vocabulary.{AreSites, sites_in}
 use Rattle.qc_admin.proofs.Bits.{both_sets, first_bit}
+use Rattle.qc_front.proofs.Fitting.{plan_weights}
+use Rattle.qc_front.proofs.NotedRounds.{note_sites}
 
 -- sites in a row
 
@@ -83,14 +85,6 @@ weighing_sites decl weights need few =
     (sym (append-nil row))
     (record { few = omega (arith, count, all); set = omega (arith, bits, set) })
 
-plan_weights : (decl : Declaration) (epoch : ℕ) → IsAccepted decl → (p : Plan) → plan_in decl epoch ≡ Some p
-    → length p.weights ≡ decl.sites
-plan_weights decl epoch accepted p is = by (epoch == 0) is
-  where
-    by : (t : Bool) → cond t None (slice_get decl.plans (epoch - 1)) ≡ Some p → length p.weights ≡ decl.sites
-    by true never = absurd (let no : ⊥ = cc in no)
-    by false at = let good : IsGood decl p = accepted.good (epoch - 1) p at in good.weights
-
 pub round_begins : (decl : Declaration) (epoch : ℕ) → IsAccepted decl → AreSites (sites_in (close_round decl epoch))
 round_begins decl epoch accepted = by (plan_in decl epoch) refl
   where
@@ -103,21 +97,10 @@ round_begins decl epoch accepted = by (plan_in decl epoch) refl
 
 -- a round's sites stay
 
-noted_sites : (site : ℕ) (standing : Standing) (asked : List Asked)
-    → sites_of (note_in site standing asked) ≡ sites_of asked
-noted_sites site standing [] = refl
-noted_sites site standing (a ∷ rest) = by (a.site == site) refl (noted_sites site standing rest)
-  where
-    by : (b : Bool) → (a.site == site) ≡ b → sites_of (note_in site standing rest) ≡ sites_of rest
-        → sites_of (cond b (record { site = site; standing = Some standing } ∷ rest) (a ∷ note_in site standing rest))
-        ≡ a.site ∷ sites_of rest
-    by true is more = ap (λ (n : ℕ). n ∷ sites_of rest) (sym (eqb-true a.site site is))
-    by false is more = ap (λ (ss : List ℕ). a.site ∷ ss) more
-
 pub note_fits : (round : RoundState) (site : ℕ) (standing : Standing) → AreSites (sites_in round)
     → AreSites (sites_in (note round site standing))
 note_fits round site standing are = subst (λ (ss : List ℕ). AreSites (ss ++ round.rest))
-    (sym (noted_sites site standing round.asked)) are
+    (sym (note_sites site standing round.asked)) are
 
 -- the closed sites are asked ones
 

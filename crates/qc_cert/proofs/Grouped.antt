@@ -7,9 +7,10 @@ use Rattle.std.proofs.lemmas.Bool.{eqb-true, eqb-false, eq-eqb, ne_eqb}
 use Rattle.std.proofs.lemmas.List.{get_or-set_same, get_or-set_other}
 use Rattle.std.proofs.lemmas.List.Folds.{list_any_none}
 use Rattle.qc_cert.specs.Vocabulary.{AreStates, any_within, covers, is_covered, outs_at, parts_within, place_of}
-use Rattle.qc_cert.proofs.Shared.{or_none, or_deep}
+use Rattle.qc_cert.proofs.Shared.{or_deep}
 use Rattle.qc_cert.specs.declared.triple.Triple.{Triple}
 use Rattle.qc_table.specs.Vocabulary.{is_within}
+use Rattle.qc_list.proofs.Booleans.{or_false}
 
 -- of a list's first triple
 head_of : (t : Triple) (ts : List Triple) → All AreStates (t ∷ ts) → AreStates t
@@ -90,11 +91,11 @@ group_added groups t place new at within more group out = by (place_of t.view t.
         ∙ ap (λ p. parts_within p out) (get_or-set_same groups place new [] within)
         ∙ more out
         ∙ ap (λ g. parts_within (get_or groups g []) out || is_within t.out out) (sym same)
-        ∙ ap (λ b. parts_within (get_or groups group []) out || b) (sym (or_none (is_within t.out out)))
+        ∙ ap (λ b. parts_within (get_or groups group []) out || b) (sym (or_false (is_within t.out out)))
     by false e =
         ap (λ p. parts_within p out) (get_or-set_other groups place group new []
         (λ (same : group ≡ place). eqb-false _ _ e (sym at ∙ sym same)))
-        ∙ sym (or_none (parts_within (get_or groups group []) out))
+        ∙ sym (or_false (parts_within (get_or groups group []) out))
 
 -- the first of the triples that are left
 first_at : (t : Triple) (ts : List Triple) (group out : ℕ)
@@ -104,7 +105,7 @@ first_at t ts group out = by (place_of t.view t.log == group)
   where
     by : (b : Bool) → any_within (cond b (t.out ∷ outs_at ts group) (outs_at ts group)) out ≡
         (any_within (cond b (t.out ∷ []) []) out || any_within (outs_at ts group) out)
-    by true = ap (λ b. b || any_within (outs_at ts group) out) (sym (or_none (is_within t.out out)))
+    by true = ap (λ b. b || any_within (outs_at ts group) out) (sym (or_false (is_within t.out out)))
     by false = refl
 
 -- what a group has with the first of them, and what the others add

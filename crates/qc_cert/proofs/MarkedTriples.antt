@@ -12,6 +12,7 @@ use Rattle.std.proofs.lemmas.List.Folds.{list_any-append}
 use Rattle.qc_cert.specs.Vocabulary.{covers, distinct, firsts, firsts_after, is_among, is_covered, is_same, marked}
 use Rattle.qc_cert.specs.Vocabulary.{triple}
 use Rattle.qc_cert.specs.declared.triple.Triple.{Triple}
+use Rattle.qc_list.proofs.Numbers.{cmp_is_eq}
 
 -- ---- what the set's order tells
 number_then : (x y : ℕ) (o : Ordering) (b : Bool) → is_eq o ≡ b
@@ -25,14 +26,11 @@ TellsSame cmp = (a b : Triple) → is_eq (cmp a b) ≡ is_same a b
 abbrev pub triple_cmp : Triple → Triple → Ordering
 triple_cmp a b = ordering_then (nat_cmp a.view b.view) (ordering_then (nat_cmp a.log b.log) (nat_cmp a.out b.out))
 
-number_last : (x y : ℕ) → is_eq (nat_cmp x y) ≡ (x == y)
-number_last x y = grind (arith, common_steps)
-
 pub order_tells : TellsSame triple_cmp
 order_tells a b =
     number_then a.view b.view (ordering_then (nat_cmp a.log b.log) (nat_cmp a.out b.out))
     ((a.log == b.log) && (a.out == b.out))
-    (number_then a.log b.log (nat_cmp a.out b.out) (a.out == b.out) (number_last a.out b.out))
+    (number_then a.log b.log (nat_cmp a.out b.out) (a.out == b.out) (cmp_is_eq a.out b.out))
 
 -- ---- the same triple
 pub same_equal : (a b : Triple) → is_same a b ≡ true → a ≡ b

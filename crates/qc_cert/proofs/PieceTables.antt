@@ -14,10 +14,11 @@ use Rattle.std.proofs.lemmas.Nat.Bits.{bit_at_ones}
 use Rattle.std.proofs.lemmas.Option.{get_or_from_slice_get, slice_get_within}
 use Rattle.std.proofs.Math.Nat.{mod-lt}
 use Rattle.qc_cert.proofs.Computed.{true_within, within_true}
-use Rattle.qc_cert.proofs.Shared.{below_64, lowest_has}
+use Rattle.qc_cert.proofs.Shared.{lowest_has}
 use Rattle.qc_cert.specs.Vocabulary.{AreLeft, IsLeft, IsRow, IsWord, agrees, any_within, keeps, piece}
 use Rattle.qc_cert.specs.declared.blocks.Row.{Row}
 use Rattle.qc_table.specs.Vocabulary.{IsWithin, has, is_within}
+use Rattle.qc_table.proofs.Sets.{below_64}
 
 -- ---- pieces
 -- a number shifted, and its lowest bits

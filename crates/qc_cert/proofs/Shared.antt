@@ -9,20 +9,13 @@ use Rattle.std.proofs.lemmas.Nat.{and_le_l}
 use Rattle.std.proofs.lemmas.List.{get_or_default, get_or_past, get_or-set_same, get_or-set_other}
 use Rattle.std.proofs.lemmas.List.Elements.{All-push}
 use Rattle.std.proofs.lemmas.List.Folds.{list_any-append, list_any_at, list_any_none}
-use Rattle.std.proofs.lemmas.Nat.Bits.{bit_at-lt, bit_at-zero, bit_at_above, bit_at_and, bit_at_not, bit_at_clear_same}
-use Rattle.std.proofs.lemmas.Nat.Bits.{bit_at_clear_other, bit_at-trailing_zeros}
+use Rattle.std.proofs.lemmas.Nat.Bits.{bit_at-lt, bit_at_and, bit_at_not, bit_at_clear_same, bit_at_clear_other}
+use Rattle.std.proofs.lemmas.Nat.Bits.{bit_at-trailing_zeros}
 use Rattle.qc_cert.specs.Vocabulary.{AreParted, any_within, parts_within, sets_of}
 use Rattle.qc_cert.proofs.Computed.{within_true}
 use Rattle.qc_table.specs.Vocabulary.{has, is_within}
-
--- a number below 2 ^ 64 has events below 64
-pub below_64 : (set k : ℕ) → set < 2 ^ 64 → has set k ≡ true → k < 64
-below_64 set k small here = by (cases_lt k 64)
-  where
-    by : (k < 64) ⊎ (64 ≤ k) → k < 64
-    by (inl l) = l
-    by (inr past) = absurd (let zero_bit : bit_at set k ≡ 0 = bit_at_above set 64 k small past in
-        let one : bit_at set k ≡ 1 = eqb-true (bit_at set k) 1 here in omega arith)
+use Rattle.qc_list.proofs.Booleans.{or_false}
+use Rattle.qc_table.proofs.Sets.{below_64}
 
 -- ---- parts
 -- a part's sets have its event, so that none is within a set that hasn't
@@ -158,28 +151,11 @@ looked_more parts out events rest small some fits here looked k has_it lacks = b
     by false e = looked k has_it (sym (without_other rest low k (bit_at-trailing_zeros w64 rest some fits).0
         (below_64 events k small has_it) (eqb-false k low e)) ∙ lacks)
 
--- the empty set has no event, nor has one whose events are past all
-pub none_left : (rest : ℕ) → rest ≡ 0 → (k : ℕ) → has rest k ≡ false
-none_left rest is k = ap (λ n. has n k) is ∙ ap (λ n. n == 1) (bit_at-zero k)
-
-pub none_past : (rest : ℕ) → rest < 2 ^ 64 → ((k : ℕ) → has rest k ≡ true → 64 ≤ k) → (k : ℕ) → has rest k ≡ false
-none_past rest small past k = false_from_ne_true (has rest k) (λ (here : has rest k ≡ true).
-    let high : 64 ≤ k = past k here in let low : k < 64 = below_64 rest k small here in omega arith)
-
 -- the lowest event of a set is one of it
 pub lowest_has : (set : ℕ) → 0 < set → set < 2 ^ 64
     → (trailing_zeros w64 set < 64) × (has set (trailing_zeros w64 set) ≡ true)
 lowest_has set some small = let low = bit_at-trailing_zeros w64 set some small in
     (low.0, eq-eqb (bit_at set (trailing_zeros w64 set)) 1 low.1)
-
--- ---- parts of a group
-pub or_none : (b : Bool) → (b || false) ≡ b
-or_none true = refl
-or_none false = refl
-
-pub or_true : (b : Bool) → (b || true) ≡ true
-or_true true = refl
-or_true false = refl
 
 pub or_deep : (a b c : Bool) → (a || (b || c)) ≡ ((a || b) || c)
 or_deep true b c = refl
@@ -187,13 +163,13 @@ or_deep false b c = refl
 
 pub any_more : (sets : List ℕ) (s out : ℕ) → any_within (sets ++ s ∷ []) out ≡ (any_within sets out || is_within s out)
 any_more sets s out = list_any-append (λ o. is_within o out) sets (s ∷ [])
-    ∙ ap (λ b. any_within sets out || b) (or_none (is_within s out))
+    ∙ ap (λ b. any_within sets out || b) (or_false (is_within s out))
 
 -- one part more
 pub part_more : (parts : List (List ℕ)) (sets : List ℕ) (out : ℕ)
     → parts_within (parts ++ sets ∷ []) out ≡ (parts_within parts out || any_within sets out)
 part_more parts sets out = list_any-append (λ sets. any_within sets out) parts (sets ∷ [])
-    ∙ ap (λ b. parts_within parts out || b) (or_none (any_within sets out))
+    ∙ ap (λ b. parts_within parts out || b) (or_false (any_within sets out))
 
 -- a set more in the rest of a group
 pub set_added : (blocks : List (List ℕ)) (rest : List ℕ) (s out : ℕ)
@@ -211,13 +187,13 @@ pub rest_closed : (old new : List (List ℕ)) (rest left : List ℕ) (out : ℕ)
 rest_closed old new rest left out none closed =
     part_more new left out
     ∙ ap (λ sets. parts_within new out || any_within sets out) none
-    ∙ or_none (parts_within new out)
+    ∙ or_false (parts_within new out)
     ∙ closed
     ∙ sym (part_more old rest out)
 
 -- a part without sets covers nothing more
 pub part_none : (parts : List (List ℕ)) (out : ℕ) → parts_within (parts ++ [] ∷ []) out ≡ parts_within parts out
-part_none parts out = part_more parts [] out ∙ or_none (parts_within parts out)
+part_none parts out = part_more parts [] out ∙ or_false (parts_within parts out)
 
 or_later : (a b c : Bool) → ((a || c) || b) ≡ ((a || b) || c)
 or_later true b c = refl

@@ -10,12 +10,13 @@ use Rattle.std.proofs.lemmas.List.Folds.{list_any_none}
 use Rattle.std.proofs.lemmas.Nat.{or_comm}
 use Rattle.std.proofs.lemmas.Nat.Bits.{bit_at-zero, bit_at_or, same_from_bits}
 use Rattle.std.proofs.lemmas.Option.{slice_get-get_or}
-use Rattle.qc_cert.proofs.Shared.{none_left, or_none, or_true}
 use Rattle.qc_cert.specs.Vocabulary.{AreLeft, AreRows, IsLeft, IsRow, IsWord, agrees, any_within, keeps, no_row}
 use Rattle.qc_cert.specs.declared.blocks.Row.{Row}
 use Rattle.qc_table.proofs.Related.{has_with}
 use Rattle.qc_table.specs.Vocabulary.{has, is_within, with_member}
 use Rattle.qc_cert.proofs.PieceTables.{within_agrees, word_hit}
+use Rattle.qc_list.proofs.Booleans.{or_true, or_false}
+use Rattle.qc_table.proofs.Sets.{none_left}
 
 -- words without one
 word_missed : (sets : List ℕ) (out from word place set : ℕ) → AreLeft sets out 16 from word → word ≡ 0 → from ≤ place
@@ -73,7 +74,7 @@ begun_with sets from number some count word old here = record {
     by : (k : ℕ) (b : Bool) → (count == k) ≡ b → k < count + 1 → (has word k || b) ≡ keeps sets (from + k) number some
     by k true e l = or_true (has word k) ∙ sym here ∙ ap (λ n. keeps sets (from + n) number some) (eqb-true count k e)
     by k false e l =
-        or_none (has word k)
+        or_false (has word k)
         ∙ old.below k (let apart : (count ≡ k) → ⊥ = eqb-false count k e in omega (arith, l, apart))
 
 pub begun_without : (sets : List ℕ) (from number some count word : ℕ) → IsBegun sets from number some count word

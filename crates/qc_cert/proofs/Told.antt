@@ -5,7 +5,7 @@ use Rattle.std.specs.Prelude.{◌==◌, ◌||◌, IsSome}
 use Rattle.std.specs.Int.{trailing_zeros}
 use Rattle.std.proofs.lemmas.Bool.{cases_lt, eqb-true, eqb-false, eq-eqb, false_from_ne_true, true≢false}
 use Rattle.std.proofs.lemmas.Nat.Bits.{bit_at-trailing_zeros}
-use Rattle.qc_cert.proofs.Shared.{below_64, without, without_other, without_same, without_small}
+use Rattle.qc_cert.proofs.Shared.{without, without_other, without_same, without_small}
 use Rattle.qc_cert.specs.Vocabulary.{AreEvents, inv_of, taken_fault}
 use Rattle.qc_cert.specs.declared.fault.CertFault.{CertFault}
 use Rattle.qc_cert.specs.declared.triple.Triple.{Triple}
@@ -14,19 +14,8 @@ use Rattle.qc_list.specs.Vocabulary.{first_below}
 use Rattle.qc_table.proofs.Related.{has_with}
 use Rattle.qc_table.specs.Vocabulary.{events_of, has, with_member}
 use Rattle.qc_table.specs.declared.kind.Kind.{Kind}
-
--- ---- gathered
-or_right : (a b : Bool) → b ≡ true → (a || b) ≡ true
-or_right true b e = refl
-or_right false b e = e
-
-or_left : (a b : Bool) → a ≡ true → (a || b) ≡ true
-or_left true b e = refl
-or_left false b e = absurd (let never : ⊥ = cc in never)
-
-or_parts : (a b : Bool) → (a || b) ≡ true → (a ≡ true) ⊎ (b ≡ true)
-or_parts true b e = inl refl
-or_parts false b e = inr e
+use Rattle.qc_list.proofs.Booleans.{or_first, or_second, or_cases}
+use Rattle.qc_table.proofs.Sets.{below_64}
 
 -- the events below a number that are of the invocation
 pub record AreBelow (kind : Kind) (inv number set : ℕ) : Type 0 where
@@ -38,14 +27,14 @@ pub below_with : (kind : Kind) (inv number set : ℕ) → AreBelow kind inv numb
     → AreBelow kind inv (number + 1) (with_member set number)
 below_with kind inv number set old = record {
   all = λ e l is. has_with set number e ∙ by e l is (cases_lt e number);
-  within = λ e here. from e (or_parts (has set e) (number == e) (sym (has_with set number e) ∙ here));
+  within = λ e here. from e (or_cases (has set e) (number == e) (sym (has_with set number e) ∙ here));
 }
   where
     by : (e : ℕ) → e < number + 1 → inv_of kind e ≡ inv → (e < number) ⊎ (number ≤ e)
         → (has set e || (number == e)) ≡ true
-    by e l is (inl less) = or_left (has set e) (number == e) (old.all e less is)
+    by e l is (inl less) = or_first (has set e) (number == e) (old.all e less is)
     by e l is (inr past) = let same : number ≡ e = omega (arith, l, past) in
-        or_right (has set e) (number == e) (eq-eqb number e same)
+        or_second (has set e) (number == e) (eq-eqb number e same)
 
     from : (e : ℕ) → (has set e ≡ true) ⊎ ((number == e) ≡ true) → e < number + 1
     from e (inl here) = let less : e < number = old.within e here in omega (arith, less)

@@ -24,8 +24,9 @@ use Rattle.qc_front.specs.declared.doing.Doing.TheVariants.{Idle}
 use Rattle.qc_front.specs.declared.front.Front.{Front}
 use Rattle.qc_front.specs.declared.transaction.Transaction.{Transaction}
 use Rattle.qc_front.specs.Vocabulary.{FrontMove, appended_with, gives_up, learns, lived, moved, next_own, next_tx}
-use Rattle.qc_front.specs.Vocabulary.{read_with, request_of, turned, with_event, with_granted, with_view}
+use Rattle.qc_front.specs.Vocabulary.{read_with, request_of, turned, with_event, with_granted}
 use Rattle.qc_client.specs.Vocabulary.{name_of}
+use Rattle.qc_front.proofs.CommandsKeep.{view_keeps}
 
 -- what a front end sends: requests of its rounds, or that the transaction that was begun aborted, which has ended
 
@@ -118,12 +119,8 @@ asked front next b want wanted (site ∷ sites) = (wanted site, asked front next
 
 -- the name stays, whatever joins the transaction
 
-view-name : (t : Transaction) (object : ℕ) (o : Option View) → (with_view t object o).begun ≡ t.begun
-view-name t object None = refl
-view-name t object (Some v) = refl
-
 granted-name : (t : Transaction) (object : ℕ) (log : List Line) → (with_granted t object log).begun ≡ t.begun
-granted-name t object log = view-name t object (option_map (λ (v : View). with_log v log) (slice_get t.views object))
+granted-name t object log = view_keeps t object (option_map (λ (v : View). with_log v log) (slice_get t.views object))
 
 pub read-name : (t : Transaction) (site object : ℕ) (answer : Option Answer)
     → (read_with t site object answer).begun.tx ≡ t.begun.tx
@@ -160,7 +157,7 @@ pub event-name : (t : Transaction) (object inv event resp : ℕ)
     → (with_event t object inv event resp).begun.tx ≡ t.begun.tx
 event-name t object inv event resp =
     ap (λ (b : Begun). b.tx)
-    (view-name (record t { own = t.own ++ next_own t object event ∷ [] }) object
+    (view_keeps (record t { own = t.own ++ next_own t object event ∷ [] }) object
     (option_map (λ (v : View). with_own v event) (slice_get t.views object)))
 
 pub learned : (front : Front) (answer : Option Answer) → IsSame front (learns front answer)

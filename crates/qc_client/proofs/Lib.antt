@@ -1,3 +1,4 @@
+pub mod HeardCases
 mod FrontSends
 mod Fronts
 mod Names

@@ -1,9 +1,8 @@
 -- What is put aside: a second thing for one request, and all that is for no open Prepare.
 use Rattle.std.proofs.Common.{◌≡◌, ℕ, ◌<◌, ◌≤◌, ◌-◌, ◌==◌, ◌%◌, Bool, true, false, cond, not, List, [], ◌∷◌, map}
 use Rattle.std.proofs.Common.{filter, length, Option, Some, None, option_map, refl, sym, ap, ◌∙◌, subst, arith}
-use Rattle.std.specs.List.{find, range_with_len}
-use Rattle.std.proofs.lemmas.List.{length-append, length-map}
-use Rattle.std.proofs.lemmas.List.FromFn.{length-range_with_len}
+use Rattle.std.specs.List.{find}
+use Rattle.std.proofs.lemmas.List.{length-map}
 use Rattle.qc_decl.specs.declared.declaration.Declaration.{Declaration}
 use Rattle.qc_decl.specs.Vocabulary.{most_sites}
 use Rattle.qc_plan.specs.Vocabulary.{cyclic}
@@ -20,6 +19,8 @@ use Rattle.qc_commit.specs.Vocabulary.{AsksFew, DeskCall, DeskMove, HasFew, Numb
 use Rattle.qc_commit.specs.Vocabulary.{are_cast, blank, cast, counted_out, counts, decides, first_against, learns}
 use Rattle.qc_commit.specs.Vocabulary.{moved, participants, passed, prepare, prepared_in, prepares, sent_in, vote}
 use Rattle.qc_commit.specs.Vocabulary.{vote_of, votes_at, votes_in}
+use Rattle.qc_list.proofs.Members.{length-filter}
+use Rattle.qc_plan.proofs.Rounds.{length-cyclic}
 
 -- a request that something was taken for isn't open any more
 
@@ -77,28 +78,13 @@ second-aside desk number one two = by desk.voting refl where
 
 -- few sites are asked
 
-filter-below : (test : ℕ → Bool) (xs : List ℕ) → length (filter test xs) ≤ length xs
-filter-below test [] = omega arith
-filter-below test (x ∷ xs) = by (test x) (filter-below test xs) where
-  by : (t : Bool) → length (filter test xs) ≤ length xs
-      → length (cond t (x ∷ filter test xs) (filter test xs)) ≤ length (x ∷ xs)
-  by true rest = omega arith
-  by false rest = omega arith
-
-length-cyclic : (sites from : ℕ) → from ≤ sites → length (cyclic sites from) ≡ sites
-length-cyclic sites from low =
-    let later : length (range_with_len from (sites - from)) ≡ sites - from =
-    length-range_with_len from (sites - from) in
-    let earlier : length (range_with_len 0 from) ≡ from = length-range_with_len 0 from in
-    omega (arith, length-append (range_with_len from (sites - from)) (range_with_len 0 from))
-
 participants-few : (decl : Declaration) (client : ℕ) (b : Begun) → 0 < decl.sites
     → length (participants decl client b) ≤ decl.sites
 participants-few decl client b some =
     let all : length (cyclic decl.sites (client % decl.sites)) ≡ decl.sites =
     length-cyclic decl.sites (client % decl.sites) (omega arith) in
     let kept : length (participants decl client b) ≤ length (cyclic decl.sites (client % decl.sites)) =
-    filter-below (has_granted b.lives) (cyclic decl.sites (client % decl.sites)) in
+    length-filter (has_granted b.lives) (cyclic decl.sites (client % decl.sites)) in
     omega arith
 
 length-cast : (ballots : List Ballot) (site : ℕ) (vote : Vote) → length (cast ballots site vote) ≡ length ballots

@@ -6,12 +6,12 @@ use Rattle.qc_decl.specs.declared.declaration.Declaration.{Declaration}
 use Rattle.qc_decl.specs.Vocabulary.{first_site}
 use Rattle.qc_plan.specs.Vocabulary.{cyclic}
 use Rattle.qc_list.specs.Vocabulary.{In}
-use Rattle.qc_list.proofs.Members.{In-filter, In-first, In-passes, In-second, In-unfiltered}
+use Rattle.qc_list.proofs.Members.{In-filter, In-first, In-passes, In-second, In-unfiltered, In-either}
 use Rattle.qc_msg.specs.declared.begun.Begun.{Begun}
 use Rattle.qc_msg.specs.Vocabulary.{has_granted}
 use Rattle.qc_commit.specs.Vocabulary.{participants}
 use Rattle.qc_commit.proofs.Once.{Once, once-append, once-filter, once-pairs, range-high, range-in, range-low}
-use Rattle.qc_commit.proofs.Once.{range-once, In-split}
+use Rattle.qc_commit.proofs.Once.{range-once}
 
 -- all sites in an order from one of them
 
@@ -31,7 +31,8 @@ cyclic-in sites from k low high = by (cases_lt k from) where
       (range-in k from (sites - from) past (omega arith))
 
 cyclic-low : (sites from k : ℕ) → from ≤ sites → In k (cyclic sites from) → k < sites
-cyclic-low sites from k low member = by (In-split k (range_with_len from (sites - from)) (range_with_len 0 from) member)
+cyclic-low sites from k low member =
+    by (In-either k (range_with_len from (sites - from)) (range_with_len 0 from) member)
   where
     by : In k (range_with_len from (sites - from)) ⊎ In k (range_with_len 0 from) → k < sites
     by (inl later) = let high : k < from + (sites - from) = range-high k from (sites - from) later in omega arith

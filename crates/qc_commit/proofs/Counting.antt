@@ -15,7 +15,7 @@ use Rattle.qc_commit.specs.Vocabulary.{Taken, ballots_by, cast, first_taken, gre
 use Rattle.qc_commit.specs.Vocabulary.{vote_of}
 use Rattle.qc_commit.proofs.Once.{Once}
 
-max-assoc : (a b c : ℕ) → max (max a b) c ≡ max a (max b c)
+pub max-assoc : (a b c : ℕ) → max (max a b) c ≡ max a (max b c)
 max-assoc a b c = omega arith
 
 -- what is taken first, with more

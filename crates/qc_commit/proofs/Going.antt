@@ -17,7 +17,7 @@ use Rattle.qc_commit.specs.Vocabulary.{blank, counted_out, counts, course_ballot
 use Rattle.qc_commit.specs.Vocabulary.{first_against, first_taken, greatest_promised, learns, moved, open_calls}
 use Rattle.qc_commit.specs.Vocabulary.{participants, prepare, promised, sent, vote, vote_of, votes_at, votes_in}
 use Rattle.qc_commit.proofs.Asking.{participants-once}
-use Rattle.qc_commit.proofs.Counting.{IsCounted, IsUncounted, counted, taken-stays, uncounted}
+use Rattle.qc_commit.proofs.Counting.{IsCounted, IsUncounted, counted, taken-stays, uncounted, max-assoc}
 use Rattle.qc_commit.proofs.Learned.{learned-client, learned-clock, learned-commits}
 use Rattle.qc_commit.proofs.Once.{Once}
 
@@ -70,9 +70,6 @@ pub record IsTaken (old : Desk) (b : Begun) (clock first : ℕ) (sites : List �
       → (vote desk t.number t.answer ≡ counted_out (learns desk t.answer) b
       (first_against (ballots_by b (takes ++ t ∷ []) first sites)))
       × ((learns desk t.answer).clock.value ≡ max clock (greatest_promised (takes ++ t ∷ []) first sites))
-
-max-push : (clock g p : ℕ) → max (max clock g) p ≡ max clock (max g p)
-max-push clock g p = omega arith
 
 -- of a number that no open Prepare has
 put-aside : (old : Desk) (b : Begun) (clock first : ℕ) (sites : List ℕ) (takes : List Taken) (t : Taken) (desk : Desk)
@@ -153,7 +150,7 @@ takes-some old b clock first sites takes t desk s w once called = record {
   clock_is : (learns desk t.answer).clock.value ≡ max clock (greatest_promised (takes ++ t ∷ []) first sites)
   clock_is =
       learned-clock desk t.answer ∙ ap (λ (n : ℕ). max n (promised t.answer)) w.clock
-      ∙ max-push clock (greatest_promised takes first sites) (promised t.answer)
+      ∙ max-assoc clock (greatest_promised takes first sites) (promised t.answer)
       ∙ ap (λ (g : ℕ). max clock g) (sym c.promises)
 
   now : Waits old b clock first sites (takes ++ t ∷ []) on.desk

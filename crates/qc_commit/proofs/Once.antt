@@ -4,7 +4,7 @@ use Rattle.std.proofs.Common.{length, get_or, filter, inl, inr, refl, sym, subst
 use Rattle.std.specs.List.{range_with_len, AllPairs}
 use Rattle.std.proofs.lemmas.Bool.{cases_eq}
 use Rattle.qc_list.specs.Vocabulary.{In}
-use Rattle.qc_list.proofs.Members.{In-unfiltered}
+use Rattle.qc_list.proofs.Members.{In-unfiltered, In-either}
 
 -- each number stands once
 abbrev pub Once : List ℕ → Type 0
@@ -31,18 +31,10 @@ once-filter test (x ∷ xs) once = by (test x) (once-filter test xs once.1) wher
   by true rest = (λ member. once.0 (In-unfiltered test x xs member), rest)
   by false rest = rest
 
-pub In-split : (x : ℕ) (xs ys : List ℕ) → In x (xs ++ ys) → In x xs ⊎ In x ys
-In-split x [] ys member = inr member
-In-split x (y ∷ xs) ys (inl same) = inl (inl same)
-In-split x (y ∷ xs) ys (inr rest) = by (In-split x xs ys rest) where
-  by : In x xs ⊎ In x ys → In x (y ∷ xs) ⊎ In x ys
-  by (inl member) = inl (inr member)
-  by (inr member) = inr member
-
 pub once-append : (xs ys : List ℕ) → Once xs → Once ys → ((x : ℕ) → In x xs → In x ys → ⊥) → Once (xs ++ ys)
 once-append [] ys first second apart = second
 once-append (x ∷ xs) ys first second apart = (
-  λ member. by (In-split x xs ys member),
+  λ member. by (In-either x xs ys member),
   once-append xs ys first.1 second (λ y there here. apart y (inr there) here),
 ) where
   by : In x xs ⊎ In x ys → ⊥

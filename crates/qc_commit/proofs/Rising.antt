@@ -1,9 +1,8 @@
 -- Over any calls of a desk: stamps rise, what a record tells stays, no two records are of one transaction.
-use Rattle.std.proofs.Common.{◌==◌, ◌&&◌, ◌≡◌, ℕ, ◌<◌, ◌≤◌, ◌≢◌, Bool, true, List, [], ◌∷◌, ◌++◌, get_or, Option, Some}
-use Rattle.std.proofs.Common.{None, inl, inr, refl, sym, ap, ◌∙◌, subst, arith}
+use Rattle.std.proofs.Common.{◌≡◌, ℕ, ◌<◌, ◌≤◌, ◌≢◌, List, [], ◌∷◌, ◌++◌, get_or, Option, Some, None, inl, inr, refl}
+use Rattle.std.proofs.Common.{sym, ap, ◌∙◌, subst, arith}
 use Rattle.std.specs.List.{All, AllPairs}
 use Rattle.std.specs.Option.{option_or}
-use Rattle.std.proofs.lemmas.Bool.{eq-eqb}
 use Rattle.std.proofs.lemmas.List.Elements.{All-nil, All-push, All-weaker}
 use Rattle.std.proofs.lemmas.List.Folds.{find-append}
 use Rattle.std.proofs.lemmas.List.Quantifiers.{all_pairs_push}
@@ -17,6 +16,7 @@ use Rattle.qc_commit.specs.declared.desk.Known.TheVariants.{Committed, Uncommitt
 use Rattle.qc_commit.specs.Vocabulary.{DeskCall, DeskMove, IsCommitted, after_call, after_calls, commit_of, known}
 use Rattle.qc_commit.specs.Vocabulary.{known_by, new_desk, record_of}
 use Rattle.qc_commit.proofs.Records.{Goes, goes, in_hand}
+use Rattle.qc_stamp.proofs.Orders.{same_tx_itself}
 
 -- records rise up to a clock, and have the client's stamps
 pub record Rise (commits : List Commit) (clock client : ℕ) : Type 0 where
@@ -119,16 +119,6 @@ known-calls desk (call ∷ calls) tx stamp is =
 
 -- and it is told once a transaction without a record commits
 
-and-true : (x y : Bool) → x ≡ true → y ≡ true → (x && y) ≡ true
-and-true x y first second = rw (first, second) refl
-
-same-self : (tx : TxId) → same_tx tx tx ≡ true
-same-self tx =
-    and-true (tx.client == tx.client) ((tx.life == tx.life) && (tx.number == tx.number))
-    (eq-eqb tx.client tx.client refl)
-    (and-true (tx.life == tx.life) (tx.number == tx.number) (eq-eqb tx.life tx.life refl)
-    (eq-eqb tx.number tx.number refl))
-
 pub known-new : (old : Desk) (b : Begun) (stamp : Stamp) (move : DeskMove) → IsCommitted old b stamp move
     → known old b.tx ≡ Uncommitted → known move.desk b.tx ≡ Committed stamp
 known-new old b stamp move is none = ap (λ (cs : List Commit). known_by (record_of cs b.tx)) is.kept
@@ -136,7 +126,7 @@ known-new old b stamp move is none = ap (λ (cs : List Commit). known_by (record
     (by (record_of old.commits b.tx) none) where
       by : (o : Option Commit) → known_by o ≡ Uncommitted
           → known_by (option_or o (record_of (commit_of stamp b ∷ []) b.tx)) ≡ Committed stamp
-      by None none = rw (same-self b.tx) refl
+      by None none = rw (same_tx_itself b.tx) refl
       by (Some c) never = absurd (let no : ⊥ = cc in no)
 
 pub clock-rises : (desk : Desk) (call : DeskCall) → desk.clock.value ≤ (after_call desk call).clock.value

@@ -32,12 +32,12 @@ use Rattle.qc_core.proofs.Steady.{acts_steady}
 
 -- few sites are asked, before the numbers of a turn's messages are known as after
 
-few_numbered : (d : Doing) (first : ℕ) → rounds.AsksFew (fronts.numbered d first) → rounds.AsksFew d
+pub few_numbered : (d : Doing) (first : ℕ) → rounds.AsksFew (fronts.numbered d first) → rounds.AsksFew d
 few_numbered Idle first few = tt
 few_numbered (Reading object inv calls round) first few = few
 few_numbered (Appending object inv event calls round) first few = few
 
-few_sent : (c : Client) (first : ℕ) → votes.AsksFew (sent c first).desk.voting
+pub few_sent : (c : Client) (first : ℕ) → votes.AsksFew (sent c first).desk.voting
     → rounds.AsksFew (sent c first).front.doing → AsksFew (actor.Client c)
 few_sent c first = by c.desk.voting refl
   where

@@ -56,7 +56,7 @@ client_deed decl a m (Tells reply) steady = refl
 client_deed decl a m (Falls cause pending) steady = absurd steady
 client_deed decl a m (Rises records) steady = absurd steady
 
-clients : (decl : Declaration) (a : ℕ) (m : ClientMove) (ds : List Deed) → AreSteady ds
+pub clients : (decl : Declaration) (a : ℕ) (m : ClientMove) (ds : List Deed) → AreSteady ds
     → fold (actor_does decl a) (by_client m) ds ≡ by_client (fold (client_does decl) m ds)
 clients decl a m [] steady = refl
 clients decl a m (d ∷ ds) steady = ap (λ (v : ActorMove). fold (actor_does decl a) v ds)

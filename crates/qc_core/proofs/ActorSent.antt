@@ -50,19 +50,19 @@ does_turn decl m first turn =
 
 -- whether a command runs, over them
 
-runs_writes : (r : Bool) (write : Option Record) → fold runs_at r (writes_of write) ≡ r
+pub runs_writes : (r : Bool) (write : Option Record) → fold runs_at r (writes_of write) ≡ r
 runs_writes r None = refl
 runs_writes r (Some written) = refl
 
-runs_sends : (r : Bool) (first : ℕ) (ps : List Posting) → fold runs_at r (sends_of first ps) ≡ r
+pub runs_sends : (r : Bool) (first : ℕ) (ps : List Posting) → fold runs_at r (sends_of first ps) ≡ r
 runs_sends r first [] = refl
 runs_sends r first (p ∷ ps) = runs_sends r (first + 1) ps
 
-runs_tells : (r : Bool) (told : Option Reply) → fold runs_at r (tells_of told) ≡ runs_told r told
+pub runs_tells : (r : Bool) (told : Option Reply) → fold runs_at r (tells_of told) ≡ runs_told r told
 runs_tells r None = refl
 runs_tells r (Some reply) = refl
 
-runs_turn : (r : Bool) (first : ℕ) (turn : Turn) → fold runs_at r (turn_deeds first turn) ≡ runs_told r turn.told
+pub runs_turn : (r : Bool) (first : ℕ) (turn : Turn) → fold runs_at r (turn_deeds first turn) ≡ runs_told r turn.told
 runs_turn r first turn =
     fold-append runs_at r (writes_of turn.write) (sends_of first turn.sends ++ tells_of turn.told)
     ∙ ap (λ (v : Bool). fold runs_at v (sends_of first turn.sends ++ tells_of turn.told)) (runs_writes r turn.write)

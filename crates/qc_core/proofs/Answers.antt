@@ -21,13 +21,14 @@ use Rattle.qc_core.specs.declared.actor.Actor.{Actor}
 use Rattle.qc_core.specs.declared.actor.Actor.TheVariants as actor
 use Rattle.qc_core.specs.Vocabulary.{ActorMove, IsLawfulWithFalls, actor_after, actor_rises, actor_takes, by_admin}
 use Rattle.qc_core.specs.Vocabulary.{by_client, by_site, with_record}
-use Rattle.qc_core.proofs.PostsByTurns.{after_takes, called_turn}
+use Rattle.qc_core.proofs.PostsByTurns.{called_turn}
 use Rattle.qc_core.proofs.LivesOfActors.{rises}
 use Rattle.qc_core.proofs.FrontWrites.{NoAnswer}
 use Rattle.qc_core.proofs.SiteWrites.{IsAnswerTo, IsSiteTurn, site_written}
 use Rattle.qc_core.proofs.AdminTurns.{no_answers}
 use Rattle.qc_core.proofs.AdminWrites.{admin_written}
 use Rattle.qc_core.proofs.Written.{client_answers, client_written, none_answers}
+use Rattle.qc_core.proofs.ActorLaws.{input}
 
 record Answering (P : Posting → Type 0) (t : Turn) : Type 0 where
   sends : Every P t.sends
@@ -68,7 +69,7 @@ pub answers_taken : (decl : Declaration) (a : ℕ) (before : List Deed) (g : Inp
     → IsLawfulWithFalls decl a (before ++ Takes g ∷ []) turn → Every (IsAnswerTo g) (sends_as turn.append turn)
 answers_taken decl a before g turn lawful =
     with_any (IsAnswerTo g) turn
-    (subst (Answering (IsAnswerTo g)) (ap (λ (m : ActorMove). m.turn) (sym (after_takes decl a before g))
+    (subst (Answering (IsAnswerTo g)) (ap (λ (m : ActorMove). m.turn) (sym (input decl a before g))
     ∙ called_turn decl a (before ++ Takes g ∷ []) turn lawful)
     (takes_answer decl (actor_after decl a before).actor g))
 

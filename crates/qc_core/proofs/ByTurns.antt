@@ -16,7 +16,6 @@ use Rattle.qc_msg.specs.declared.turn.Posting.{Posting}
 use Rattle.qc_msg.specs.declared.turn.Turn.{Turn}
 use Rattle.qc_msg.specs.Vocabulary.{Deed, Falls, IsByDisk, Rises, Takes, Tells, command_in, deeds_as, telling}
 use Rattle.qc_msg.specs.declared.step.Command.{Command}
-use Rattle.std.specs.List.{AllByRecursion as Every}
 use Rattle.qc_promise.specs.Vocabulary.{AreByTurns, Called, Failing, Fallen, Faulted, Idle, Open, Place, Rising}
 use Rattle.qc_promise.specs.Vocabulary.{Sending, Written, place_after}
 use Rattle.qc_recover.specs.Vocabulary.{admin_rises, client_rises, rising, site_rises}
@@ -30,24 +29,18 @@ use Rattle.qc_core.proofs.LivesOfActors.{down, rises, up}
 use Rattle.qc_core.proofs.OpenedInputs.{Opened, opened, up_more, post_up}
 use Rattle.qc_core.proofs.ActorKinds.{kind_after}
 use Rattle.qc_core.proofs.RestingPlaces.{after, along, is_resting, Fits, still_up, rising_post}
-use Rattle.qc_core.proofs.PostsByTurns.{called_turn, after_takes, taken_post, down_post}
+use Rattle.qc_core.proofs.PostsByTurns.{called_turn, taken_post, down_post}
+use Rattle.qc_core.proofs.ActorLaws.{input}
+use Rattle.qc_list.proofs.Members.{every-front, every-back}
 
 -- who lives
-
-front_all : {A : Type 0} (P : A → Type 0) (xs ys : List A) → Every P (xs ++ ys) → Every P xs
-front_all P [] ys all = tt
-front_all P (x ∷ xs) ys all = (all.0, front_all P xs ys all.1)
-
-back_all : {A : Type 0} (P : A → Type 0) (xs ys : List A) → Every P (xs ++ ys) → Every P ys
-back_all P [] ys all = all
-back_all P (x ∷ xs) ys all = back_all P xs ys all.1
 
 module _ (decl : Declaration) (a : ℕ) where
   abbrev Commanded : List Deed → Type 0
   Commanded ds = is_site decl a ≡ true → AreUncommanded ds
 
   earlier : (ds more : List Deed) → Commanded (ds ++ more) → Commanded ds
-  earlier ds more none site = front_all IsUncommanded ds more (none site)
+  earlier ds more none site = every-front IsUncommanded ds more (none site)
 
   abbrev IsPlaced : List Deed → Bool → Type 0
   IsPlaced ds b = Fits (is_up ds) b (place_after (is_site decl a) ds)
@@ -123,7 +116,7 @@ module _ (decl : Declaration) (a : ℕ) where
     where
       by : (x : Bool) → is_site decl a ≡ x → x ≡ false
       by true is = absurd (commanded o.given reach
-          (back_all IsUncommanded o.before (Takes o.given ∷ []) (subst AreUncommanded o.is (none is))).0)
+          (every-back IsUncommanded o.before (Takes o.given ∷ []) (subst AreUncommanded o.is (none is))).0)
       by false is = refl
 
   posts_placed : (ds : List Deed) (turn : Turn) (first : ℕ) (o : Opened ds) → Commanded ds
@@ -137,7 +130,7 @@ module _ (decl : Declaration) (a : ℕ) where
       (taken_post decl (is_site decl a) (actor_after decl a o.before).actor o.given turn first
       (kind_after decl a o.before)
       (up decl a o.before (still o.is is))
-      (ap (λ (m : ActorMove). m.turn) (sym (after_takes decl a o.before o.given) ∙ ap (actor_after decl a) (sym o.is))
+      (ap (λ (m : ActorMove). m.turn) (sym (input decl a o.before o.given) ∙ ap (actor_after decl a) (sym o.is))
       ∙ called_turn decl a ds turn lawful) lawful.may_end))
     where
       still : ds ≡ o.before ++ Takes o.given ∷ [] → is_up ds ≡ true → is_up o.before ≡ true
@@ -163,7 +156,7 @@ module _ (decl : Declaration) (a : ℕ) where
           down_post turn first
           (sym (turn_is o.given (subst (λ (u : Bool). MayReach u o.given) before_down o.reach))
           ∙ sym (ap (λ (v : Actor). (actor_takes decl v o.given).turn) (down decl a o.before before_down))
-          ∙ ap (λ (m : ActorMove). m.turn) (sym (after_takes decl a o.before o.given)
+          ∙ ap (λ (m : ActorMove). m.turn) (sym (input decl a o.before o.given)
           ∙ ap (actor_after decl a) (sym o.is)) ∙ called_turn decl a ds turn lawful)
           lawful.may_end
 
@@ -217,7 +210,7 @@ module _ (decl : Declaration) (a : ℕ) where
   place_lives ds b n (lives.takes before g m life may reach) none =
       moves before (Takes g ∷ []) (is_up before) true refl
       (comes (is_up before) (is_site decl a) (place_after (is_site decl a) before) g
-      (λ site. (back_all IsUncommanded before (Takes g ∷ []) (none site)).0) reach
+      (λ site. (every-back IsUncommanded before (Takes g ∷ []) (none site)).0) reach
       (place_lives before false m life (earlier before (Takes g ∷ []) none)))
   place_lives ds b n (lives.posts before turn m first life above lawful) none =
       posts_placed before turn first (opened decl a before true m life refl)

@@ -3,7 +3,7 @@ use Rattle.std.proofs.Common.{◌≡◌, ℕ, zero, suc, ◌+◌, ◌-◌, ◌%�
 use Rattle.std.proofs.Common.{length, map, Option, Some, None, is_some, refl, sym, ap, subst, arith}
 use Rattle.std.specs.List.{AllByRecursion as Every, range_with_len}
 use Rattle.std.proofs.lemmas.List.{length-map}
-use Rattle.qc_list.proofs.Members.{every-append, every-filter}
+use Rattle.qc_list.proofs.Members.{every-append, every-filter, length-filter}
 use Rattle.qc_decl.specs.declared.declaration.Declaration.{Declaration}
 use Rattle.qc_decl.specs.Vocabulary.{IsAccepted, first_site}
 use Rattle.qc_plan.specs.Vocabulary.{cyclic}
@@ -37,8 +37,8 @@ use Rattle.qc_client.specs.Vocabulary.{commits, heard, moved, new_client, sent, 
 use Rattle.qc_core.specs.Vocabulary.{IsFrom, IsShort}
 use Rattle.qc_core.proofs.FewSites.{AreSites}
 use Rattle.qc_core.proofs.FrontReaches.{Reaches, asked_in, called_reaches, takes_reaches, verdicts_few, verdicts_reach}
-use Rattle.qc_core.proofs.RoundSites.{cyclic_length, length_filter}
 use Rattle.qc_link.specs.Vocabulary.{most_actors}
+use Rattle.qc_plan.proofs.Rounds.{length-cyclic}
 
 -- the sites that a client's transactions asked are sites
 
@@ -129,9 +129,9 @@ module _ (decl : Declaration) (accepted : IsAccepted decl) where
         let same : length (map (prepares b) (participants decl client b)) ≡ length (participants decl client b) =
         length-map (participants decl client b) (prepares b) in
         let fewer : length (participants decl client b) ≤ length (cyclic decl.sites (first_site decl client)) =
-        length_filter (has_granted b.lives) (cyclic decl.sites (first_site decl client)) in
+        length-filter (has_granted b.lives) (cyclic decl.sites (first_site decl client)) in
         let whole : length (cyclic decl.sites (first_site decl client)) ≡ decl.sites =
-        cyclic_length decl.sites (first_site decl client) (first_low client) in
+        length-cyclic decl.sites (first_site decl client) (first_low client) in
         let most : decl.sites ≤ 16 = accepted.sites in
         omega arith;
   }

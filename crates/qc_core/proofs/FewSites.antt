@@ -1,25 +1,22 @@
 -- Sites that ascend, each once, are no more than there are, and stay so where more are asked.
-use Rattle.std.proofs.Common.{◌≡◌, ℕ, ◌+◌, ◌-◌, ◌<◌, ◌≤◌, List, [], ◌∷◌, fold, length, arith}
+use Rattle.std.proofs.Common.{ℕ, ◌+◌, ◌-◌, ◌<◌, ◌≤◌, List, [], ◌∷◌, fold, length, arith}
 use Rattle.std.specs.List.{AllByRecursion as Every}
 use Rattle.std.specs.Ordering.{nat_cmp}
 use Rattle.std.specs.declared.cmp.Ordering.{Ordering}
 use Rattle.std.specs.declared.cmp.Ordering.TheVariants.{Less, Equal, Greater}
 use Rattle.std.proofs.lemmas.Cmp.{nat_cmp_total}
-use Rattle.std.proofs.lemmas.Bool.Decides.{nat_tests}
 use Rattle.qc_list.specs.Vocabulary.{Ascends, IsBelowAll, by_order, inserted}
 use Rattle.qc_list.proofs.Order.{ascends-inserted}
 use Rattle.qc_msg.specs.Vocabulary.{with_site}
+use Rattle.qc_list.proofs.Numbers.{below_from_cmp}
 
 pub record AreSites (n : ℕ) (xs : List ℕ) : Type 0 where
   pub below : Every (λ site. site < n) xs
   pub ascends : Ascends nat_cmp xs
 
-less : (x y : ℕ) → nat_cmp x y ≡ Less → x < y
-less x y is = grind (arith, nat_tests)
-
 above : (x : ℕ) (ys : List ℕ) → IsBelowAll nat_cmp x ys → Every (λ y. x + 1 ≤ y) ys
 above x [] is = tt
-above x (y ∷ ys) is = (let low : x < y = less x y is.0 in omega arith, above x ys is.1)
+above x (y ∷ ys) is = (let low : x < y = below_from_cmp x y is.0 in omega arith, above x ys is.1)
 
 few_between : (m n : ℕ) (xs : List ℕ) → Every (λ x. m ≤ x) xs → Every (λ x. x < n) xs → Ascends nat_cmp xs
     → length xs ≤ n - m
@@ -30,7 +27,7 @@ few_between m n (x ∷ xs) low high order =
     let most : x < n = high.0 in
     omega arith
 
-none_low : (xs : List ℕ) → Every (λ x. 0 ≤ x) xs
+pub none_low : (xs : List ℕ) → Every (λ x. 0 ≤ x) xs
 none_low [] = tt
 none_low (x ∷ xs) = (omega arith, none_low xs)
 

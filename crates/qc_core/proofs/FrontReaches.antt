@@ -35,9 +35,10 @@ use Rattle.qc_front.specs.Vocabulary.{BegunHolds, FrontHolds, FrontMove, aborts,
 use Rattle.qc_front.specs.Vocabulary.{append_want, appended_with, appending_takes, begins, called, commits, gives_up}
 use Rattle.qc_front.specs.Vocabulary.{goes_on, learns, lived, moved, next_own, performs, read_by, read_want, read_with}
 use Rattle.qc_front.specs.Vocabulary.{reading_takes, reads, request_of, resp_of, round_for, standing_of, takes}
-use Rattle.qc_front.specs.Vocabulary.{takes_in, with_event, with_view}
+use Rattle.qc_front.specs.Vocabulary.{takes_in, with_event}
 use Rattle.qc_core.proofs.FewSites.{AreSites, few_sites, more_sites}
 use Rattle.qc_core.proofs.RoundSites.{RestFits, round_fits, start_fits, wanted_below, wanted_few}
+use Rattle.qc_front.proofs.CommandsKeep.{view_keeps}
 
 -- a move sends few messages, to sites; and the sites that its transaction asked are sites
 
@@ -97,21 +98,17 @@ gives_reaches n front t reply are = record {
 
 -- the asked sites stay, whatever joins the transaction
 
-view_asked : (t : Transaction) (object : ℕ) (o : Option View) → (with_view t object o).begun ≡ t.begun
-view_asked t object None = refl
-view_asked t object (Some v) = refl
-
 event_asked : (t : Transaction) (object inv event resp : ℕ)
     → (with_event t object inv event resp).begun.asked ≡ t.begun.asked
 event_asked t object inv event resp =
-    ap (λ (b : Begun). b.asked) (view_asked (record t { own = t.own ++ next_own t object event ∷ [] }) object
+    ap (λ (b : Begun). b.asked) (view_keeps (record t { own = t.own ++ next_own t object event ∷ [] }) object
     (option_map (λ (v : View). with_own v event) (slice_get t.views object)))
 
 read_asked : (t : Transaction) (site object : ℕ) (answer : Option Answer)
     → (read_with t site object answer).begun.asked ≡ t.begun.asked
 read_asked t site object None = refl
 read_asked t site object (Some (answers.Granted grant)) =
-    ap (λ (b : Begun). b.asked) (view_asked (lived t site grant.life) object
+    ap (λ (b : Begun). b.asked) (view_keeps (lived t site grant.life) object
     (option_map (λ (v : View). with_log v grant.log) (slice_get t.views object)))
 read_asked t site object (Some (answers.Clash holder inv event)) = refl
 read_asked t site object (Some (answers.Closed epoch)) = refl

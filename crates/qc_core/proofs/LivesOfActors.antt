@@ -1,6 +1,6 @@
 -- An actor through its falls and rises, deed by deed.
-use Rattle.std.proofs.Common.{[], ◌≡◌, ℕ, ◌+◌, ◌-◌, ◌<◌, ◌&&◌, nat_le, nat_lt, arith, ltb-true, Bool, true, false, cond}
-use Rattle.std.proofs.Common.{not, List, ◌∷◌, ◌++◌, fold, Option, Some, None, refl, sym, ap, ◌∙◌}
+use Rattle.std.proofs.Common.{[], ◌≡◌, ℕ, ◌+◌, ◌-◌, ◌<◌, nat_le, nat_lt, arith, ltb-true, Bool, true, false, cond, not}
+use Rattle.std.proofs.Common.{List, ◌∷◌, ◌++◌, fold, Option, Some, None, refl, sym, ap, ◌∙◌}
 use Rattle.std.proofs.lemmas.List.Sums.{fold-append}
 use Rattle.qc_decl.specs.declared.declaration.Declaration.{Declaration}
 use Rattle.qc_decl.specs.Vocabulary.{administrator, is_administrator, is_client, is_site}
@@ -20,6 +20,7 @@ use Rattle.qc_core.specs.Vocabulary.{ActorMove, AreSteady, IsLawful, MayReach, a
 use Rattle.qc_core.specs.Vocabulary.{actor_sends, actor_takes, by_admin, by_client, by_site, is_up, moved, turn_after}
 use Rattle.qc_core.specs.Vocabulary.{turn_with_falls, up_at}
 use Rattle.qc_core.proofs.ActorLaws.{other_client, turns_are_those_of_actors}
+use Rattle.qc_list.proofs.Booleans.{and_second}
 
 -- one deed more
 
@@ -141,10 +142,6 @@ pub same_turn : (decl : Declaration) (a : ℕ) (ds : List Deed) → AreSteady ds
     → turn_with_falls decl a ds ≡ turn_after decl a ds
 same_turn decl a ds steady below = some_turn decl a ds below ∙ sym (turns_are_those_of_actors decl a ds steady below)
 
-and_last : (x y : Bool) → (x && y) ≡ true → y ≡ true
-and_last true y is = is
-and_last false y is = absurd (let no : ⊥ = cc in no)
-
 -- who has a turn without falls comes before the administrator
 pub who_acts : (decl : Declaration) (a : ℕ) (ds : List Deed) (turn : Turn) → IsLawful decl a ds turn
     → a < administrator decl
@@ -155,5 +152,5 @@ who_acts decl a ds turn lawful = by (is_site decl a) (is_client decl a) refl ref
         ≡ Some turn → a < administrator decl
     by true y site client is = let low : a < decl.sites = ltb-true a decl.sites site in omega arith
     by false true site client is =
-        ltb-true a (administrator decl) (and_last (nat_le decl.sites a) (nat_lt a (administrator decl)) client)
+        ltb-true a (administrator decl) (and_second (nat_le decl.sites a) (nat_lt a (administrator decl)) client)
     by false false site client is = absurd (let no : ⊥ = cc in no)

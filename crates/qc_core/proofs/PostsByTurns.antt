@@ -1,7 +1,6 @@
 -- The turn that an actor posts, up or down, is its own, but for what became of its record.
-use Rattle.std.proofs.Common.{[], ◌≡◌, ℕ, ◌+◌, ◌-◌, Bool, true, false, List, ◌∷◌, ◌++◌, Option, Some, None, refl, sym}
-use Rattle.std.proofs.Common.{ap, ◌∙◌, subst}
-use Rattle.std.proofs.lemmas.List.Sums.{fold-append}
+use Rattle.std.proofs.Common.{[], ◌≡◌, ℕ, ◌+◌, Bool, true, false, List, ◌∷◌, ◌++◌, Option, Some, None, refl, sym, ap}
+use Rattle.std.proofs.Common.{◌∙◌, subst}
 use Rattle.qc_decl.specs.declared.declaration.Declaration.{Declaration}
 use Rattle.qc_decl.specs.Vocabulary.{is_administrator, is_client, is_site}
 use Rattle.qc_msg.specs.declared.record.Record.{Record}
@@ -12,12 +11,11 @@ use Rattle.qc_msg.specs.declared.turn.Appended.{Appended}
 use Rattle.qc_msg.specs.declared.turn.Appended.TheVariants.{Done, Failed, Stopped}
 use Rattle.qc_msg.specs.declared.turn.Posting.{Posting}
 use Rattle.qc_msg.specs.declared.turn.Turn.{Turn}
-use Rattle.qc_msg.specs.Vocabulary.{Deed, HasRecord, MayEnd, Takes, Tells, deeds_as, sends_of, telling, tells_of}
-use Rattle.qc_msg.specs.Vocabulary.{writes_of}
+use Rattle.qc_msg.specs.Vocabulary.{Deed, HasRecord, MayEnd, Tells, deeds_as, sends_of, telling, tells_of, writes_of}
 use Rattle.qc_promise.specs.Vocabulary.{Open}
 use Rattle.qc_core.specs.declared.actor.Actor.{Actor}
 use Rattle.qc_core.specs.declared.actor.Actor.TheVariants as actor
-use Rattle.qc_core.specs.Vocabulary.{IsLawfulWithFalls, actor_after, actor_does, actor_takes, with_record}
+use Rattle.qc_core.specs.Vocabulary.{IsLawfulWithFalls, actor_after, actor_takes, with_record}
 use Rattle.qc_core.proofs.AdminTurns.{IsAdminTurn, no_life}
 use Rattle.qc_core.proofs.AdminWrites.{admin_written}
 use Rattle.qc_core.proofs.LivesOfActors.{turn_by}
@@ -42,10 +40,6 @@ called_turn decl a ds turn lawful = by (is_site decl a) (is_client decl a) (is_a
     by false true z is = here is
     by false false true is = here is
     by false false false is = absurd (let no : ⊥ = cc in no)
-
-pub after_takes : (decl : Declaration) (a : ℕ) (ds : List Deed) (g : Input)
-    → actor_after decl a (ds ++ Takes g ∷ []) ≡ actor_takes decl (actor_after decl a ds).actor g
-after_takes decl a ds g = fold-append (actor_does decl a) _ ds (Takes g ∷ [])
 
 -- a post for an input
 

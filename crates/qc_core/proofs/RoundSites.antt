@@ -1,18 +1,19 @@
 -- The sites that a round may still ask are sites, and no more than there are.
-use Rattle.std.proofs.Common.{◌≡◌, ℕ, zero, suc, ◌+◌, ◌-◌, ◌%◌, ◌<◌, ◌≤◌, ◌==◌, nat_lt, Bool, true, false, cond, List}
-use Rattle.std.proofs.Common.{[], ◌∷◌, ◌++◌, filter, length, Option, Some, None, refl, sym, ap, subst, arith}
-use Rattle.std.specs.Prelude.{slice_get, slice_index}
-use Rattle.std.specs.List.{AllByRecursion as Every, range_with_len}
+use Rattle.std.proofs.Common.{◌≡◌, ℕ, zero, suc, ◌+◌, ◌-◌, ◌%◌, ◌<◌, ◌≤◌, nat_lt, true, List, [], ◌∷◌, ◌++◌, length}
+use Rattle.std.proofs.Common.{Option, Some, None, refl, sym, ap, subst, arith}
+use Rattle.std.specs.Prelude.{slice_index}
+use Rattle.std.specs.List.{AllByRecursion as Every}
 use Rattle.std.specs.Option.{option_map_or}
 use Rattle.std.proofs.lemmas.List.{length-append}
-use Rattle.std.proofs.lemmas.List.FromFn.{length-range_with_len}
-use Rattle.qc_list.proofs.Members.{In-passes, every-from_In}
+use Rattle.qc_list.proofs.Members.{In-passes, every-from_In, length-filter}
 use Rattle.qc_decl.specs.declared.declaration.Declaration.{Declaration}
-use Rattle.qc_decl.specs.Vocabulary.{IsAccepted, IsGood, first_site, plan_in}
+use Rattle.qc_decl.specs.Vocabulary.{IsAccepted, first_site, plan_in}
 use Rattle.qc_plan.specs.declared.plan.Plan.{Plan}
 use Rattle.qc_plan.specs.Vocabulary.{RoundState, cyclic, start, wanted, weighing, weight_at}
 use Rattle.qc_front.specs.Vocabulary.{IsRound, sites_of, weights_of}
 use Rattle.qc_front.proofs.Awaited.{wanted_is}
+use Rattle.qc_front.proofs.Fitting.{plan_weights}
+use Rattle.qc_plan.proofs.Rounds.{weighing_none, length-cyclic}
 
 pub record RestFits (n : ℕ) (r : RoundState) : Type 0 where
   pub below : Every (λ site. site < n) r.rest
@@ -38,40 +39,11 @@ wanted_few n r f =
     let few : length r.rest ≤ n = f.few in
     omega arith
 
-pub length_filter : (test : ℕ → Bool) (xs : List ℕ) → length (filter test xs) ≤ length xs
-length_filter test [] = omega arith
-length_filter test (x ∷ xs) = by (test x) (length_filter test xs)
-  where
-    by : (t : Bool) → length (filter test xs) ≤ length xs
-        → length (cond t (x ∷ filter test xs) (filter test xs)) ≤ length (x ∷ xs)
-    by true few = omega arith
-    by false few = omega arith
-
-pub cyclic_length : (sites from : ℕ) → from ≤ sites → length (cyclic sites from) ≡ sites
-cyclic_length sites from low =
-    let whole : length (cyclic sites from) ≡ length (range_with_len from (sites - from)) + length
-    (range_with_len 0 from) = length-append (range_with_len from (sites - from)) (range_with_len 0 from) in
-    let a : length (range_with_len from (sites - from)) ≡ sites - from = length-range_with_len from (sites - from) in
-    let b : length (range_with_len 0 from) ≡ from = length-range_with_len 0 from in
-    omega arith
-
 -- a site of positive weight has one
 weighs_below : (weights : List ℕ) (site : ℕ) → nat_lt 0 (slice_index weights site) ≡ true → site < length weights
 weighs_below [] site is = absurd (let no : ⊥ = cc in no)
 weighs_below (w ∷ ws) zero is = omega arith
 weighs_below (w ∷ ws) (suc site) is = let low : site < length ws = weighs_below ws site is in omega arith
-
-no_weights : (xs : List ℕ) → weighing [] xs ≡ []
-no_weights [] = refl
-no_weights (x ∷ xs) = no_weights xs
-
-plan_weights : (decl : Declaration) (epoch : ℕ) → IsAccepted decl → (p : Plan) → plan_in decl epoch ≡ Some p
-    → length p.weights ≡ decl.sites
-plan_weights decl epoch accepted p is = by (epoch == 0) is
-  where
-    by : (t : Bool) → cond t None (slice_get decl.plans (epoch - 1)) ≡ Some p → length p.weights ≡ decl.sites
-    by true never = absurd (let no : ⊥ = cc in no)
-    by false at = let good : IsGood decl p = accepted.good (epoch - 1) p at in good.weights
 
 start_fits_at : (decl : Declaration) (client need : ℕ) (weights : List ℕ) → IsAccepted decl
     → length weights ≡ decl.sites → RestFits decl.sites (start weights (first_site decl client) need)
@@ -83,9 +55,9 @@ start_fits_at decl client need weights accepted same = record {
       let some : 0 < decl.sites = accepted.has_site in
       let low : client % decl.sites < decl.sites = omega arith in
       let whole : length around ≡ length weights =
-      cyclic_length (length weights) (first_site decl client) (omega arith) in
+      length-cyclic (length weights) (first_site decl client) (omega arith) in
       let fewer : length (weighing weights around) ≤ length around =
-      length_filter (λ s. nat_lt 0 (weight_at weights s)) around in
+      length-filter (λ s. nat_lt 0 (weight_at weights s)) around in
       omega arith;
 } where
   around : List ℕ
@@ -99,7 +71,7 @@ start_fits decl client epoch need accepted = by (plan_in decl epoch) refl
         → RestFits decl.sites (start (option_map_or (λ (p : Plan). p.weights) o []) (first_site decl client) need)
     by None is = subst (λ (rest : List ℕ). RestFits decl.sites
         (record { weights = []; need = need; asked = []; rest = rest }))
-        (sym (no_weights (cyclic 0 (first_site decl client)))) (record { below = tt; few = omega arith })
+        (sym (weighing_none (cyclic 0 (first_site decl client)))) (record { below = tt; few = omega arith })
     by (Some p) is = start_fits_at decl client need p.weights accepted (plan_weights decl epoch accepted p is)
 
 pub round_fits : (decl : Declaration) (client epoch need : ℕ) (r : RoundState) → IsAccepted decl

@@ -30,19 +30,14 @@ use Rattle.qc_core.proofs.SiteDrops.{drops, drops_promises}
 use Rattle.qc_core.proofs.SiteGrowth.{lasts, stays}
 use Rattle.qc_core.proofs.SiteHolds.{hold, remaining, remains}
 use Rattle.qc_core.proofs.SiteLines.{began_shows, view_given}
-use Rattle.qc_core.proofs.SitePosts.{learning-nil, post_ends}
-use Rattle.qc_core.proofs.SitePrepares.{filter_same, last_of, none_prepared, sym_tx}
+use Rattle.qc_core.proofs.SitePosts.{post_ends}
+use Rattle.qc_core.proofs.SitePrepares.{filter_same, last_of, none_prepared}
 use Rattle.qc_core.proofs.SiteShown.{grown, same_state, shown, shown-more}
-use Rattle.qc_core.proofs.SiteSteps.{IsStep, and_false, letter, passed, still}
+use Rattle.qc_core.proofs.SiteSteps.{IsStep, letter, passed, still}
 use Rattle.qc_core.proofs.SiteTalks.{filter_all, stays_held}
-
-or_false : (x : Bool) → (x || false) ≡ x
-or_false true = refl
-or_false false = refl
-
-and_true : (x : Bool) → (x && true) ≡ x
-and_true true = refl
-and_true false = refl
+use Rattle.qc_list.proofs.Booleans.{and_false, and_true, or_false}
+use Rattle.qc_stamp.proofs.Orders.{same_tx_turned}
+use Rattle.qc_promise.proofs.Posts.{learning-nil}
 
 -- the turn that writes a promise and tells it
 abbrev pub promising : ℕ → ℕ → ℕ → Prepared → Turn
@@ -106,7 +101,7 @@ module _ (site : ℕ) (ds : List Deed) (n number from to : ℕ) where
         apart : (q : Prepared) → lasts (Takes preparing ∷ turn_deeds n (promising from number clock p)) q ≡ not
             (same_tx q.tx tx)
         apart q = ap (λ (b : Bool). not b) (or_false (same_tx p.tx q.tx) ∙ ap (λ (t : TxId). same_tx t q.tx) its
-            ∙ sym_tx tx q.tx)
+            ∙ same_tx_turned tx q.tx)
 
   -- Decisions
 
@@ -156,7 +151,7 @@ module _ (site : ℕ) (ds : List Deed) (n number from to : ℕ) where
     where
       apart : (q : Prepared) → lasts (Takes (deciding tx Aborted) ∷ []) q ≡ not (same_tx q.tx tx)
       apart q = ap (λ (b : Bool). not b) (or_false (same_tx tx q.tx && true) ∙ and_true (same_tx tx q.tx)
-          ∙ sym_tx tx q.tx)
+          ∙ same_tx_turned tx q.tx)
 
   pub committed : (tx : TxId) (stamp : Stamp) → stamp.client ≡ tx.client
       → IsStep site ds (deciding tx (Committed stamp)) n
@@ -169,7 +164,7 @@ module _ (site : ℕ) (ds : List Deed) (n number from to : ℕ) where
       apart : (q : Prepared) → lasts (Takes (deciding tx (Committed stamp)) ∷ turn_deeds n (finishing tx stamp.clock)) q
           ≡ not (same_tx q.tx tx)
       apart q = ap (λ (b : Bool). not (b || (same_tx tx q.tx || false))) (and_false (same_tx tx q.tx))
-          ∙ ap (λ (b : Bool). not b) (or_false (same_tx tx q.tx) ∙ sym_tx tx q.tx)
+          ∙ ap (λ (b : Bool). not b) (or_false (same_tx tx q.tx) ∙ same_tx_turned tx q.tx)
 
       done : Finished
       done = record { tx = tx; clock = stamp.clock }

@@ -27,8 +27,7 @@ use Rattle.qc_msg.specs.declared.turn.Appended.TheVariants.{Done}
 use Rattle.qc_msg.specs.declared.step.Input.{Input}
 use Rattle.qc_msg.specs.declared.step.Input.TheVariants as inputs
 use Rattle.qc_msg.specs.declared.turn.Posting.{Posting}
-use Rattle.qc_msg.specs.Vocabulary.{Deed, Requested, Takes, epoch_length, quiet}
-use Rattle.qc_msg.specs.Vocabulary.{start_with}
+use Rattle.qc_msg.specs.Vocabulary.{Deed, Requested, Takes, epoch_length, quiet, start_with}
 use Rattle.qc_promise.specs.Vocabulary.{TurnDue, answers_due, clash_told, closed_refusal, epoch_refusal, fits_record}
 use Rattle.qc_promise.specs.Vocabulary.{granting_turn, inquiries_due, is_declared, is_epoch, is_promised}
 use Rattle.qc_promise.specs.Vocabulary.{prepared_shown, promise_due, promise_in, promise_turn, quiet_turn}
@@ -40,9 +39,10 @@ use Rattle.qc_site.specs.Vocabulary.{shut_answer, site_at, site_on, site_takes}
 use Rattle.qc_core.proofs.SiteDecisions.{promising}
 use Rattle.qc_core.proofs.SiteGrowth.{lasts}
 use Rattle.qc_core.proofs.SiteShown.{shown, shown-more}
-use Rattle.qc_core.proofs.SiteSteps.{and_false, ignored, letter, passed, still}
+use Rattle.qc_core.proofs.SiteSteps.{ignored, letter, passed, still}
 use Rattle.qc_core.proofs.SiteTalks.{filter_all}
 use Rattle.qc_core.proofs.SiteFits.{Does}
+use Rattle.qc_list.proofs.Booleans.{and_false}
 
 module _ (decl : Declaration) (site : ℕ) (ds : List Deed) (from number : ℕ) (tx : TxId) (epoch life : ℕ) where
   abbrev now : SiteState

@@ -12,18 +12,18 @@ use Rattle.qc_msg.specs.declared.message.Message.TheVariants as messages
 use Rattle.qc_msg.specs.declared.record.Record.TheVariants as records
 use Rattle.qc_msg.specs.declared.step.Input.{Input}
 use Rattle.qc_msg.specs.declared.turn.Turn.{Turn}
-use Rattle.qc_msg.specs.Vocabulary.{Deed, epoch_length}
-use Rattle.qc_msg.specs.Vocabulary.{start_with}
+use Rattle.qc_msg.specs.Vocabulary.{Deed, epoch_length, start_with}
 use Rattle.qc_promise.specs.Vocabulary.{Lines, learning, lines_shown, prepared_shown, recorded_by, records_in}
 use Rattle.qc_promise.specs.Vocabulary.{with_promise}
 use Rattle.qc_site.specs.Vocabulary.{SiteState, answering, answers as answered, closed, closes, installed, installs}
 use Rattle.qc_site.specs.Vocabulary.{is_closed_for, moved, recording, shut_answer}
 use Rattle.qc_core.proofs.SiteGrowth.{lasts}
-use Rattle.qc_core.proofs.SitePosts.{learning-nil, post_frees}
+use Rattle.qc_core.proofs.SitePosts.{post_frees}
 use Rattle.qc_core.proofs.SiteRecorded.{posted, prepared_then}
 use Rattle.qc_core.proofs.SiteShown.{grown, same_state, shown, shown-more}
 use Rattle.qc_core.proofs.SiteSteps.{IsStep, letter, passed, still}
 use Rattle.qc_core.proofs.SiteTalks.{clock_passes, filter_all}
+use Rattle.qc_promise.proofs.Posts.{learning-nil}
 
 filter_none : {A : Type 0} (f : A → Bool) → ((x : A) → f x ≡ false) → (xs : List A) → filter f xs ≡ []
 filter_none f none [] = refl

@@ -19,7 +19,7 @@ use Rattle.qc_recover.specs.Vocabulary.{Kept, done_stamp, keeps, kept_by, nothin
 use Rattle.qc_promise.specs.Vocabulary.{Lines, clocks_in_record, clocks_of, closed_by, epoch_by, last_prepare, learning}
 use Rattle.qc_promise.specs.Vocabulary.{life_by, prepare_by, promises_of, recorded_by, recorded_from}
 use Rattle.qc_promise.proofs.Promises.{promises_by_record, promises_with}
-use Rattle.qc_core.proofs.SitePosts.{learning-nil}
+use Rattle.qc_promise.proofs.Posts.{learning-nil}
 
 -- life, epoch, closed epoch
 

@@ -3,7 +3,6 @@ use Rattle.std.proofs.Common.{◌≡◌, ℕ, ◌+◌, Bool, true, false, List, 
 use Rattle.std.proofs.Common.{◌∙◌, subst, append_assoc}
 use Rattle.std.specs.Prelude.{fold}
 use Rattle.std.specs.List.{AllByRecursion as Every}
-use Rattle.std.proofs.lemmas.List.Sums.{fold-append}
 use Rattle.qc_decl.specs.declared.declaration.Declaration.{Declaration}
 use Rattle.qc_msg.specs.declared.record.Record.{Record}
 use Rattle.qc_msg.specs.declared.reply.Reply.{Reply}
@@ -19,19 +18,21 @@ use Rattle.qc_core.specs.Vocabulary.{IsInput, IsLawfulWithFalls, IsSiteDeed, IsS
 use Rattle.qc_core.specs.Vocabulary.{is_up, stays_up, up_at}
 use Rattle.qc_core.specs.Lives as lives
 use Rattle.qc_core.specs.Sites as serving
+use Rattle.qc_core.proofs.OpenedInputs.{up_more}
 
 -- whether a site is up behind a post
 
-sends_stay : (up : Bool) (n : ℕ) (ps : List Posting) (xs : List Deed)
+pub sends_stay : (up : Bool) (n : ℕ) (ps : List Posting) (xs : List Deed)
     → fold up_at up (sends_of n ps ++ xs) ≡ fold up_at up xs
 sends_stay up n [] xs = refl
 sends_stay up n (p ∷ ps) xs = sends_stay up (n + 1) ps xs
 
-tells_stay : (up : Bool) (told : Option Reply) (xs : List Deed) → fold up_at up (tells_of told ++ xs) ≡ fold up_at up xs
+pub tells_stay : (up : Bool) (told : Option Reply) (xs : List Deed)
+    → fold up_at up (tells_of told ++ xs) ≡ fold up_at up xs
 tells_stay up None xs = refl
 tells_stay up (Some r) xs = refl
 
-told_stay : (up : Bool) (told : Option Reply) → fold up_at up (tells_of told) ≡ up
+pub told_stay : (up : Bool) (told : Option Reply) → fold up_at up (tells_of told) ≡ up
 told_stay up None = refl
 told_stay up (Some r) = refl
 
@@ -45,9 +46,6 @@ post_up Failed n turn = sends_stay true n turn.failed_sends
     (tells_of turn.failed_told ++ Falls causes.Disk turn.write ∷ [])
     ∙ tells_stay true turn.failed_told (Falls causes.Disk turn.write ∷ [])
 post_up Stopped n turn = tells_stay true turn.failed_told (Falls causes.Stop turn.write ∷ [])
-
-up_more : (ds xs : List Deed) → is_up (ds ++ xs) ≡ fold up_at (is_up ds) xs
-up_more ds xs = fold-append up_at true ds xs
 
 -- what a site takes, it takes while it is up
 

@@ -6,21 +6,18 @@ use Rattle.std.specs.List.{filter_map, flat_map}
 use Rattle.std.specs.Option.{option_map_or}
 use Rattle.std.proofs.lemmas.List.{append-nil}
 use Rattle.qc_stamp.specs.declared.stamp.TxId.{TxId}
-use Rattle.qc_entry.specs.declared.line.Line.{Line}
 use Rattle.qc_entry.specs.declared.record.Prepared.{Prepared}
-use Rattle.qc_entry.proofs.Union.{union-nil}
 use Rattle.qc_msg.specs.declared.record.Record.{Record}
 use Rattle.qc_msg.specs.declared.reply.Reply.{Reply}
 use Rattle.qc_msg.specs.declared.turn.Posting.{Posting}
 use Rattle.qc_msg.specs.declared.turn.Turn.{Turn}
-use Rattle.qc_msg.specs.Vocabulary.{Deed, install_in, prepare_in, sends_of, tells_of, turn_deeds, writes_of}
+use Rattle.qc_msg.specs.Vocabulary.{Deed, install_in, prepare_in, sends_of, tells_of, turn_deeds, writes_of, written_in}
 use Rattle.qc_msg.specs.declared.payload.EpochStart.{EpochStart}
-use Rattle.qc_msg.specs.Vocabulary.{written_in}
 use Rattle.qc_promise.specs.Vocabulary.{Act, Lines, Sent, Told, Wrote, begun_with_lines, clocks_at, clocks_written}
 use Rattle.qc_promise.specs.Vocabulary.{is_ended, is_over, learning, lines_done, lines_from, posted_next}
 use Rattle.qc_promise.specs.Vocabulary.{promises_since, redeems, sent_by, standing, unless_over}
 use Rattle.qc_promise.proofs.Lifetimes.{AreNoRises}
-use Rattle.qc_promise.proofs.Posts.{posted_sends}
+use Rattle.qc_promise.proofs.Posts.{posted_sends, learning-nil}
 
 -- messages and a reply
 
@@ -63,9 +60,6 @@ talk_records n [] (Some r) = refl
 talk_records n (p ∷ ps) told = talk_records (n + 1) ps told
 
 -- lines of which none are learned, and those that a record tells
-
-pub learning-nil : (l : Lines) → learning l [] ≡ l
-learning-nil l = ap (λ (v : List Line). record l { since = v }) (union-nil l.since)
 
 abbrev pub lines_written : Lines → List Record → Record → Lines
 lines_written l before w = option_map_or (λ (i : EpochStart). begun_with_lines i.lines) (install_in w)

@@ -8,7 +8,7 @@ use Rattle.std.proofs.lemmas.List.Folds.{find-append}
 use Rattle.std.proofs.lemmas.List.Sums.{fold-append}
 use Rattle.qc_stamp.specs.declared.stamp.TxId.{TxId}
 use Rattle.qc_stamp.specs.Vocabulary.{same_tx}
-use Rattle.qc_stamp.proofs.Orders.{other_tx_sym, same_tx_is, same_tx_itself}
+use Rattle.qc_stamp.proofs.Orders.{same_tx_is}
 use Rattle.qc_entry.specs.declared.record.Prepared.{Prepared}
 use Rattle.qc_msg.specs.declared.record.Record.{Record}
 use Rattle.qc_msg.specs.declared.record.Record.TheVariants as records
@@ -17,13 +17,6 @@ use Rattle.qc_promise.specs.Vocabulary.{is_aborted, is_decision, is_over, last_p
 use Rattle.qc_promise.specs.Vocabulary.{prepared_shown, promise_in, promises_of, promises_since, records_in, redeems}
 use Rattle.qc_promise.specs.Vocabulary.{unless_over, unless_redeemed}
 use Rattle.qc_site.specs.Vocabulary.{is_prepared, prepared_of, without_prepared}
-
-pub sym_tx : (a b : TxId) → same_tx a b ≡ same_tx b a
-sym_tx a b = by (same_tx a b) refl
-  where
-    by : (t : Bool) → same_tx a b ≡ t → t ≡ same_tx b a
-    by true is = sym (subst (λ (u : TxId). same_tx u a ≡ true) (same_tx_is a b is) (same_tx_itself a))
-    by false is = sym (other_tx_sym a b is)
 
 or_first : (x y : Bool) → (x || y) ≡ false → x ≡ false
 or_first false y e = refl

@@ -28,10 +28,10 @@ use Rattle.qc_core.proofs.SiteGrowth.{recorded-more}
 use Rattle.qc_core.proofs.SiteKept.{clock_by_records, closed_by_records, epoch_by_records, life_by_records}
 use Rattle.qc_core.proofs.SiteKept.{lines_by_records, promises_by_records}
 use Rattle.qc_core.proofs.SiteHolds.{AreNoCuts, held_in, hold, none_ended, remaining, talk_uncut, uncut, whole}
-use Rattle.qc_core.proofs.SitePosts.{clocks_by, learning-nil, lines_written, post_clocks, post_ends, post_frees}
-use Rattle.qc_core.proofs.SitePosts.{post_lines, post_prepares, post_records, post_rises, post_stands, promises_by}
-use Rattle.qc_core.proofs.SitePosts.{talk}
+use Rattle.qc_core.proofs.SitePosts.{clocks_by, lines_written, post_clocks, post_ends, post_frees, post_lines}
+use Rattle.qc_core.proofs.SitePosts.{post_prepares, post_records, post_rises, post_stands, promises_by, talk}
 use Rattle.qc_core.proofs.SiteShown.{same_state, shown}
+use Rattle.qc_promise.proofs.Posts.{learning-nil}
 
 none_over : (ds : List Deed) → ((tx : TxId) → is_over tx ds ≡ false) → (ps : List Prepared) → left_of ds ps ≡ ps
 none_over ds none [] = refl

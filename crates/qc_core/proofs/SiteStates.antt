@@ -30,7 +30,7 @@ use Rattle.qc_core.proofs.SiteRises.{risen_shown}
 use Rattle.qc_core.proofs.SiteShown.{shown}
 
 -- only a turn whose record is written leaves its site up
-was_written : (end : Appended) → stays_up end ≡ true → end ≡ Done
+pub was_written : (end : Appended) → stays_up end ≡ true → end ≡ Done
 was_written Done is = refl
 was_written Failed is = absurd (let never : ⊥ = cc in never)
 was_written Stopped is = absurd (let never : ⊥ = cc in never)

@@ -17,16 +17,16 @@ use Rattle.qc_msg.specs.declared.reply.Reply.{Reply}
 use Rattle.qc_msg.specs.declared.step.Input.{Input}
 use Rattle.qc_msg.specs.declared.step.Input.TheVariants as inputs
 use Rattle.qc_msg.specs.declared.turn.Posting.{Posting}
-use Rattle.qc_msg.specs.Vocabulary.{Deed, Takes, granted_in, quiet, says, turn_deeds}
-use Rattle.qc_msg.specs.Vocabulary.{grant_with, read_of}
+use Rattle.qc_msg.specs.Vocabulary.{Deed, Takes, granted_in, quiet, says, turn_deeds, grant_with, read_of}
 use Rattle.qc_promise.specs.Vocabulary.{Lines, lines_shown, view_in}
 use Rattle.qc_site.specs.Vocabulary.{SiteMove, SiteState, answering, answers as answered, appends, clashing}
 use Rattle.qc_site.specs.Vocabulary.{clock_after, known, learned, moved, reads}
 use Rattle.qc_core.proofs.SiteHolds.{hold, standing_given}
 use Rattle.qc_core.proofs.SiteLines.{view_given}
-use Rattle.qc_core.proofs.SitePosts.{learning-nil}
 use Rattle.qc_core.proofs.SiteShown.{shown, shown-more}
 use Rattle.qc_core.proofs.SiteTalks.{DecidesNothing, clock_passes, stands_still, talks}
+use Rattle.qc_list.proofs.Booleans.{and_false}
+use Rattle.qc_promise.proofs.Posts.{learning-nil}
 
 abbrev pub letter : ℕ → ℕ → ℕ → Message → Input
 letter number from to m = inputs.Got (record { number = number; from = from; to = to; message = m })
@@ -38,10 +38,6 @@ IsStep site ds g n move = move.site ≡ shown site (ds ++ Takes g ∷ turn_deeds
 -- the state that the deeds show, the clock passed by a message
 abbrev pub passed : ℕ → List Deed → Message → SiteState
 passed site ds m = record (shown site ds) { clock = clock_after (shown site ds).clock m }
-
-pub and_false : (x : Bool) → (x && false) ≡ false
-and_false true = refl
-and_false false = refl
 
 module _ (site : ℕ) (ds : List Deed) (n number from to : ℕ) where
   -- a message that decides nothing and is granted nothing

@@ -21,9 +21,10 @@ use Rattle.qc_site.specs.Vocabulary.{clock_after, latest}
 use Rattle.qc_core.proofs.SiteGrowth.{lasts, stays}
 use Rattle.qc_core.proofs.SiteHolds.{hold, held_on, remaining, remains, standing_given}
 use Rattle.qc_core.proofs.SiteLines.{view_given}
-use Rattle.qc_core.proofs.SitePosts.{learning-nil, post_ends, post_frees}
+use Rattle.qc_core.proofs.SitePosts.{post_ends, post_frees}
 use Rattle.qc_core.proofs.SiteRecorded.{clocks_given}
 use Rattle.qc_core.proofs.SiteShown.{grown, same_state, shown}
+use Rattle.qc_promise.proofs.Posts.{learning-nil}
 
 pub filter_all : {A : Type 0} (f : A → Bool) → ((x : A) → f x ≡ true) → (xs : List A) → filter f xs ≡ xs
 filter_all f all [] = refl

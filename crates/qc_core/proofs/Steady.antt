@@ -13,7 +13,7 @@ pub both_steady : (xs ys : List Deed) → AreSteady xs → AreSteady ys → AreS
 both_steady [] ys first second = second
 both_steady (x ∷ xs) ys first second = (first.0, both_steady xs ys first.1 second)
 
-sends_steady : (n : ℕ) (ps : List Posting) (told : Option Reply) → AreSteady (sends_of n ps ++ tells_of told)
+pub sends_steady : (n : ℕ) (ps : List Posting) (told : Option Reply) → AreSteady (sends_of n ps ++ tells_of told)
 sends_steady n [] None = tt
 sends_steady n [] (Some reply) = (tt, tt)
 sends_steady n (p ∷ ps) told = (tt, sends_steady (n + 1) ps told)

@@ -1,5 +1,5 @@
 -- An accepted declaration has a name for each thing: they are few, and stand for their places.
-use Rattle.std.proofs.Common.{◌≡◌, ℕ, zero, suc, ◌<◌, ◌≤◌, List, [], ◌∷◌, Some, length, map, refl, arith}
+use Rattle.std.proofs.Common.{◌≡◌, ℕ, ◌<◌, ◌≤◌, Some, length, map, arith}
 use Rattle.std.specs.Prelude.{slice_get}
 use Rattle.std.proofs.lemmas.List.{length-map}
 use Rattle.std.proofs.lemmas.Option.{slice_get_within}
@@ -8,12 +8,7 @@ use Rattle.qc_decl.proofs.Places.{names_stand}
 use Rattle.qc_decl.specs.Vocabulary.{HasNames, IsAccepted, IsNamed, StandForPlaces, most_invocations}
 use Rattle.qc_decl.specs.declared.declaration.Declaration.{Declaration}
 use Rattle.qc_decl.specs.declared.declaration.KindNames.{KindNames}
-
--- within a list there is an item
-some_at : {A : Type 0} (xs : List A) (k : ℕ) → k < length xs → (x : A) × (slice_get xs k ≡ Some x)
-some_at [] k within = absurd (omega arith)
-some_at (x ∷ xs) zero within = (x, refl)
-some_at (x ∷ xs) (suc k) within = some_at xs k (omega arith)
+use Rattle.qc_list.proofs.Places.{some_at}
 
 -- the type that names are of
 pub record IsTypeOf (decl : Declaration) (number : ℕ) (names : KindNames) : Type 0 where

@@ -1,5 +1,6 @@
 -- Names: which texts are names, and lists of names.
-use Rattle.std.specs.Prelude.{◌≡◌, ◌≢◌, ℕ, Bool, ◌==◌, ◌&&◌, ◌||◌, nat_le, List, length, AllPairs, IsTrue}
+use Rattle.std.specs.Prelude.{◌≡◌, ◌≢◌, ℕ, Bool, ◌==◌, ◌&&◌, ◌||◌, nat_le, List, [], length, AllPairs, IsTrue}
+use Rattle.std.specs.Prelude.{slice_get, unwrap_or}
 use Rattle.std.specs.List.{list_all}
 use Rattle.qc_decl.specs.Limits.{longest_name}
 
@@ -14,6 +15,10 @@ is_name_byte b = is_between 48 57 b || (is_between 65 90 b || (is_between 97 122
 -- a name is one or more of them, and not too many
 abbrev pub is_name : List ℕ → Bool
 is_name text = is_between 1 longest_name (length text) && list_all is_name_byte text
+
+-- the name with this number; no byte where there is none
+abbrev pub name_at : List (List ℕ) → ℕ → List ℕ
+name_at names k = unwrap_or (slice_get names k) []
 
 -- so many names, and no two the same
 pub record AreNames (many : ℕ) (names : List (List ℕ)) : Type 0 where

@@ -10,6 +10,6 @@ pub use Rattle.qc_decl.specs.Limits.{most_triples, most_types}
 pub use Rattle.qc_decl.specs.Lookup.{append_need_of, kind_at, plan_in, read_need_of, relation_at, resp_of, table_at}
 pub use Rattle.qc_decl.specs.Lookup.{weights_of}
 pub use Rattle.qc_decl.specs.Named.{IsNamed, StandForPlaces, inv_named, names_of, object_named, place_of}
-pub use Rattle.qc_decl.specs.Names.{AreNames, is_between, is_name, is_name_byte}
+pub use Rattle.qc_decl.specs.Names.{AreNames, is_between, is_name, is_name_byte, name_at}
 pub use Rattle.qc_decl.specs.One.{built_in_of, one, register, register_kind, register_names, register_pairs}
 pub use Rattle.qc_decl.specs.One.{register_plan, register_store, row, three}

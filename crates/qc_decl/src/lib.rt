@@ -12,6 +12,7 @@ mod declaration;
 mod laws;
 mod limits;
 mod named;
+mod names;
 mod one;
 
 pub use declaration::{Declaration, KindNames, KindNamesList, Kinds, Names, Objects, Plans};
@@ -23,4 +24,5 @@ pub use limits::{
     MOST_SCRIPT_BYTES, MOST_SITES, MOST_STATES, MOST_STEPS, MOST_TRANSACTION_OPERATIONS,
     MOST_TRIPLES, MOST_TYPES, limits_are_as_defined,
 };
+pub use names::name_at;
 pub use one::built_in;

@@ -62,7 +62,7 @@ swapped : {A B : Type 0} → A ⊎ B → B ⊎ A
 swapped (inl a) = inr a
 swapped (inr b) = inl b
 
-in_union : (l : Line) (xs ys : List Line) → In l xs ⊎ In l ys → In l (union xs ys)
+pub in_union : (l : Line) (xs ys : List Line) → In l xs ⊎ In l ys → In l (union xs ys)
 in_union l xs ys (inl member) = in_first l xs ys member
 in_union l xs ys (inr member) = in_second l xs ys member
 

@@ -10,11 +10,7 @@ use Rattle.qc_msg.specs.declared.step.Step.{Step}
 use Rattle.qc_msg.specs.declared.step.Step.TheVariants as steps
 use Rattle.qc_script.specs.Vocabulary.{step_of_control}
 use Rattle.qc_fabric.specs.Vocabulary.{before_last_event, begins_event, has_event}
-
--- an event stands in a history
-or_true : (b : Bool) → (b || true) ≡ true
-or_true true = refl
-or_true false = refl
+use Rattle.qc_list.proofs.Booleans.{or_true}
 
 stands : (h : List Entry) (e : Entry) (post : List Entry) → begins_event e.step ≡ true
     → has_event (h ++ e ∷ post) ≡ true

@@ -19,6 +19,7 @@ use Rattle.qc_msg.proofs.GrownMail.{by-append}
 use Rattle.qc_msg.proofs.Growth.{same_deeds}
 use Rattle.qc_mailbox.specs.Vocabulary.{is_held}
 use Rattle.qc_fabric.specs.Vocabulary.{CanFeed, Fed, Feeding, HasGrown, Logged, size_of}
+use Rattle.qc_msg.proofs.DeedsGrow.{length-by}
 
 -- lists of numbers
 
@@ -48,16 +49,6 @@ get_else (z ∷ l) zero zero x ne = absurd (ne refl)
 get_else (z ∷ l) zero (suc j) x ne = refl
 get_else (z ∷ l) (suc i) zero x ne = refl
 get_else (z ∷ l) (suc i) (suc j) x ne = get_else l i j x (λ e. ne (ap suc e))
-
-pub get_within : {A : Type 0} (l : List A) (i : ℕ) (x : A) → slice_get l i ≡ Some x → i < length l
-get_within [] i x e = absurd (let no : ⊥ = cc in no)
-get_within (z ∷ l) zero x e = omega arith
-get_within (z ∷ l) (suc i) x e = let r : i < length l = get_within l i x e in omega arith
-
-pub length_set : {A : Type 0} (l : List A) (i : ℕ) (x : A) → length (slice_set l i x) ≡ length l
-length_set [] i x = refl
-length_set (z ∷ l) zero x = refl
-length_set (z ∷ l) (suc i) x = ap suc (length_set l i x)
 
 -- a pass and the right met
 
@@ -122,10 +113,6 @@ pub fed_one : (p q : Pass Step) (r t : Right Step) (s : Step) → Met p r q t (s
 fed_one p q r t s m a = fed_more p q q r t t s [] m a (fed_none q t)
 
 -- the log
-
-pub length-by : (a : ℕ) (ss : List Step) → length (by a ss) ≡ length ss
-length-by a [] = refl
-length-by a (s ∷ ss) = ap suc (length-by a ss)
 
 pub length-sents : (n : ℕ) (ps : List Posting) → length (sents n ps) ≡ length ps
 length-sents n [] = refl

@@ -18,9 +18,11 @@ use Rattle.qc_script.specs.Vocabulary.{RunsWithFalls, phase_of}
 use Rattle.qc_script.specs.declared.script.Script.{Script}
 use Rattle.qc_fabric.specs.Vocabulary.{ArmsNone, ArmsNoneBehind, Fed, HasGrown, IsFabricState, IsSame, Logged, Sees}
 use Rattle.qc_fabric.specs.Vocabulary.{before_last_event, full_of}
-use Rattle.qc_fabric.proofs.Fed.{length-by, length_set, rooms_kept}
+use Rattle.qc_fabric.proofs.Fed.{rooms_kept}
 use Rattle.qc_fabric.proofs.Gains.{Gain, end_else, end_here, gain, saw, unarmed_by}
 use Rattle.qc_fabric.proofs.KeptParts.{all_of, right_of, rooms_of, unarmed_of}
+use Rattle.qc_list.proofs.Places.{length-slice_set}
+use Rattle.qc_msg.proofs.DeedsGrow.{length-by}
 
 module _ {L : ℕ → List Deed → Turn → Type 0} {F : ℕ → List Record → Type 0} {D : Declaration} {S : Script} {z : TableId}
     {w : Script} {lg : Logged} {mb : Roomy} {op hd : List Bool} {ph rsv sp : ℕ} {tb : TableId}
@@ -105,7 +107,7 @@ module _ {L : ℕ → List Deed → Turn → Type 0} {F : ℕ → List Record �
           phase_is = s.phase_is ∙ (sym phs ∙ ap (λ (l : List Entry). phase_of l) (sym g.history));
           opens = len_op;
           helds = len_hd;
-          passes = ap length rooms_after ∙ (length_set (rooms r) (number p) kept
+          passes = ap length rooms_after ∙ (length-slice_set (rooms r) (number p) kept
               ∙ (ap length (sym (rooms_of s r e)) ∙ s.passes));
           sum_is = sums;
           log_room = omega (arith, enough, s.log_room, g.room, long);

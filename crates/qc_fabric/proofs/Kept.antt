@@ -21,10 +21,11 @@ use Rattle.qc_script.specs.Vocabulary.{IsScriptFor, RunsWithFalls, begins, phase
 use Rattle.qc_script.specs.declared.script.Script.{Script}
 use Rattle.qc_fabric.specs.Vocabulary.{ArmsNone, ArmsNoneBehind, IsFabricState, Logged, before_last_event, full_of}
 use Rattle.qc_fabric.specs.Vocabulary.{most_history}
-use Rattle.qc_fabric.proofs.Fed.{get_else, length_set, sum-set, sum_cons}
+use Rattle.qc_fabric.proofs.Fed.{get_else, sum-set, sum_cons}
 use Rattle.qc_fabric.proofs.Gains.{look_unarmed}
 use Rattle.qc_link.specs.Vocabulary.{most_actors}
 use Rattle.qc_fabric.proofs.KeptParts.{no_room_at, unarmed_at, all_of, rooms_of, right_of, unarmed_of}
+use Rattle.qc_list.proofs.Places.{length-slice_set}
 
 module _ {L : ℕ → List Deed → Turn → Type 0} {F : ℕ → List Record → Type 0} {D : Declaration} {S : Script} {z : TableId}
     {w : Script} {lg : Logged} {mb : Roomy} {op hd : List Bool} {ph rsv sp : ℕ} {tb : TableId}
@@ -53,7 +54,8 @@ module _ {L : ℕ → List Deed → Turn → Type 0} {F : ℕ → List Record �
         phase_is = s.phase_is ∙ ap (λ (l : List Entry). phase_of l) (sym es);
         opens = s.opens;
         helds = s.helds;
-        passes = ap length m.rooms_are ∙ (length_set (rooms r) (number p) k ∙ (ap length (sym before) ∙ s.passes));
+        passes =
+            ap length m.rooms_are ∙ (length-slice_set (rooms r) (number p) k ∙ (ap length (sym before) ∙ s.passes));
         sum_is =
             omega (
               arith,
@@ -98,8 +100,9 @@ module _ {L : ℕ → List Deed → Turn → Type 0} {F : ℕ → List Record �
         kept = s.kept;
         phase_is = s.phase_is;
         opens = s.opens;
-        helds = length_set hd b false ∙ s.helds;
-        passes = ap length m.rooms_are ∙ (length_set (rooms r) (number p) 0 ∙ (ap length (sym before) ∙ s.passes));
+        helds = length-slice_set hd b false ∙ s.helds;
+        passes =
+            ap length m.rooms_are ∙ (length-slice_set (rooms r) (number p) 0 ∙ (ap length (sym before) ∙ s.passes));
         sum_is =
             omega (arith, total, ap (λ (l : List ℕ). sum l) m.rooms_are, ap (λ (l : List ℕ). sum l) before, s.sum_is);
         log_room = omega (arith, s.log_room);

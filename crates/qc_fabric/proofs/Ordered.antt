@@ -20,8 +20,7 @@ use Rattle.qc_pass.specs.declared.token.Pass.{Pass}
 use Rattle.qc_pass.specs.declared.token.Right.{Right}
 use Rattle.qc_pass.specs.Vocabulary.{Met, all, number, room, seen}
 use Rattle.qc_promise.specs.Vocabulary.{arms_disk}
-use Rattle.qc_script.specs.Vocabulary.{RunsWithFalls, control, controller_step, controls_left, phase, phase_of}
-use Rattle.qc_script.specs.Vocabulary.{step_of_control}
+use Rattle.qc_script.specs.Vocabulary.{RunsWithFalls, control, controls_left, phase, phase_of, step_of_control}
 use Rattle.qc_script.specs.declared.script.PhaseLines.{PhaseLines}
 use Rattle.qc_script.specs.declared.script.Script.{Script}
 use Rattle.qc_fabric.specs.Vocabulary.{Does, HasGrown, IsFabricState, Logged, MayDo, control_step, full_of}
@@ -29,6 +28,7 @@ use Rattle.qc_fabric.specs.Vocabulary.{most_history}
 use Rattle.qc_fabric.proofs.Events.{begins_control}
 use Rattle.qc_fabric.proofs.KeptParts.{all_of, steps_on}
 use Rattle.qc_fabric.proofs.Phased.{phase_control, phase_more}
+use Rattle.qc_script.proofs.Fallless.{same_step}
 
 phase_now : (h : List Entry) (a k : ℕ) → phase_of (h ++ marked a (steps.Phase k) ∷ []) ≡ k
 phase_now h a k = phase_more h (marked a (steps.Phase k) ∷ [])
@@ -40,14 +40,6 @@ step_same (controls.Heal x y) step is = is
 step_same (controls.Armed actor kind n) step is = absurd (let no : ⊥ = cc in no)
 step_same (controls.Crash x) step is = absurd (let no : ⊥ = cc in no)
 step_same (controls.Restart x) step is = absurd (let no : ⊥ = cc in no)
-
-acts_same : (line : Control) (step : Step) → step_of_control line ≡ Some step → controller_step line ≡ Some step
-acts_same (controls.Phase k) step is = is
-acts_same (controls.Cut x y) step is = is
-acts_same (controls.Heal x y) step is = is
-acts_same (controls.Armed actor kind n) step is = absurd (let no : ⊥ = cc in no)
-acts_same (controls.Crash x) step is = is
-acts_same (controls.Restart x) step is = is
 
 control_arms_none : (line : Control) (step : Step) → step_of_control line ≡ Some step → (b : ℕ)
     → arms_disk b step ≡ false
@@ -116,10 +108,10 @@ module _ {L : ℕ → List Deed → Turn → Type 0} {F : ℕ → List Record �
       ∙ ap (λ (cs : List Control). after_first mb.inboxes cs) shown in
       let run : RunsWithFalls L F D S (lg.history ++ marked (number p) step ∷ []) op =
       subst (λ n. RunsWithFalls L F D S (lg.history ++ marked n step ∷ []) op) (sym at)
-      (control line lines.rest step op lg.history s.runs lines.are (acts_same line step said)) in
+      (control line lines.rest step op lg.history s.runs lines.are (same_step line step said)) in
       steps_on s r e p q t step op ph m a lg1 lg' mb' hs lr bd g (omega (arith, mr, s.mail_room))
       (subst (λ (i : Inboxes). IsKept S (lg.history ++ marked (number p) step ∷ []) i) (sym after)
-      (controls_keep_trays S lg.history mb.inboxes line step (number p) s.kept (acts_same line step said)))
+      (controls_keep_trays S lg.history mb.inboxes line step (number p) s.kept (same_step line step said)))
       (s.phase_is ∙ sym (phase_control lg.history (number p) line step said)) run s.opens (λ j o. o) under
       (begins_control line step said) (control_arms_none line step said)
 

@@ -21,6 +21,7 @@ use Rattle.qc_script.specs.Vocabulary.{RunsWithFalls, begins, control, controlle
 use Rattle.qc_script.specs.Vocabulary.{phase_of, posts, rises, step_of_control, takes, unopened}
 use Rattle.qc_script.specs.declared.script.Script.{Script}
 use Rattle.qc_fabric.proofs.Plain.{IsPlain, may_end, plain_leaves_phase, posted_plain}
+use Rattle.qc_script.proofs.Lasts.{phase_taken}
 
 abbrev phase_from : ℕ → List Entry → ℕ
 phase_from k h = fold (λ k e. phase_at k e.step) k h
@@ -32,9 +33,6 @@ from_input : (n a : ℕ) (g : Input) → phase_from n (marked a (step_of g) ∷ 
 from_input n a (given.Called command) = refl
 from_input n a (given.Got envelope) = refl
 from_input n a (given.Lost number) = refl
-
-pub phase_input : (h : List Entry) (a : ℕ) (g : Input) → phase_of (h ++ marked a (step_of g) ∷ []) ≡ phase_of h
-phase_input h a g = phase_more h (marked a (step_of g) ∷ []) ∙ from_input (phase_of h) a g
 
 pub phase_plain : (h : List Entry) (a : ℕ) (xs : List Step) → Every IsPlain xs → phase_of (h ++ by a xs) ≡ phase_of h
 phase_plain h a xs each = phase_more h (by a xs) ∙ plain_leaves_phase (phase_of h) a xs each
@@ -85,7 +83,7 @@ module _ (lawful : ℕ → List Deed → Turn → Type 0) (fits : ℕ → List R
       → phase_of h ≤ length h
   phase_few h inputs begins = omega arith
   phase_few h inputs (takes a g before older run free rdy) =
-      few_more older (marked a (step_of g) ∷ []) (phase_input older a g) (phase_few older before run)
+      few_more older (marked a (step_of g) ∷ []) (phase_taken older a g) (phase_few older before run)
   phase_few h inputs (posts a turn before older run taken law) =
       few_more older (by a (posted_as turn.append (length (mail older)) turn))
       (phase_plain older a (posted_as turn.append (length (mail older)) turn)

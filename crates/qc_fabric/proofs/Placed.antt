@@ -6,6 +6,8 @@ use Rattle.qc_msg.specs.declared.step.Step.{Step}
 use Rattle.qc_msg.specs.declared.step.Step.TheVariants as steps
 use Rattle.qc_msg.specs.Vocabulary.{Entry, envelope_at, envelope_of, mail}
 use Rattle.qc_fabric.specs.Vocabulary.{place_of, places_of}
+use Rattle.qc_list.proofs.Places.{place_within}
+use Rattle.qc_msg.proofs.GrownMail.{mail-cons}
 
 -- more entries
 
@@ -47,14 +49,6 @@ kind_of place a (steps.Told reply) = inl (record { sent = refl; stands = refl })
 kind_of place a (steps.Fell cause pending) = inl (record { sent = refl; stands = refl })
 kind_of place a (steps.Rose records) = inl (record { sent = refl; stands = refl })
 kind_of place a (steps.Damaged offset) = inl (record { sent = refl; stands = refl })
-
--- there are as many places as messages
-pub mail-cons : (e : Entry) (h : List Entry) → mail (e ∷ h) ≡ option_to_list (envelope_of e) ++ mail h
-mail-cons e h = by (envelope_of e) refl
-  where
-    by : (o : Option Envelope) → envelope_of e ≡ o → mail (e ∷ h) ≡ option_to_list (envelope_of e) ++ mail h
-    by None is = rw is refl
-    by (Some envelope) is = rw is refl
 
 pub length-places : (place : ℕ) (h : List Entry) → length (places_of place h) ≡ length (mail h)
 length-places place [] = refl
@@ -116,12 +110,6 @@ placed place (e ∷ h) number below = by (kind_of place e.actor e.step) number b
         on n (suc n) (ap (λ (v : List ℕ). get_or (v ++ places_of (place + 1) h) (suc n) 0) s.stands)
         (ap (λ (ms : List Envelope). slice_get ms (suc n)) same) (omega arith)
 
--- a place that is there
-pub get-below : {A : Type 0} (xs : List A) (n : ℕ) (x : A) → slice_get xs n ≡ Some x → n < length xs
-get-below [] n x is = absurd (let no : ⊥ = cc in no)
-get-below (y ∷ ys) zero x is = omega arith
-get-below (y ∷ ys) (suc n) x is = let rest : n < length ys = get-below ys n x is in omega arith
-
 pub get-same : {A : Type 0} (xs : List A) (n : ℕ) (x other : A) → slice_get xs n ≡ Some x → get_or xs n other ≡ x
 get-same [] n x other is = absurd (let no : ⊥ = cc in no)
 get-same (y ∷ ys) zero x other is = cc
@@ -131,7 +119,7 @@ get-same (y ∷ ys) (suc n) x other is = get-same ys n x other is
 pub entry_there : (h : List Entry) (number : ℕ) → number < length (mail h) → get_or (places_of 0 h) number 0 < length h
 entry_there h number low =
     let p : IsPlaced 0 h number = placed 0 h number low in
-    let below : p.at < length h = get-below h p.at p.entry p.there in
+    let below : p.at < length h = place_within h p.at p.entry p.there in
     let stands : get_or (places_of 0 h) number 0 ≡ 0 + p.at = p.stands in
     omega arith
 

@@ -28,12 +28,13 @@ use Rattle.qc_script.specs.declared.script.Script.{Script}
 use Rattle.qc_fabric.specs.Vocabulary.{Fed, GoesToActors, HasGrown, IsFabricState, Logged, Posts, full_of, most_history}
 use Rattle.qc_fabric.specs.Vocabulary.{size_of}
 use Rattle.qc_fabric.proofs.Events.{before_more}
-use Rattle.qc_fabric.proofs.Fed.{get_else, length-posted, length_set, sends_few, sum-set}
+use Rattle.qc_fabric.proofs.Fed.{get_else, length-posted, sends_few, sum-set}
 use Rattle.qc_fabric.proofs.Feeding.{before_is, deeds_then, fed_same, feeds_on, gained, mine_now, rooms_after, seen_now}
 use Rattle.qc_fabric.proofs.KeptParts.{no_room_at, rooms_of}
 use Rattle.qc_fabric.proofs.Phased.{phase_plain}
 use Rattle.qc_fabric.proofs.Plain.{IsPlain, plain_arms_none, plain_begins_none, posted_plain}
 use Rattle.qc_link.specs.Vocabulary.{most_actors}
+use Rattle.qc_list.proofs.Places.{length-slice_set}
 
 -- who gets the messages of a post
 pub receivers_as : (end : Appended) (turn : Turn) → GoesToActors turn
@@ -106,8 +107,8 @@ module _ {L : ℕ → List Deed → Turn → Type 0} {F : ℕ → List Record �
         (slice_set hd b false) (rsv - suc k) sp g
         (λ c. plain_arms_none (number p) c xs plain) run_after
         (subst (λ (i : Inboxes). IsKept S (lg.history ++ by (number p) xs) i) (sym is) kept_after)
-        (phase_plain lg.history (number p) xs plain) (length_set op (number p) false ∙ s.opens)
-        (length_set hd b false ∙ s.helds)
+        (phase_plain lg.history (number p) xs plain) (length-slice_set op (number p) false ∙ s.opens)
+        (length-slice_set hd b false ∙ s.helds)
         (omega (arith, total, ap (λ (l : List ℕ). sum l) rooms_now, ap (λ (l : List ℕ). sum l) before, s.sum_is))
         (omega (arith, enough, steps)) (omega (arith, enough, s.mail_room, mr, steps, sends_few turn.append first turn))
         (ap full_of (before_more lg.history (by (number p) xs) (plain_begins_none (number p) xs plain)) ∙ s.below)

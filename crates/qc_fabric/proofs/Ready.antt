@@ -12,8 +12,8 @@ use Rattle.qc_msg.specs.Vocabulary.{Entry, WasSentTo, mail}
 use Rattle.qc_script.specs.Vocabulary.{ready}
 use Rattle.qc_script.specs.declared.script.Script.{Script}
 use Rattle.qc_fabric.specs.Vocabulary.{IsInputFor, IsThere, given_by}
-use Rattle.qc_fabric.proofs.Fed.{get_within}
 use Rattle.qc_link.specs.Vocabulary.{most_actors}
+use Rattle.qc_list.proofs.Places.{place_within}
 
 pub record Readies (decl : Declaration) (script : Script) (h : List Entry) (a : ℕ) (input : ReadyInput) : Type 0 where
   pub given : Input
@@ -43,7 +43,7 @@ given_back a ms (inputs.Lost number) is = refl
 
 there_by : (a : ℕ) (ms : List Envelope) (g : Input) → WasSentTo a ms g → IsThere ms (input_of g)
 there_by a ms (inputs.Called command) is = tt
-there_by a ms (inputs.Got e) is = get_within ms e.number e is.0
+there_by a ms (inputs.Got e) is = place_within ms e.number e is.0
 there_by a ms (inputs.Lost number) is = tt
 
 pub input_there : (decl : Declaration) (script : Script) (h : List Entry) (kept : Inboxes) (a : ℕ) (input : ReadyInput)

@@ -10,19 +10,16 @@ use Rattle.qc_mailbox.proofs.FallLaws.{restarts_down}
 use Rattle.qc_mailbox.proofs.FallTrays.{falls_by_lines_keep_trays, rises_keep_trays, trays_know_who_is_up}
 use Rattle.qc_msg.specs.declared.record.Record.{Record}
 use Rattle.qc_msg.specs.declared.step.Control.TheVariants as controls
-use Rattle.qc_msg.specs.declared.step.Fall.{Fall}
-use Rattle.qc_msg.specs.declared.step.Fall.TheVariants as causes
 use Rattle.qc_msg.specs.declared.step.Step.{Step}
 use Rattle.qc_msg.specs.declared.step.Step.TheVariants as steps
 use Rattle.qc_msg.specs.declared.turn.Turn.{Turn}
-use Rattle.qc_msg.specs.Vocabulary.{Deed, Entry, IsByDisk, Rises, by, deeds, deeds_as, mail, marked, posted_as}
-use Rattle.qc_msg.proofs.DeedsGrow.{deeds-append, deeds-fell, deeds-rose}
+use Rattle.qc_msg.specs.Vocabulary.{Deed, Entry, Rises, by, deeds, deeds_as, mail, marked, posted_as}
+use Rattle.qc_msg.proofs.DeedsGrow.{deeds-append, deeds-fell, deeds-rise}
 use Rattle.qc_msg.proofs.Growth.{deeds-posted_as}
 use Rattle.qc_pass.specs.declared.token.Pass.{Pass}
 use Rattle.qc_pass.specs.declared.token.Right.{Right}
 use Rattle.qc_pass.specs.Vocabulary.{Met, all, number, room, rooms, seen}
-use Rattle.qc_script.specs.Vocabulary.{RunsWithFalls, controls_left, damaged, is_by_line, is_up, phase_of, rises}
-use Rattle.qc_script.specs.Vocabulary.{unopened}
+use Rattle.qc_script.specs.Vocabulary.{RunsWithFalls, controls_left, damaged, is_up, phase_of, rises, unopened}
 use Rattle.qc_script.specs.declared.script.Script.{Script}
 use Rattle.qc_fabric.specs.Vocabulary.{ArmsNone, Fed, HasGrown, IsFabricState, IsRising, Logged, MayDo, RisesAs}
 use Rattle.qc_fabric.specs.Vocabulary.{RisesToActors, after_rising, before_last_event, deeds_of_rising, full_of}
@@ -37,6 +34,7 @@ use Rattle.qc_fabric.proofs.Ordered.{Lines, lines_of}
 use Rattle.qc_fabric.proofs.Phased.{phase_more, phase_rise}
 use Rattle.qc_fabric.proofs.Plain.{may_end, plain_arms_none, plain_begins_none, posted_plain}
 use Rattle.qc_fabric.proofs.Posted.{receivers_as}
+use Rattle.qc_script.proofs.AllUp.{by_disk_down}
 
 -- room for it, and its messages
 
@@ -93,11 +91,6 @@ module _ (L : ℕ → List Deed → Turn → Type 0) (F : ℕ → List Record �
 
 -- its deeds
 
-deeds_rose : (a : ℕ) (h : List Entry) (records : List Record)
-    → deeds a [] (h ++ marked a (steps.Rose records) ∷ []) ≡ deeds a [] h ++ Rises records ∷ []
-deeds_rose a h records = deeds-append a [] h (by a (steps.Rose records ∷ []))
-    ∙ ap (λ (v : List Deed). deeds a [] h ++ v) (deeds-rose a (mail h) records)
-
 deeds_risen : (a n : ℕ) (h : List Entry) (rising : Rising)
     → deeds a [] (h ++ by a (steps_of_rising n rising)) ≡ deeds a [] h ++ deeds_of_rising n rising
 deeds_risen a n h (Rose records turn) =
@@ -105,7 +98,7 @@ deeds_risen a n h (Rose records turn) =
     ap (λ (l : List Entry). deeds a [] l) (sym
     (append_assoc h (marked a (steps.Rose records) ∷ []) (by a (posted_as turn.append n turn))))
     ∙ (deeds-posted_as turn.append a n rose turn
-    ∙ (ap (λ (v : List Deed). v ++ deeds_as turn.append n turn) (deeds_rose a h records)
+    ∙ (ap (λ (v : List Deed). v ++ deeds_as turn.append n turn) (deeds-rise a h records)
     ∙ append_assoc (deeds a [] h) (Rises records ∷ []) (deeds_as turn.append n turn)))
 deeds_risen a n h (Damaged offset) = deeds-append a [] h (by a (steps.Damaged offset ∷ []))
     ∙ ap (λ (v : List Deed). deeds a [] h ++ v) (nothing (a == a))
@@ -115,13 +108,6 @@ deeds_risen a n h (Damaged offset) = deeds-append a [] h (by a (steps.Damaged of
     nothing false = refl
 deeds_risen a n h (NotOpened cause) = deeds-append a [] h (by a (steps.Fell cause None ∷ []))
     ∙ ap (λ (v : List Deed). deeds a [] h ++ v) (deeds-fell a (mail h) cause None)
-
--- a disk's fall of an actor that is down is by the line
-by_line : (up : Bool) (cause : Fall) → up ≡ false → IsByDisk cause → is_by_line up cause ≡ true
-by_line true cause down disk = absurd (let no : ⊥ = cc in no)
-by_line false causes.Script down disk = absurd disk
-by_line false causes.Stop down disk = refl
-by_line false causes.Disk down disk = refl
 
 module _ {L : ℕ → List Deed → Turn → Type 0} {F : ℕ → List Record → Type 0} {D : Declaration} {S : Script} {z : TableId}
     {w : Script} {lg : Logged} {mb : Roomy} {op hd : List Bool} {ph rsv sp : ℕ} {tb : TableId}
@@ -141,7 +127,7 @@ module _ {L : ℕ → List Deed → Turn → Type 0} {F : ℕ → List Record �
         → RunsWithFalls L F D S (lg.history ++ by a (steps_of_rising (length (mail lg.history)) rising)) op
     run_risen (Rose records turn) ok =
         rises a records turn restart_lines.rest op lg.history s.runs restart_lines.are ok.0 ok.1
-        (subst (λ (ds : List Deed). L a ds turn) (sym (deeds_rose a lg.history records)) ok.3)
+        (subst (λ (ds : List Deed). L a ds turn) (sym (deeds-rise a lg.history records)) ok.3)
     run_risen (Damaged offset) ok = damaged a offset restart_lines.rest op lg.history s.runs restart_lines.are
     run_risen (NotOpened cause) ok = unopened a cause restart_lines.rest op lg.history s.runs restart_lines.are ok
 
@@ -152,7 +138,7 @@ module _ {L : ℕ → List Deed → Turn → Type 0} {F : ℕ → List Record �
         (omega (arith, low, s.few)) is_down ok.1 (receivers_as turn.append turn ok.2)
     kept_risen (Damaged offset) ok = damaged_journals_keep_trays S lg.history mb.inboxes a offset s.kept
     kept_risen (NotOpened cause) ok = falls_by_lines_keep_trays S lg.history mb.inboxes a cause None s.kept
-        (omega (arith, low, s.few)) (by_line (is_up mb.inboxes.up a) cause is_down ok)
+        (omega (arith, low, s.few)) (by_disk_down (is_up mb.inboxes.up a) cause is_down ok)
 
   module _ (s : IsFabricState L F D S z w lg mb op hd ph rsv sp tb ri) (r : Right Step) (e : ri ≡ Some r)
       (p p1 p2 q : Pass Step) (r1 r2 t : Right Step) (rising : Rising) (first : ℕ)

@@ -74,10 +74,6 @@ stopped_picks decl script h inputs kept is few s =
 
 -- tests of options
 
-pub not_some : {A : Type 0} (o : Option A) → is_some o ≡ false → o ≡ None
-not_some None e = refl
-not_some (Some x) e = absurd (let no : ⊥ = cc in no)
-
 pub is_nothing : {A : Type 0} (o : Option A) (b : Bool) → is_some o ≡ not b → b ≡ true → o ≡ None
 is_nothing None b e is = refl
 is_nothing (Some x) b e is = let f : true ≡ not true = e ∙ ap not is in absurd (let no : ⊥ = cc in no)

@@ -28,12 +28,13 @@ use Rattle.qc_script.specs.declared.script.Script.{Script}
 use Rattle.qc_fabric.specs.Vocabulary.{HasGrown, HasNext, HasNone, IsFabricState, IsInputFor, Logged, Sees, Takes}
 use Rattle.qc_fabric.specs.Vocabulary.{Waits, full_of, given_by, most_history}
 use Rattle.qc_fabric.proofs.Events.{begins_input}
-use Rattle.qc_fabric.proofs.Fed.{bit_clear, bit_set, deeds_of_front, get_else, get_here, get_within, length_set}
+use Rattle.qc_fabric.proofs.Fed.{bit_clear, bit_set, deeds_of_front, get_else, get_here}
 use Rattle.qc_fabric.proofs.Gains.{Gain, gain}
 use Rattle.qc_fabric.proofs.KeptParts.{all_of, steps_on, unarmed_of}
-use Rattle.qc_fabric.proofs.Phased.{phase_input}
 use Rattle.qc_fabric.proofs.Ready.{given_ready, none_ready}
 use Rattle.qc_link.specs.Vocabulary.{most_actors}
+use Rattle.qc_list.proofs.Places.{place_within, length-slice_set}
+use Rattle.qc_script.proofs.Lasts.{phase_taken}
 
 input_arms_none : (g : Input) (b : ℕ) → arms_disk b (step_of g) ≡ false
 input_arms_none (inputs.Called command) b = refl
@@ -57,7 +58,7 @@ module _ {L : ℕ → List Deed → Turn → Type 0} {F : ℕ → List Record �
     here = omega (arith, low, s.few)
 
     open_now : slice_get (slice_set op (number p) true) (number p) ≡ Some true
-    open_now = get_here op (number p) true (get_within op (number p) false next.closed)
+    open_now = get_here op (number p) true (place_within op (number p) false next.closed)
 
     pub takes_on : (lg1 lg' : Logged) (mb' : Roomy) → lg1.history ≡ lg.history → (rsv + sp) + 1 ≤ lg1.room
         → length lg.history + ((rsv + sp) + 1) ≤ most_history
@@ -68,7 +69,8 @@ module _ {L : ℕ → List Deed → Turn → Type 0} {F : ℕ → List Record �
         (slice_set op (number p) true) ph m a lg1 lg' mb' hs lr bd g (omega (arith, mr, s.mail_room))
         (subst (λ (i : Inboxes). IsKept S (lg.history ++ marked (number p) (step_of given) ∷ []) i) (sym is)
         (inputs_keep_trays D S lg.history mb.inboxes (number p) given s.kept here next.rdy))
-        (s.phase_is ∙ sym (phase_input lg.history (number p) given)) run_taken (length_set op (number p) true ∙ s.opens)
+        (s.phase_is ∙ sym (phase_taken lg.history (number p) given)) run_taken
+        (length-slice_set op (number p) true ∙ s.opens)
         (λ k o. dite (ℕ_discrete k (number p)) (λ i. subst
         (λ (x : ℕ). slice_get (slice_set op (number p) true) x ≡ Some true) (sym i) open_now)
         (λ ne. get_else op (number p) k true ne ∙ o)) next.below (begins_input given) (input_arms_none given)

@@ -1,5 +1,5 @@
 -- Each test of a number says what its words say.
-use Rattle.std.proofs.Common.{◌≡◌, ℕ, ◌+◌, ◌<◌, ◌≤◌, Bool, true, false, ◌&&◌, ◌||◌, ◌==◌, nat_le, nat_lt, List, [], ◌∷◌}
+use Rattle.std.proofs.Common.{◌≡◌, ℕ, ◌+◌, ◌<◌, ◌≤◌, Bool, true, false, ◌||◌, ◌==◌, nat_le, nat_lt, List, [], ◌∷◌}
 use Rattle.std.proofs.Common.{Option, Some, None, refl, ap, arith}
 use Rattle.std.specs.Prelude.{is_some}
 use Rattle.std.specs.List.{AllByRecursion as Every, list_all}
@@ -10,26 +10,21 @@ use Rattle.qc_decl.specs.declared.declaration.Declaration.{Declaration}
 use Rattle.qc_fit.specs.Vocabulary.{HasNumber, HasPlan, HasResponse, greatest_clock, has_client, has_epoch}
 use Rattle.qc_fit.specs.Vocabulary.{has_response, is_administrator, is_clock, is_this_client, most_records}
 use Rattle.qc_table.specs.Vocabulary.{Rules}
-
-pub both_true : (a b : Bool) → (a && b) ≡ true → (a ≡ true) × (b ≡ true)
-both_true true true e = (refl, refl)
-both_true true false e = absurd cc
-both_true false b e = absurd cc
-
-pub true_both : (a b : Bool) → a ≡ true → b ≡ true → (a && b) ≡ true
-true_both a b p q = rw (p, q) refl
+use Rattle.qc_list.proofs.Booleans.{and_parts}
+use Rattle.std.proofs.lemmas.Bool.{and_from}
+use Rattle.qc_list.proofs.Options.{some_of}
 
 -- lists
 
 pub every_of : {X : Type 0} (test : X → Bool) (P : X → Type 0) → ((x : X) → test x ≡ true → P x) → (xs : List X)
     → list_all test xs ≡ true → Every P xs
 every_of test P is [] e = tt
-every_of test P is (x ∷ xs) e = let b = both_true (test x) (list_all test xs) e in (is x b.0, every_of test P is xs b.1)
+every_of test P is (x ∷ xs) e = let b = and_parts (test x) (list_all test xs) e in (is x b.0, every_of test P is xs b.1)
 
 pub all_of : {X : Type 0} (test : X → Bool) (P : X → Type 0) → ((x : X) → P x → test x ≡ true) → (xs : List X)
     → Every P xs → list_all test xs ≡ true
 all_of test P is [] every = refl
-all_of test P is (x ∷ xs) every = true_both (test x) (list_all test xs) (is x every.0) (all_of test P is xs every.1)
+all_of test P is (x ∷ xs) every = and_from (test x) (list_all test xs) (is x every.0) (all_of test P is xs every.1)
 
 -- numbers
 
@@ -50,10 +45,6 @@ client_of decl client e = grind (arith, nat_tests, e)
 
 pub of_client : (decl : Declaration) (client : ℕ) → client < decl.clients → has_client decl client ≡ true
 of_client decl client h = grind (arith, nat_tests, h)
-
-some_of : {A : Type 0} (o : Option A) → is_some o ≡ true → (x : A) × (o ≡ Some x)
-some_of None e = absurd cc
-some_of (Some x) e = (x, refl)
 
 pub plan_of : (decl : Declaration) (epoch : ℕ) → has_epoch decl epoch ≡ true → HasPlan decl epoch
 plan_of decl epoch e = some_of (plan_in decl epoch) e
@@ -108,8 +99,8 @@ of_administrator decl actor h = grind (arith, nat_tests, h)
 pub this_client_of : (decl : Declaration) (actor client : ℕ) → is_this_client decl actor client ≡ true
     → (client < decl.clients) × (actor ≡ client_actor decl client)
 this_client_of decl actor client e =
-    let b = both_true (is_client decl actor) (actor == client_actor decl client) e in
-    let c = both_true (nat_le decl.sites actor) (nat_lt actor (decl.sites + decl.clients)) b.0 in
+    let b = and_parts (is_client decl actor) (actor == client_actor decl client) e in
+    let c = and_parts (nat_le decl.sites actor) (nat_lt actor (decl.sites + decl.clients)) b.0 in
     let high : nat_lt actor (decl.sites + decl.clients) ≡ true = c.1 in
     let same : (actor == decl.sites + client) ≡ true = b.1 in
     let is : actor ≡ decl.sites + client = grind (arith, nat_tests, same) in
@@ -122,7 +113,7 @@ of_this_client decl actor client h is =
     let low : nat_le decl.sites actor ≡ true = grind (arith, nat_tests, is) in
     let high : nat_lt actor (decl.sites + decl.clients) ≡ true = grind (arith, nat_tests, is, h) in
     let same : (actor == client_actor decl client) ≡ true = grind (arith, nat_tests, is) in
-    true_both _ _ (true_both _ _ low high) same
+    and_from _ _ (and_from _ _ low high) same
 
 pub rises_of : (decl : Declaration) (actor : ℕ)
     → (is_site decl actor || (is_client decl actor || is_administrator decl actor)) ≡ true → actor ≤ administrator decl

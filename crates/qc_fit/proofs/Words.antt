@@ -8,13 +8,14 @@ use Rattle.qc_entry.specs.declared.line.OwnLine.{OwnLine}
 use Rattle.qc_entry.specs.declared.line.ReadLock.{ReadLock}
 use Rattle.qc_fit.specs.Vocabulary.{HasEvent, HasInvocation, HasPlan, IsFit, IsLineDeclared, IsOpDeclared, fits}
 use Rattle.qc_fit.specs.Vocabulary.{greatest_clock, is_line_fit, is_lock_fit, is_op_fit, is_own_fit, is_start_fit}
-use Rattle.qc_fit.proofs.Tests.{all_of, both_true, every_of, true_both, client_of, of_client, clock_of, of_clock}
-use Rattle.qc_fit.proofs.Tests.{few_of, of_few, plan_of, of_plan, number_of, of_number, response_of, of_response}
-use Rattle.qc_fit.proofs.Tests.{site_of, of_site, administrator_of, of_administrator, this_client_of, of_this_client}
-use Rattle.qc_fit.proofs.Tests.{rises_of, of_rises}
+use Rattle.qc_fit.proofs.Tests.{all_of, every_of, client_of, of_client, clock_of, of_clock, few_of, of_few, plan_of}
+use Rattle.qc_fit.proofs.Tests.{of_plan, number_of, of_number, response_of, of_response, site_of, of_site}
+use Rattle.qc_fit.proofs.Tests.{administrator_of, of_administrator, this_client_of, of_this_client, rises_of, of_rises}
 use Rattle.qc_msg.specs.declared.record.Record.{Record}
 use Rattle.qc_msg.specs.declared.record.Record.TheVariants as records
 use Rattle.qc_table.specs.Vocabulary.{Rules, events_of}
+use Rattle.qc_list.proofs.Booleans.{and_parts}
+use Rattle.std.proofs.lemmas.Bool.{and_from}
 
 -- parts
 
@@ -34,8 +35,8 @@ of_event decl own h = of_number decl (λ (t : Rules). length (events_of t.rows))
 
 line_of : (decl : Declaration) (line : Line) → is_line_fit decl line ≡ true → IsLineDeclared decl line
 line_of decl line e =
-    let b = both_true _ _ e in
-    let c = both_true _ _ b.1 in
+    let b = and_parts _ _ e in
+    let c = and_parts _ _ b.1 in
     record {
       clock = clock_of line.stamp.clock b.0;
       client = client_of decl line.tx.client c.0;
@@ -44,20 +45,20 @@ line_of decl line e =
 
 of_line : (decl : Declaration) (line : Line) → IsLineDeclared decl line → is_line_fit decl line ≡ true
 of_line decl line h =
-    true_both _ _ (of_clock line.stamp.clock h.clock)
-    (true_both _ _ (of_client decl line.tx.client h.client)
+    and_from _ _ (of_clock line.stamp.clock h.clock)
+    (and_from _ _ (of_client decl line.tx.client h.client)
     (of_number decl (λ (t : Rules). length (events_of t.rows)) line.object line.event h.event))
 
 op_of : (decl : Declaration) (op : Op) → is_op_fit decl op ≡ true → IsOpDeclared decl op
 op_of decl op e =
-    let b = both_true _ _ e in
+    let b = and_parts _ _ e in
     record {
       inv = number_of decl (λ (t : Rules). t.invs) op.object op.inv b.0;
       resp = response_of decl op.object op.resp b.1;
     }
 
 of_op : (decl : Declaration) (op : Op) → IsOpDeclared decl op → is_op_fit decl op ≡ true
-of_op decl op h = true_both _ _ (of_number decl (λ (t : Rules). t.invs) op.object op.inv h.inv)
+of_op decl op h = and_from _ _ (of_number decl (λ (t : Rules). t.invs) op.object op.inv h.inv)
     (of_response decl op.object op.resp h.resp)
 
 lines_of : (decl : Declaration) (lines : List Line) → list_all (is_line_fit decl) lines ≡ true
@@ -76,21 +77,21 @@ record IsStart (decl : Declaration) (epoch clock : ℕ) (lines : List Line) : Ty
 start_of : (decl : Declaration) (epoch clock : ℕ) (lines : List Line) → is_start_fit decl epoch clock lines ≡ true
     → IsStart decl epoch clock lines
 start_of decl epoch clock lines e =
-    let b = both_true _ _ e in
-    let c = both_true _ _ b.1 in
+    let b = and_parts _ _ e in
+    let c = and_parts _ _ b.1 in
     record { epoch_is = plan_of decl epoch b.0; clock_is = clock_of clock c.0; lines_are = lines_of decl lines c.1 }
 
 of_start : (decl : Declaration) (epoch clock : ℕ) (lines : List Line) → HasPlan decl epoch → clock ≤ greatest_clock
     → Every (IsLineDeclared decl) lines → is_start_fit decl epoch clock lines ≡ true
-of_start decl epoch clock lines p c l = true_both _ _ (of_plan decl epoch p)
-    (true_both _ _ (of_clock clock c) (of_lines decl lines l))
+of_start decl epoch clock lines p c l = and_from _ _ (of_plan decl epoch p)
+    (and_from _ _ (of_clock clock c) (of_lines decl lines l))
 
 -- records
 
 said : (decl : Declaration) (actor before : ℕ) (rec : Record) → fits decl actor before rec ≡ true
     → IsFit decl actor before rec
 said decl actor before records.Life e =
-    let b = both_true _ _ e in
+    let b = and_parts _ _ e in
     record {
       few = few_of before b.0;
       writer = rises_of decl actor b.1;
@@ -103,12 +104,12 @@ said decl actor before records.Life e =
       ops = tt;
     }
 said decl actor before (records.Prepare p) e =
-    let b = both_true _ _ e in
-    let s = both_true _ _ b.1 in
-    let c = both_true _ _ s.1 in
-    let h = both_true _ _ c.1 in
-    let k = both_true _ _ h.1 in
-    let o = both_true _ _ k.1 in
+    let b = and_parts _ _ e in
+    let s = and_parts _ _ b.1 in
+    let c = and_parts _ _ s.1 in
+    let h = and_parts _ _ c.1 in
+    let k = and_parts _ _ h.1 in
+    let o = and_parts _ _ k.1 in
     record {
       few = few_of before b.0;
       writer = site_of decl actor s.0;
@@ -123,9 +124,9 @@ said decl actor before (records.Prepare p) e =
       ops = tt;
     }
 said decl actor before (records.Done tx clock) e =
-    let b = both_true _ _ e in
-    let s = both_true _ _ b.1 in
-    let c = both_true _ _ s.1 in
+    let b = and_parts _ _ e in
+    let s = and_parts _ _ b.1 in
+    let c = and_parts _ _ s.1 in
     record {
       few = few_of before b.0;
       writer = site_of decl actor s.0;
@@ -138,8 +139,8 @@ said decl actor before (records.Done tx clock) e =
       ops = tt;
     }
 said decl actor before (records.Close epoch) e =
-    let b = both_true _ _ e in
-    let s = both_true _ _ b.1 in
+    let b = and_parts _ _ e in
+    let s = and_parts _ _ b.1 in
     record {
       few = few_of before b.0;
       writer = site_of decl actor s.0;
@@ -152,8 +153,8 @@ said decl actor before (records.Close epoch) e =
       ops = tt;
     }
 said decl actor before (records.Install start) e =
-    let b = both_true _ _ e in
-    let s = both_true _ _ b.1 in
+    let b = and_parts _ _ e in
+    let s = and_parts _ _ b.1 in
     let i = start_of decl start.epoch start.clock start.lines s.1 in
     record {
       few = few_of before b.0;
@@ -167,9 +168,9 @@ said decl actor before (records.Install start) e =
       ops = tt;
     }
 said decl actor before (records.Commit c) e =
-    let b = both_true _ _ e in
-    let s = both_true _ _ b.1 in
-    let o = both_true _ _ s.1 in
+    let b = and_parts _ _ e in
+    let s = and_parts _ _ b.1 in
+    let o = and_parts _ _ s.1 in
     let w = this_client_of decl actor c.tx.client s.0 in
     record {
       few = few_of before b.0;
@@ -183,8 +184,8 @@ said decl actor before (records.Commit c) e =
       ops = every_of (is_op_fit decl) (IsOpDeclared decl) (op_of decl) c.ops o.1;
     }
 said decl actor before (records.Decide start) e =
-    let b = both_true _ _ e in
-    let s = both_true _ _ b.1 in
+    let b = and_parts _ _ e in
+    let s = and_parts _ _ b.1 in
     let i = start_of decl start.epoch start.clock start.lines s.1 in
     record {
       few = few_of before b.0;
@@ -200,30 +201,30 @@ said decl actor before (records.Decide start) e =
 
 fit : (decl : Declaration) (actor before : ℕ) (rec : Record) → IsFit decl actor before rec
     → fits decl actor before rec ≡ true
-fit decl actor before records.Life h = true_both _ _ (of_few before h.few) (of_rises decl actor h.writer)
+fit decl actor before records.Life h = and_from _ _ (of_few before h.few) (of_rises decl actor h.writer)
 fit decl actor before (records.Prepare p) h =
     let locks = all_of (is_lock_fit decl) (λ (lock : ReadLock). HasInvocation decl lock.object lock.inv)
     (of_invocation decl) p.locks h.locks in
     let owns = all_of (is_own_fit decl) (λ (own : OwnLine). HasEvent decl own.object own.event)
     (of_event decl) p.own h.owns in
-    true_both _ _ (of_few before h.few) (true_both _ _ (of_site decl actor h.writer)
-    (true_both _ _ (of_client decl p.tx.client h.clients.0)
-    (true_both _ _ (of_plan decl p.epoch h.epochs.0)
-    (true_both _ _ locks (true_both _ _ owns (of_lines decl p.lines h.lines))))))
+    and_from _ _ (of_few before h.few) (and_from _ _ (of_site decl actor h.writer)
+    (and_from _ _ (of_client decl p.tx.client h.clients.0)
+    (and_from _ _ (of_plan decl p.epoch h.epochs.0)
+    (and_from _ _ locks (and_from _ _ owns (of_lines decl p.lines h.lines))))))
 fit decl actor before (records.Done tx clock) h =
-    true_both _ _ (of_few before h.few) (true_both _ _ (of_site decl actor h.writer)
-    (true_both _ _ (of_client decl tx.client h.clients.0) (of_clock clock h.clocks.0)))
+    and_from _ _ (of_few before h.few) (and_from _ _ (of_site decl actor h.writer)
+    (and_from _ _ (of_client decl tx.client h.clients.0) (of_clock clock h.clocks.0)))
 fit decl actor before (records.Close epoch) h =
-    true_both _ _ (of_few before h.few) (true_both _ _ (of_site decl actor h.writer) (of_plan decl epoch h.epochs.0))
+    and_from _ _ (of_few before h.few) (and_from _ _ (of_site decl actor h.writer) (of_plan decl epoch h.epochs.0))
 fit decl actor before (records.Install start) h =
-    true_both _ _ (of_few before h.few) (true_both _ _ (of_site decl actor h.writer)
+    and_from _ _ (of_few before h.few) (and_from _ _ (of_site decl actor h.writer)
     (of_start decl start.epoch start.clock start.lines h.epochs.0 h.clocks.0 h.lines))
 fit decl actor before (records.Commit c) h =
     let ops = all_of (is_op_fit decl) (IsOpDeclared decl) (of_op decl) c.ops h.ops in
-    true_both _ _ (of_few before h.few) (true_both _ _ (of_this_client decl actor c.tx.client h.clients.0 h.writer)
-    (true_both _ _ (of_clock c.stamp.clock h.clocks.0) ops))
+    and_from _ _ (of_few before h.few) (and_from _ _ (of_this_client decl actor c.tx.client h.clients.0 h.writer)
+    (and_from _ _ (of_clock c.stamp.clock h.clocks.0) ops))
 fit decl actor before (records.Decide start) h =
-    true_both _ _ (of_few before h.few) (true_both _ _ (of_administrator decl actor h.writer)
+    and_from _ _ (of_few before h.few) (and_from _ _ (of_administrator decl actor h.writer)
     (of_start decl start.epoch start.clock start.lines h.epochs.0 h.clocks.0 h.lines))
 
 pub fits_is_as_said : (decl : Declaration) (actor before : ℕ) (rec : Record)

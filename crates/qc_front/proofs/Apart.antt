@@ -1,10 +1,9 @@
 -- Lists of different numbers, and their order.
-use Rattle.std.proofs.Common.{◌≡◌, ◌≢◌, ℕ, zero, suc, ◌+◌, ◌-◌, ◌<◌, ◌≤◌, ◌==◌, nat_lt, not, Bool, true, false, cond}
-use Rattle.std.proofs.Common.{◌⊎◌, inl, inr, List, [], ◌∷◌, ◌++◌, map, filter, length, refl, sym, ap, ◌∙◌, subst}
-use Rattle.std.proofs.Common.{eq-eqb, eqb-true, arith}
+use Rattle.std.proofs.Common.{◌≡◌, ◌≢◌, ℕ, zero, suc, ◌+◌, ◌-◌, ◌<◌, ◌≤◌, nat_lt, Bool, true, false, cond, ◌⊎◌, inl}
+use Rattle.std.proofs.Common.{inr, List, [], ◌∷◌, ◌++◌, filter, refl, arith}
 use Rattle.std.specs.List.{range_with_len}
 use Rattle.qc_list.specs.Vocabulary.{In}
-use Rattle.qc_list.proofs.Members.{In-first, In-second, In-unfiltered}
+use Rattle.qc_list.proofs.Members.{In-first, In-unfiltered, In-either}
 use Rattle.qc_plan.specs.Vocabulary.{cyclic, weighing, weight_at}
 pub use Rattle.qc_front.specs.Holds.{AreApart}
 
@@ -16,17 +15,11 @@ pub apart_second : (xs ys : List ℕ) → AreApart (xs ++ ys) → AreApart ys
 apart_second [] ys apart = apart
 apart_second (x ∷ xs) ys apart = apart_second xs ys apart.1
 
-pub in_split : (x : ℕ) (xs ys : List ℕ) → In x (xs ++ ys) → In x xs ⊎ In x ys
-in_split x [] ys among = inr among
-in_split x (z ∷ zs) ys (inl same) = inl (inl same)
-in_split x (z ∷ zs) ys (inr among) = elim
-    (in_split x zs ys among) [ inl first ↦ inl (inr first) | inr second ↦ inr second ]
-
-both_apart : (xs ys : List ℕ) → AreApart xs → AreApart ys → ((x y : ℕ) → In x xs → In y ys → x ≢ y)
+pub both_apart : (xs ys : List ℕ) → AreApart xs → AreApart ys → ((x y : ℕ) → In x xs → In y ys → x ≢ y)
     → AreApart (xs ++ ys)
 both_apart [] ys first second across = second
 both_apart (x ∷ xs) ys first second across = (
-  λ y among. by y (in_split y xs ys among),
+  λ y among. by y (In-either y xs ys among),
   both_apart xs ys first.1 second (λ z w in_xs in_ys. across z w (inr in_xs) in_ys),
 )
   where
@@ -44,7 +37,7 @@ apart_filter test (x ∷ xs) apart = by (test x) (apart_filter test xs apart.1)
 
 -- the sites of a plan in a client's order
 
-in_range : (first count x : ℕ) → In x (range_with_len first count) → (first ≤ x) × (x < first + count)
+pub in_range : (first count x : ℕ) → In x (range_with_len first count) → (first ≤ x) × (x < first + count)
 in_range first zero x among = absurd among
 in_range first (suc count) x (inl same) =
     (let is : x ≡ first = same in omega arith, let is : x ≡ first = same in omega arith)
@@ -52,7 +45,7 @@ in_range first (suc count) x (inr among) =
     let more : (first + 1 ≤ x) × (x < (first + 1) + count) = in_range (first + 1) count x among in
     (let low : first + 1 ≤ x = more.0 in omega arith, let high : x < (first + 1) + count = more.1 in omega arith)
 
-apart_range : (first count : ℕ) → AreApart (range_with_len first count)
+pub apart_range : (first count : ℕ) → AreApart (range_with_len first count)
 apart_range first zero = tt
 apart_range first (suc count) = (
   λ y among same. (let more : (first + 1 ≤ y) × (y < (first + 1) + count) = in_range (first + 1) count y among in
@@ -60,7 +53,7 @@ apart_range first (suc count) = (
   apart_range (first + 1) count,
 )
 
-apart_cyclic : (sites first : ℕ) → AreApart (cyclic sites first)
+pub apart_cyclic : (sites first : ℕ) → AreApart (cyclic sites first)
 apart_cyclic sites first =
     both_apart (range_with_len first (sites - first)) (range_with_len 0 first) (apart_range first (sites - first))
     (apart_range 0 first)

@@ -1,28 +1,22 @@
 -- What a round waits for, once sites are asked and once what came of a request is noted.
-use Rattle.std.proofs.Common.{◌≡◌, ◌≢◌, ℕ, zero, suc, ◌+◌, ◌≤◌, ◌==◌, ◌&&◌, ◌||◌, nat_le, nat_lt, not, Bool, true}
-use Rattle.std.proofs.Common.{false, cond, ◌⊎◌, inl, inr, List, [], ◌∷◌, ◌++◌, map, filter, take, drop, length, Option}
-use Rattle.std.proofs.Common.{Some, None, unwrap_or, is_some, refl, sym, ap, ◌∙◌, subst, eq-eqb, eqb-true, arith}
-use Rattle.std.proofs.Common.{append_assoc}
+use Rattle.std.proofs.Common.{◌≡◌, ℕ, ◌+◌, ◌==◌, ◌&&◌, nat_le, nat_lt, Bool, true, false, cond, List, [], ◌∷◌, ◌++◌}
+use Rattle.std.proofs.Common.{map, filter, take, drop, length, Option, Some, None, unwrap_or, is_some, refl, sym, ap}
+use Rattle.std.proofs.Common.{◌∙◌, append_assoc}
 use Rattle.std.specs.Prelude.{is_none}
-use Rattle.std.specs.List.{list_all, list_any}
 use Rattle.std.specs.Option.{option_or}
 use Rattle.std.proofs.lemmas.List.{append-nil, map-append}
 use Rattle.std.proofs.lemmas.List.Elements.{filter-append}
 use Rattle.std.proofs.lemmas.List.Folds.{list_all-append}
-use Rattle.qc_list.specs.Vocabulary.{In}
 use Rattle.qc_decl.specs.declared.declaration.Declaration.{Declaration}
-use Rattle.qc_decl.specs.Vocabulary.{first_site}
 use Rattle.qc_plan.specs.declared.standing.Asked.{Asked}
 use Rattle.qc_plan.specs.declared.standing.Standing.{Standing}
 use Rattle.qc_plan.specs.declared.standing.Standing.TheVariants as standings
 use Rattle.qc_plan.specs.declared.standing.Verdict.{Verdict}
 use Rattle.qc_plan.specs.declared.standing.Verdict.TheVariants as verdicts
-use Rattle.qc_plan.specs.Vocabulary.{RoundState, all_noted, asking_all, asking_first, asking_in_turn, asking_next}
-use Rattle.qc_plan.specs.Vocabulary.{asking_on, clash_at, closed_at, first, first_clash, first_closed, has_granted}
-use Rattle.qc_plan.specs.Vocabulary.{is_asked, is_waiting, may_ask, next_site, note, note_in, prefix, refusal, settled}
-use Rattle.qc_plan.specs.Vocabulary.{start, verdict, wanted, weight}
-use Rattle.qc_front.specs.Vocabulary.{IsAwaiting, IsPrefix, IsRound, awaited, sites_of, weights_of}
-use Rattle.qc_front.proofs.Apart.{AreApart, apart_filter, apart_first, apart_weighing}
+use Rattle.qc_plan.specs.Vocabulary.{RoundState, all_noted, asking_all, clash_at, closed_at, first_clash, first_closed}
+use Rattle.qc_plan.specs.Vocabulary.{has_granted, is_asked, is_waiting, prefix, refusal, settled, verdict, wanted}
+use Rattle.qc_plan.specs.Vocabulary.{weight}
+use Rattle.qc_front.specs.Vocabulary.{IsAwaiting, IsPrefix, IsRound, awaited, sites_of}
 use Rattle.qc_front.proofs.OneByOne.{ends_asked}
 
 -- the sites of which nothing is noted
@@ -39,11 +33,11 @@ asked_are r [] = sym (append-nil r.asked)
 asked_are r (x ∷ xs) = asked_are (record r { asked = r.asked ++ unknown x ∷ []; rest = drop 1 r.rest }) xs
     ∙ append_assoc r.asked (unknown x ∷ []) (map unknown xs)
 
-weights_stay : (r : RoundState) (xs : List ℕ) → (asking_all r xs).weights ≡ r.weights
+pub weights_stay : (r : RoundState) (xs : List ℕ) → (asking_all r xs).weights ≡ r.weights
 weights_stay r [] = refl
 weights_stay r (x ∷ xs) = weights_stay (record r { asked = r.asked ++ unknown x ∷ []; rest = drop 1 r.rest }) xs
 
-need_stays : (r : RoundState) (xs : List ℕ) → (asking_all r xs).need ≡ r.need
+pub need_stays : (r : RoundState) (xs : List ℕ) → (asking_all r xs).need ≡ r.need
 need_stays r [] = refl
 need_stays r (x ∷ xs) = need_stays (record r { asked = r.asked ++ unknown x ∷ []; rest = drop 1 r.rest }) xs
 
@@ -222,10 +216,6 @@ wants_some : (weights : List ℕ) (need : ℕ) (asked : List Asked) (rest : List
 wants_some weights need asked [] waits noted left = let never : ⊥ = cc in absurd never
 wants_some weights need asked (site ∷ rest) waits noted left =
     wants_first weights need asked site rest (ap is_waiting waits) noted
-
-and_false : (a : Bool) → (a && false) ≡ false
-and_false true = refl
-and_false false = refl
 
 abbrev noted_and : Bool → Bool → Bool
 noted_and a b = a && b

@@ -154,7 +154,7 @@ takes_learns decl front number answer = takes_in_learns decl front front.doing f
 
 -- an answer begins no transaction
 
-learned_count : (front : Front) (answer : Option Answer) → (learns front answer).count ≡ front.count
+pub learned_count : (front : Front) (answer : Option Answer) → (learns front answer).count ≡ front.count
 learned_count front None = refl
 learned_count front (Some (answers.Granted grant)) = refl
 learned_count front (Some (answers.Clash holder inv event)) = refl

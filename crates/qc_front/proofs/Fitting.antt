@@ -1,28 +1,26 @@
 -- What holds of a front end is what its calls rely on.
-use Rattle.std.proofs.Common.{◌≡◌, ℕ, zero, suc, ◌+◌, ◌-◌, ◌%◌, ◌^◌, ◌<◌, ◌≤◌, ◌==◌, nat_lt, Bool, true, false, cond}
-use Rattle.std.proofs.Common.{◌⊎◌, inl, inr, List, [], ◌∷◌, ◌++◌, filter, length, map, Option, Some, None, refl, sym}
-use Rattle.std.proofs.Common.{ap, ◌∙◌, subst, arith}
-use Rattle.std.specs.Prelude.{slice_get, slice_index}
-use Rattle.std.specs.List.{range_with_len}
+use Rattle.std.proofs.Common.{◌≡◌, ℕ, ◌+◌, ◌-◌, ◌%◌, ◌^◌, ◌<◌, ◌≤◌, ◌==◌, nat_lt, Bool, true, false, cond, ◌⊎◌, inl}
+use Rattle.std.proofs.Common.{inr, List, [], ◌++◌, length, Option, Some, None, refl, sym, ap, subst, arith}
+use Rattle.std.specs.Prelude.{slice_get}
 use Rattle.std.specs.Option.{option_map_or}
 use Rattle.std.proofs.lemmas.List.{length-append, length-map}
-use Rattle.std.proofs.lemmas.List.FromFn.{length-range_with_len}
 use Rattle.qc_decl.specs.declared.declaration.Declaration.{Declaration}
-use Rattle.qc_decl.specs.Vocabulary.{IsAccepted, IsGood, append_need_of, first_site, most_sites}
-use Rattle.qc_decl.specs.Vocabulary.{most_transaction_operations, plan_in, read_need_of}
+use Rattle.qc_decl.specs.Vocabulary.{IsAccepted, IsGood, append_need_of, first_site, plan_in, read_need_of}
 use Rattle.qc_plan.specs.declared.plan.Plan.{Plan}
 use Rattle.qc_plan.specs.declared.standing.Asked.{Asked}
-use Rattle.qc_plan.specs.Vocabulary.{RoundState, cyclic, start, weighing, weight_at}
+use Rattle.qc_plan.specs.Vocabulary.{RoundState, cyclic, weighing, weight_at}
 use Rattle.qc_front.specs.declared.doing.Doing.{Doing}
 use Rattle.qc_front.specs.declared.doing.Doing.TheVariants.{Idle, Reading, Appending}
 use Rattle.qc_front.specs.declared.front.Front.{Front}
 use Rattle.qc_front.specs.declared.transaction.Transaction.{Transaction}
-use Rattle.qc_front.specs.Vocabulary.{AppendingHolds, AsksFew, BegunHolds, FrontFits, FrontHolds, HasRoom, IsRound}
-use Rattle.qc_front.specs.Vocabulary.{ReadingHolds, sites_of, weights_of}
+use Rattle.qc_front.specs.Vocabulary.{AsksFew, BegunHolds, FrontFits, FrontHolds, HasRoom, IsRound, sites_of}
+use Rattle.qc_front.specs.Vocabulary.{weights_of}
+use Rattle.qc_plan.proofs.Rounds.{weighing_none, length-cyclic}
+use Rattle.qc_list.proofs.Members.{length-filter}
 
 -- the weights of an epoch: one for each site, or none
 
-plan_weights : (decl : Declaration) (epoch : ℕ) → IsAccepted decl → (p : Plan) → plan_in decl epoch ≡ Some p
+pub plan_weights : (decl : Declaration) (epoch : ℕ) → IsAccepted decl → (p : Plan) → plan_in decl epoch ≡ Some p
     → length p.weights ≡ decl.sites
 plan_weights decl epoch accepted p is = by (epoch == 0) is
   where
@@ -42,27 +40,6 @@ weights_few decl epoch accepted = by (plan_in decl epoch) refl
 
 -- a round over them asks few sites
 
-length_filter : (test : ℕ → Bool) (xs : List ℕ) → length (filter test xs) ≤ length xs
-length_filter test [] = omega arith
-length_filter test (x ∷ xs) = by (test x) (length_filter test xs)
-  where
-    by : (t : Bool) → length (filter test xs) ≤ length xs
-        → length (cond t (x ∷ filter test xs) (filter test xs)) ≤ length (x ∷ xs)
-    by true few = omega arith
-    by false few = omega arith
-
-no_weights : (xs : List ℕ) → weighing [] xs ≡ []
-no_weights [] = refl
-no_weights (x ∷ xs) = no_weights xs
-
-cyclic_length : (sites from : ℕ) → from ≤ sites → length (cyclic sites from) ≡ sites
-cyclic_length sites from low =
-    let whole : length (cyclic sites from) ≡ length (range_with_len from (sites - from)) + length
-    (range_with_len 0 from) = length-append (range_with_len from (sites - from)) (range_with_len 0 from) in
-    let a : length (range_with_len from (sites - from)) ≡ sites - from = length-range_with_len from (sites - from) in
-    let b : length (range_with_len 0 from) ≡ from = length-range_with_len 0 from in
-    omega arith
-
 weighing_few : (decl : Declaration) (weights : List ℕ) (client : ℕ) → IsAccepted decl → FewWeights decl weights
     → length (weighing weights (cyclic (length weights) (first_site decl client))) ≤ 16
 weighing_few decl weights client accepted few = by few.either
@@ -71,16 +48,17 @@ weighing_few decl weights client accepted few = by few.either
         → length (weighing weights (cyclic (length weights) (first_site decl client))) ≤ 16
     by (inl none) = subst (λ (ws : List ℕ). length (weighing ws (cyclic (length ws) (first_site decl client))) ≤ 16)
         (sym none)
-        (subst (λ (ss : List ℕ). length ss ≤ 16) (sym (no_weights (cyclic 0 (first_site decl client)))) (omega arith))
+        (subst (λ (ss : List ℕ). length ss ≤ 16) (sym (weighing_none (cyclic 0 (first_site decl client))))
+        (omega arith))
     by (inr many) =
         let sites : decl.sites ≤ 16 = accepted.sites in
         let some : 0 < decl.sites = accepted.has_site in
         let low : client % decl.sites < decl.sites = omega arith in
         let whole : length (cyclic (length weights) (first_site decl client)) ≡ length weights =
-        cyclic_length (length weights) (first_site decl client) (omega arith) in
+        length-cyclic (length weights) (first_site decl client) (omega arith) in
         let fewer : length (weighing weights (cyclic (length weights) (first_site decl client))) ≤ length
         (cyclic (length weights) (first_site decl client)) =
-        length_filter (λ site. nat_lt 0 (weight_at weights site))
+        length-filter (λ site. nat_lt 0 (weight_at weights site))
         (cyclic (length weights) (first_site decl client)) in
         omega arith
 

@@ -2,7 +2,7 @@
 use Rattle.std.proofs.Common.{◌≡◌, ℕ, ◌==◌, ◌||◌, Bool, true, false, cond, List, [], ◌∷◌, ◌++◌, Option, Some, None}
 use Rattle.std.proofs.Common.{option_map, refl, sym, ap, ◌∙◌, subst, eq-eqb, eqb-true}
 use Rattle.std.specs.Prelude.{slice_get}
-use Rattle.std.specs.List.{find, list_any}
+use Rattle.std.specs.List.{find}
 use Rattle.std.specs.Option.{option_map_or}
 use Rattle.std.proofs.lemmas.List.Folds.{list_any-append}
 use Rattle.qc_decl.specs.declared.declaration.Declaration.{Declaration}
@@ -12,8 +12,7 @@ use Rattle.qc_msg.specs.declared.begun.LifeAt.{LifeAt}
 use Rattle.qc_msg.specs.declared.call.Call.{Call}
 use Rattle.qc_msg.specs.declared.message.Answer.{Answer}
 use Rattle.qc_msg.specs.declared.message.Answer.TheVariants as answers
-use Rattle.qc_msg.specs.Vocabulary.{has_granted, life_of, site_called, with_life, without_call}
-use Rattle.qc_msg.specs.Vocabulary.{grant_with}
+use Rattle.qc_msg.specs.Vocabulary.{has_granted, life_of, site_called, with_life, without_call, grant_with}
 use Rattle.qc_plan.specs.declared.standing.Verdict.{Verdict}
 use Rattle.qc_plan.specs.declared.standing.Verdict.TheVariants as verdicts
 use Rattle.qc_plan.specs.Vocabulary.{RoundState, note, verdict}
@@ -27,6 +26,7 @@ use Rattle.qc_front.specs.Vocabulary.{IsGrant, KeepsLives, answer_of, answered, 
 use Rattle.qc_front.specs.Vocabulary.{appending_takes, asked_at, asked_in, learns, lived, lives_of, next_own, read_by}
 use Rattle.qc_front.specs.Vocabulary.{read_with, reading_takes, round_for, standing_of, takes, takes_in}
 use Rattle.qc_front.proofs.CommandsKeep.{view_keeps}
+use Rattle.qc_list.proofs.Booleans.{or_second}
 
 -- the lives after what came of a request
 abbrev lives_with : List LifeAt → ℕ → Option Answer → List LifeAt
@@ -112,10 +112,6 @@ or_true : (a : Bool) → a ≡ true → (b : Bool) → (a || b) ≡ true
 or_true true is b = refl
 or_true false is b = let never : ⊥ = cc in absurd never
 
-or_last : (a b : Bool) → b ≡ true → (a || b) ≡ true
-or_last true b is = refl
-or_last false b is = is
-
 or_none : (a : Bool) → (a || false) ≡ true → a ≡ true
 or_none true is = refl
 or_none false is = is
@@ -148,7 +144,8 @@ has_by : (lives : List LifeAt) (site life : ℕ) (t : Bool) → has_granted live
     → has_granted (cond t lives (lives ++ record { site = site; life = life } ∷ [])) site ≡ true
 has_by lives site life true is = is
 has_by lives site life false is = granted_more lives site life site
-    ∙ or_last (has_granted lives site) ((site == site) || false) (ap (λ (b : Bool). b || false) (eq-eqb site site refl))
+    ∙ or_second (has_granted lives site) ((site == site) || false)
+    (ap (λ (b : Bool). b || false) (eq-eqb site site refl))
 
 -- what is noted of a request keeps lives, and a grant adds one
 

@@ -15,7 +15,7 @@ use Rattle.qc_front.proofs.Awaited.{unnoted, settled_by, wanted_by}
 
 -- the asked sites stay
 
-note_sites : (site : ℕ) (standing : Standing) (asked : List Asked)
+pub note_sites : (site : ℕ) (standing : Standing) (asked : List Asked)
     → sites_of (note_in site standing asked) ≡ sites_of asked
 note_sites site standing [] = refl
 note_sites site standing (a ∷ rest) = by (a.site == site) refl (note_sites site standing rest)

@@ -1,13 +1,11 @@
 -- What a round waits for, and which requests are open, once what came of one of them is noted.
-use Rattle.std.proofs.Common.{[], ◌≡◌, ◌≢◌, ℕ, ◌+◌, ◌<◌, ◌==◌, ◌&&◌, nat_lt, not, Bool, true, false, cond, inl, inr}
-use Rattle.std.proofs.Common.{List, ◌∷◌, ◌++◌, map, filter, Option, Some, None, option_map, is_some, refl, sym, ap, ◌∙◌}
-use Rattle.std.proofs.Common.{subst, eq-eqb, eqb-true, arith}
+use Rattle.std.proofs.Common.{[], ◌≡◌, ◌≢◌, ℕ, ◌+◌, ◌<◌, ◌==◌, ◌&&◌, not, Bool, true, false, cond, inl, inr, List, ◌∷◌}
+use Rattle.std.proofs.Common.{◌++◌, map, filter, Option, Some, None, option_map, is_some, refl, sym, ap, ◌∙◌, subst}
+use Rattle.std.proofs.Common.{eq-eqb, eqb-true, arith}
 use Rattle.std.specs.Prelude.{is_none}
 use Rattle.std.specs.List.{find}
 use Rattle.std.specs.Ordering.{nat_cmp}
 use Rattle.std.proofs.lemmas.List.Elements.{filter-append}
-use Rattle.std.specs.declared.cmp.Ordering.TheVariants.{Equal, Greater, Less}
-use Rattle.std.proofs.lemmas.Bool.{ltb-true}
 use Rattle.qc_list.specs.Vocabulary.{Ascends, In, IsBelowAll}
 use Rattle.qc_list.proofs.Order.{ascends-filter}
 use Rattle.qc_msg.specs.declared.call.Call.{Call}
@@ -19,6 +17,7 @@ use Rattle.qc_front.specs.Vocabulary.{AreOpen, IsPrefix, awaited, sites_called, 
 use Rattle.qc_front.proofs.Apart.{AreApart, apart_first}
 use Rattle.qc_front.proofs.Awaited.{unnoted}
 use Rattle.qc_front.proofs.NotedRounds.{none_lost, unnoted_in, note_awaits}
+use Rattle.qc_list.proofs.Numbers.{below_from_cmp}
 
 -- the open requests to other sites are the other open requests
 
@@ -80,17 +79,9 @@ without_sites (c ∷ calls) number site called numbers sites =
 
 -- ascending numbers are different
 
-less_lt : (x y : ℕ) → nat_cmp x y ≡ Less → x < y
-less_lt x y less = by (nat_lt x y) refl (x == y) less
-  where
-    by : (t : Bool) → nat_lt x y ≡ t → (e : Bool) → cond t Less (cond e Equal Greater) ≡ Less → x < y
-    by true is e less = ltb-true x y is
-    by false is true less = let never : ⊥ = cc in absurd never
-    by false is false less = let never : ⊥ = cc in absurd never
-
 pub below_all : (x : ℕ) (ys : List ℕ) → IsBelowAll nat_cmp x ys → (y : ℕ) → In y ys → x < y
 below_all x [] below y y_in = absurd y_in
-below_all x (z ∷ zs) below y (inl same) = subst (λ (k : ℕ). x < k) (sym same) (less_lt x z below.0)
+below_all x (z ∷ zs) below y (inl same) = subst (λ (k : ℕ). x < k) (sym same) (below_from_cmp x z below.0)
 below_all x (z ∷ zs) below y (inr later) = below_all x zs below.1 y later
 
 pub ascends_apart : (xs : List ℕ) → Ascends nat_cmp xs → AreApart xs

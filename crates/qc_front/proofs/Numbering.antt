@@ -1,7 +1,6 @@
 -- One call gives all requests of a turn the numbers that they get one after another.
-use Rattle.std.proofs.Common.{◌≡◌, ℕ, suc, ◌+◌, ◌<◌, ◌≤◌, ◌==◌, Bool, true, false, cond, ◌⊎◌, inl, inr, List, [], ◌∷◌}
-use Rattle.std.proofs.Common.{◌++◌, length, map, Option, Some, None, refl, sym, ap, ◌∙◌, subst, eqb-true, arith}
-use Rattle.std.proofs.Common.{append_assoc}
+use Rattle.std.proofs.Common.{◌≡◌, ℕ, ◌+◌, ◌<◌, ◌==◌, Bool, true, false, cond, inl, inr, List, [], ◌∷◌, ◌++◌, length}
+use Rattle.std.proofs.Common.{map, Option, Some, None, refl, sym, ap, ◌∙◌, subst, eqb-true, arith, append_assoc}
 use Rattle.std.specs.Ordering.{nat_cmp}
 use Rattle.std.proofs.lemmas.List.{append-nil, map-append}
 use Rattle.qc_list.specs.Vocabulary.{Ascends, In}
@@ -18,26 +17,26 @@ use Rattle.qc_front.specs.declared.doing.Doing.{Doing}
 use Rattle.qc_front.specs.declared.doing.Doing.TheVariants.{Idle, Reading, Appending}
 use Rattle.qc_front.specs.declared.front.Front.{Front}
 use Rattle.qc_front.specs.declared.transaction.Transaction.{Transaction}
-use Rattle.qc_front.specs.Vocabulary.{AppendingHolds, AreOpen, AsksAll, AsksIn, AsksNobody, BegunHolds, FrontHolds}
-use Rattle.qc_front.specs.Vocabulary.{IsAwaiting, IsNextCall, IsNextOpen, IsNumbered, IsPrefix, ReadingHolds}
-use Rattle.qc_front.specs.Vocabulary.{append_want, awaited, is_request, numbered, numbered_all, numbered_one, read_want}
-use Rattle.qc_front.specs.Vocabulary.{request_of, requested, requested_in, sent, sites_called}
-use Rattle.qc_front.proofs.Noting.{awaits_some, below_all}
+use Rattle.qc_front.specs.Vocabulary.{AreOpen, AsksAll, AsksIn, AsksNobody, BegunHolds, FrontHolds, IsAwaiting}
+use Rattle.qc_front.specs.Vocabulary.{IsNextCall, IsNextOpen, IsNumbered, append_want, awaited, is_request, numbered}
+use Rattle.qc_front.specs.Vocabulary.{numbered_all, numbered_one, read_want, request_of, requested, requested_in, sent}
+use Rattle.qc_front.specs.Vocabulary.{sites_called}
+use Rattle.qc_front.proofs.Noting.{awaits_some}
 use Rattle.qc_front.proofs.Recording.{ascends_last, below_one}
 
 -- calls numbered from one on
 
-from_sites : (first : ℕ) (xs : List ℕ) → sites_called (calls_from first xs) ≡ xs
+pub from_sites : (first : ℕ) (xs : List ℕ) → sites_called (calls_from first xs) ≡ xs
 from_sites first [] = refl
 from_sites first (x ∷ xs) = ap (λ (ys : List ℕ). x ∷ ys) (from_sites (first + 1) xs)
 
-from_later : (n first : ℕ) (xs : List ℕ) → n < first → (k : ℕ)
+pub from_later : (n first : ℕ) (xs : List ℕ) → n < first → (k : ℕ)
     → In k (map (λ (c : Call). c.number) (calls_from first xs)) → n < k
 from_later n first [] low k among = absurd among
 from_later n first (x ∷ xs) low k (inl same) = (let eq : k ≡ first = same in omega arith)
 from_later n first (x ∷ xs) low k (inr later) = from_later n (first + 1) xs (omega arith) k later
 
-from_ascends : (first : ℕ) (xs : List ℕ) → Ascends nat_cmp (map (λ (c : Call). c.number) (calls_from first xs))
+pub from_ascends : (first : ℕ) (xs : List ℕ) → Ascends nat_cmp (map (λ (c : Call). c.number) (calls_from first xs))
 from_ascends first [] = tt
 from_ascends first (x ∷ xs) = (
   below_one first (map (λ (c : Call). c.number) (calls_from (first + 1) xs))

@@ -1,5 +1,5 @@
 -- No two open requests of a front end are for one site: they went to awaited sites of its round, which asked each once.
-use Rattle.std.proofs.Common.{◌≡◌, ℕ, List, Option, Some, None, sym, subst}
+use Rattle.std.proofs.Common.{ℕ, List, Option, Some, None, sym, subst}
 use Rattle.qc_decl.specs.declared.declaration.Declaration.{Declaration}
 use Rattle.qc_msg.specs.declared.call.Call.{Call}
 use Rattle.qc_plan.specs.Vocabulary.{RoundState}
@@ -19,7 +19,7 @@ round_calls decl client epoch need calls r is o =
     prefix_apart (sites_called calls) (unnoted r.asked) o.sites
     (unnoted_apart r.asked (round_apart decl client epoch need r is))
 
-doing_calls : (decl : Declaration) (client : ℕ) (t : Transaction) (d : Doing) → DoingHolds decl client t d
+pub doing_calls : (decl : Declaration) (client : ℕ) (t : Transaction) (d : Doing) → DoingHolds decl client t d
     → AreApart (sites_called (calls_in d))
 doing_calls decl client t Idle holds = tt
 doing_calls decl client t (Reading object inv calls round) holds =
@@ -27,7 +27,7 @@ doing_calls decl client t (Reading object inv calls round) holds =
 doing_calls decl client t (Appending object inv event calls round) holds =
     round_calls decl client _ _ calls round holds.round_is holds.calls_are
 
-begun_calls : (decl : Declaration) (client : ℕ) (o : Option Transaction) (d : Doing) → BegunHolds decl client o d
+pub begun_calls : (decl : Declaration) (client : ℕ) (o : Option Transaction) (d : Doing) → BegunHolds decl client o d
     → AreApart (sites_called (calls_in d))
 begun_calls decl client None d idle = subst (λ (x : Doing). AreApart (sites_called (calls_in x))) (sym idle) tt
 begun_calls decl client (Some t) d holds = doing_calls decl client t d holds.1

@@ -1,11 +1,9 @@
 -- A transaction's views, own lines and operations stay together as it goes on.
-use Rattle.std.proofs.Common.{◌≡◌, ◌≢◌, ℕ, zero, suc, ◌+◌, ◌<◌, ◌≤◌, ◌==◌, nat_lt, Bool, true, false, cond, ◌⊎◌, inl}
-use Rattle.std.proofs.Common.{inr, List, [], ◌∷◌, ◌++◌, map, filter, length, replicate, Option, Some, None, option_map}
-use Rattle.std.proofs.Common.{refl, sym, ap, ◌∙◌, subst, eq-eqb, eqb-true, arith}
+use Rattle.std.proofs.Common.{◌≡◌, ◌≢◌, ℕ, zero, suc, ◌+◌, ◌<◌, ◌≤◌, ◌==◌, Bool, true, false, cond, ◌⊎◌, inl, inr, List}
+use Rattle.std.proofs.Common.{[], ◌∷◌, ◌++◌, map, length, replicate, Option, Some, None, option_map, refl, sym, ap, ◌∙◌}
+use Rattle.std.proofs.Common.{subst, eq-eqb, eqb-true, arith}
 use Rattle.std.specs.Prelude.{slice_get, slice_set}
 use Rattle.std.specs.Ordering.{nat_cmp}
-use Rattle.std.specs.declared.cmp.Ordering.TheVariants.{Equal, Greater, Less}
-use Rattle.std.proofs.lemmas.Bool.{ltb-false}
 use Rattle.std.proofs.lemmas.List.{append-nil, length-append, length-replicate, length-set, map-append}
 use Rattle.std.proofs.lemmas.List.Elements.{filter-append}
 use Rattle.qc_list.specs.Vocabulary.{Ascends, In, IsBelowAll}
@@ -19,8 +17,10 @@ use Rattle.qc_msg.specs.declared.message.Answer.TheVariants as answers
 use Rattle.qc_view.specs.declared.view.View.{View}
 use Rattle.qc_view.specs.Vocabulary.{empty_view, with_log, with_own}
 use Rattle.qc_front.specs.declared.transaction.Transaction.{Transaction}
-use Rattle.qc_front.specs.Vocabulary.{RecordsHold, appended_with, lived, next_own, own_on, read_with, with_event}
-use Rattle.qc_front.specs.Vocabulary.{with_granted, with_view}
+use Rattle.qc_front.specs.Vocabulary.{RecordsHold, lived, next_own, own_on, read_with, with_event, with_granted}
+use Rattle.qc_front.specs.Vocabulary.{with_view}
+use Rattle.qc_list.proofs.Numbers.{cmp_below}
+use Rattle.qc_list.proofs.Places.{replicate_at}
 
 -- an item at a place, after a write
 
@@ -30,34 +30,22 @@ get_set [] i x y is = let never : ⊥ = cc in absurd never
 get_set (z ∷ zs) zero x y is = refl
 get_set (z ∷ zs) (suc i) x y is = get_set zs i x y is
 
-get_other : {A : Type 0} (xs : List A) (i j : ℕ) (y : A) → j ≢ i → slice_get (slice_set xs i y) j ≡ slice_get xs j
+pub get_other : {A : Type 0} (xs : List A) (i j : ℕ) (y : A) → j ≢ i → slice_get (slice_set xs i y) j ≡ slice_get xs j
 get_other [] i j y apart = refl
 get_other (z ∷ zs) zero zero y apart = absurd (apart refl)
 get_other (z ∷ zs) zero (suc j) y apart = refl
 get_other (z ∷ zs) (suc i) zero y apart = refl
 get_other (z ∷ zs) (suc i) (suc j) y apart = get_other zs i j y (λ same. apart (ap (λ (n : ℕ). suc n) same))
 
-get_replicate : {A : Type 0} (n i : ℕ) (x y : A) → slice_get (replicate n x) i ≡ Some y → y ≡ x
-get_replicate zero i x y is = let never : ⊥ = cc in absurd never
-get_replicate (suc n) zero x y is = cc
-get_replicate (suc n) (suc i) x y is = get_replicate n i x y is
-
 -- one more at the end of ascending numbers
 
-lt_less : (x y : ℕ) → x < y → nat_cmp x y ≡ Less
-lt_less x y low = by (nat_lt x y) refl
-  where
-    by : (t : Bool) → nat_lt x y ≡ t → cond t Less (cond (x == y) Equal Greater) ≡ Less
-    by true is = refl
-    by false is = absurd (let more : y ≤ x = ltb-false x y is in omega arith)
-
 below_last : (x n : ℕ) (ys : List ℕ) → x < n → IsBelowAll nat_cmp x ys → IsBelowAll nat_cmp x (ys ++ n ∷ [])
-below_last x n [] low below = (lt_less x n low, tt)
+below_last x n [] low below = (cmp_below x n low, tt)
 below_last x n (y ∷ ys) low below = (below.0, below_last x n ys low below.1)
 
 pub below_one : (x : ℕ) (ys : List ℕ) → ((y : ℕ) → In y ys → x < y) → IsBelowAll nat_cmp x ys
 below_one x [] low = tt
-below_one x (y ∷ ys) low = (lt_less x y (low y (inl refl)), below_one x ys (λ z among. low z (inr among)))
+below_one x (y ∷ ys) low = (cmp_below x y (low y (inl refl)), below_one x ys (λ z among. low z (inr among)))
 
 pub ascends_last : (xs : List ℕ) (n : ℕ) → Ascends nat_cmp xs → ((x : ℕ) → In x xs → x < n)
     → Ascends nat_cmp (xs ++ n ∷ [])
@@ -255,7 +243,7 @@ read_recorded decl t site object (Some (answers.Answered verdict)) h = h
 pub fresh_recorded : (decl : Declaration) → RecordsHold decl (replicate (length decl.objects) empty_view) [] []
 fresh_recorded decl = record {
   count = length-replicate (length decl.objects) empty_view;
-  own_events = λ object v at. ap (λ (u : View). u.own) (get_replicate (length decl.objects) object empty_view v at);
+  own_events = λ object v at. ap (λ (u : View). u.own) (replicate_at (length decl.objects) object empty_view v at);
   ascending = tt;
   within = λ l among. absurd among;
 }

@@ -5,10 +5,11 @@ use Rattle.std.specs.BTreeMap.{BTreeMap, get}
 use Rattle.std.specs.Cmp.{both_tied}
 use Rattle.std.specs.Option.{option_cmp, option_eq, option_map, option_or}
 use Rattle.std.specs.Ordering.{is_eq, nat_cmp, ordering_then}
-use Rattle.std.proofs.lemmas.Bool.{eq-eqb, eqb-true}
+use Rattle.std.proofs.lemmas.Bool.{eq-eqb, eqb-true, and_from}
 use Rattle.std.proofs.lemmas.Grind.{common_steps}
 use Rattle.qc_link.specs.declared.plan.Link.{Link}
 use Rattle.qc_link.specs.Vocabulary.{IsIndex, Pattern, has_pattern, pattern_cmp, pattern_of, place, same_pattern}
+use Rattle.qc_list.proofs.Booleans.{and_parts}
 
 -- patterns that are the same are equal
 
@@ -22,26 +23,18 @@ option_self : (a : Option ℕ) → option_eq nat_eq a a ≡ true
 option_self None = refl
 option_self (Some n) = eq-eqb n n refl
 
-and_both : (s t : Bool) → (s && t) ≡ true → (s ≡ true) × (t ≡ true)
-and_both true t h = (refl, h)
-and_both false t h = absurd (cc)
-
-and_true : (s t : Bool) → s ≡ true → t ≡ true → (s && t) ≡ true
-and_true true t p q = q
-and_true false t p q = absurd (cc)
-
 same_is : (x y : Pattern) → same_pattern x y ≡ true → x ≡ y
 same_is x y is =
-    let outer = and_both (option_eq nat_eq x.0 y.0 && option_eq nat_eq x.1 y.1) (option_eq nat_eq x.2 y.2) is in
-    let inner = and_both (option_eq nat_eq x.0 y.0) (option_eq nat_eq x.1 y.1) outer.0 in
+    let outer = and_parts (option_eq nat_eq x.0 y.0 && option_eq nat_eq x.1 y.1) (option_eq nat_eq x.2 y.2) is in
+    let inner = and_parts (option_eq nat_eq x.0 y.0) (option_eq nat_eq x.1 y.1) outer.0 in
     let p : x.0 ≡ y.0 = option_same x.0 y.0 inner.0 in
     let q : x.1 ≡ y.1 = option_same x.1 y.1 inner.1 in
     let r : x.2 ≡ y.2 = option_same x.2 y.2 outer.1 in
     λ i. (p i, q i, r i)
 
 same_self : (x : Pattern) → same_pattern x x ≡ true
-same_self x = and_true (option_eq nat_eq x.0 x.0 && option_eq nat_eq x.1 x.1) (option_eq nat_eq x.2 x.2)
-    (and_true (option_eq nat_eq x.0 x.0) (option_eq nat_eq x.1 x.1) (option_self x.0) (option_self x.1))
+same_self x = and_from (option_eq nat_eq x.0 x.0 && option_eq nat_eq x.1 x.1) (option_eq nat_eq x.2 x.2)
+    (and_from (option_eq nat_eq x.0 x.0) (option_eq nat_eq x.1 x.1) (option_self x.0) (option_self x.1))
     (option_self x.2)
 
 same_turned : (x y : Pattern) → same_pattern x y ≡ false → same_pattern y x ≡ false

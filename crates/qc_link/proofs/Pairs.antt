@@ -3,28 +3,9 @@ use Rattle.std.proofs.Common.{◌≡◌, ◌⊎◌, inl, inr, ℕ, ◌+◌, ◌*
 use Rattle.std.proofs.Common.{max, List, length, set, get_or, refl, sym, ◌∙◌, ap, subst, arith, get_or-set_other}
 use Rattle.std.proofs.Common.{get_or-set_same}
 use Rattle.std.specs.Cmp.{both_ways}
-use Rattle.std.proofs.lemmas.Bool.{eq-eqb, eqb-true}
+use Rattle.std.proofs.lemmas.Bool.{eq-eqb, eqb-true, and_from}
 use Rattle.qc_link.specs.Vocabulary.{is_cut, is_pair, most_actors, pair_place, with_cut, without_cut}
-
-and_true : (s t : Bool) → s ≡ true → t ≡ true → (s && t) ≡ true
-and_true true t p q = q
-and_true false t p q = absurd (cc)
-
-or_right : (s t : Bool) → t ≡ true → (s || t) ≡ true
-or_right true t q = refl
-or_right false t q = q
-
-or_first : (s t : Bool) → s ≡ true → (s || t) ≡ true
-or_first true t q = refl
-or_first false t q = absurd (cc)
-
-and_both : (s t : Bool) → (s && t) ≡ true → (s ≡ true) × (t ≡ true)
-and_both true t h = (refl, h)
-and_both false t h = absurd (cc)
-
-or_cases : (s t : Bool) → (s || t) ≡ true → (s ≡ true) ⊎ (t ≡ true)
-or_cases true t h = inl refl
-or_cases false t h = inr h
+use Rattle.qc_list.proofs.Booleans.{and_parts, or_first, or_second, or_cases}
 
 -- the places of two pairs are the same just where the pairs are
 
@@ -32,12 +13,12 @@ pair_at : (a b x y : ℕ) → is_pair a b x y ≡ true → (pair_place a b == pa
 pair_at a b x y is = by (or_cases ((a == x) && (b == y)) ((a == y) && (b == x)) is) where
   by : (((a == x) && (b == y)) ≡ true) ⊎ (((a == y) && (b == x)) ≡ true) → (pair_place a b == pair_place x y) ≡ true
   by (inl straight) =
-      let parts = and_both (a == x) (b == y) straight in
+      let parts = and_parts (a == x) (b == y) straight in
       let first : a ≡ x = eqb-true a x parts.0 in
       let second : b ≡ y = eqb-true b y parts.1 in
       eq-eqb (pair_place a b) (pair_place x y) (λ i. pair_place (first i) (second i))
   by (inr crossed) =
-      let parts = and_both (a == y) (b == x) crossed in
+      let parts = and_parts (a == y) (b == x) crossed in
       let first : a ≡ y = eqb-true a y parts.0 in
       let second : b ≡ x = eqb-true b x parts.1 in
       let turned : pair_place y x ≡ pair_place x y = omega arith in
@@ -54,15 +35,15 @@ at_pair a b x y al bl xl yl is = by (a == x) refl where
       let places : most_actors * min a b + max a b ≡ most_actors * min x y + max x y = same in
       let first : a ≡ y = omega arith in
       let second : b ≡ x = omega arith in
-      or_right ((a == x) && (b == y)) ((a == y) && (b == x))
-      (and_true (a == y) (b == x) (eq-eqb a y first) (eq-eqb b x second))
+      or_second ((a == x) && (b == y)) ((a == y) && (b == x))
+      (and_from (a == y) (b == x) (eq-eqb a y first) (eq-eqb b x second))
 
   by : (t : Bool) → (a == x) ≡ t → is_pair a b x y ≡ true
   by true here =
       let first : a ≡ x = eqb-true a x here in
       let places : most_actors * min a b + max a b ≡ most_actors * min x y + max x y = same in
       let second : b ≡ y = omega arith in
-      or_first ((a == x) && (b == y)) ((a == y) && (b == x)) (and_true (a == x) (b == y) here (eq-eqb b y second))
+      or_first ((a == x) && (b == y)) ((a == y) && (b == x)) (and_from (a == x) (b == y) here (eq-eqb b y second))
   by false here = crossed (λ e. let on : (a == x) ≡ true = eq-eqb a x e in let never : false ≡ true = sym here
       ∙ on in cc)
 

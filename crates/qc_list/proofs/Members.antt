@@ -1,6 +1,6 @@
 -- Members of lists, and what holds of each.
 use Rattle.std.proofs.Common.{◌≡◌, ℕ, zero, suc, List, [], ◌∷◌, ◌++◌, ◌⊎◌, Bool, true, false, cond, Some, inl, inr}
-use Rattle.std.proofs.Common.{refl, sym, ap, ◌∙◌, subst}
+use Rattle.std.proofs.Common.{refl, sym, ap, ◌∙◌, subst, ◌+◌, ◌-◌, map, ◌≤◌, length, arith}
 use Rattle.std.specs.List.{AllByRecursion as Every, filter, slice_get}
 use Rattle.qc_list.specs.Vocabulary.{In}
 
@@ -93,3 +93,39 @@ every-at P (y ∷ ys) zero x every at =
     let same : x ≡ y = cc in
     subst P (sym same) every.0
 every-at P (y ∷ ys) (suc n) x every at = every-at P ys n x every.1 at
+
+pub every-front : {A : Type 0} (P : A → Type 0) (xs ys : List A) → Every P (xs ++ ys) → Every P xs
+every-front P [] ys all = tt
+every-front P (x ∷ xs) ys all = (all.0, every-front P xs ys all.1)
+
+pub every-back : {A : Type 0} (P : A → Type 0) (xs ys : List A) → Every P (xs ++ ys) → Every P ys
+every-back P [] ys all = all
+every-back P (x ∷ xs) ys all = every-back P xs ys all.1
+
+pub In-either : {A : Type 0} (x : A) (xs ys : List A) → In x (xs ++ ys) → In x xs ⊎ In x ys
+In-either x [] ys h = inr h
+In-either x (z ∷ zs) ys (inl same) = inl (inl same)
+In-either x (z ∷ zs) ys (inr h) = elim (In-either x zs ys h) [ inl a ↦ inl (inr a) | inr b ↦ inr b ]
+
+pub In-none : {X : Type 0} (xs : List X) → ((x : X) → In x xs → ⊥) → xs ≡ []
+In-none [] none = refl
+In-none (x ∷ xs) none = absurd (none x (inl refl))
+
+pub In-at : {A : Type 0} (xs : List A) (q : ℕ) (x : A) → slice_get xs q ≡ Some x → In x xs
+In-at [] q x is = absurd (cc)
+In-at (y ∷ ys) zero x is = inl cc
+In-at (y ∷ ys) (suc q) x is = inr (In-at ys q x is)
+
+pub In-map : {A B : Type 0} (f : A → B) (x : A) (xs : List A) → In x xs → In (f x) (map f xs)
+In-map f x [] h = absurd h
+In-map f x (y ∷ ys) (inl same) = inl (ap f same)
+In-map f x (y ∷ ys) (inr h) = inr (In-map f x ys h)
+
+pub length-filter : (test : ℕ → Bool) (xs : List ℕ) → length (filter test xs) ≤ length xs
+length-filter test [] = omega arith
+length-filter test (x ∷ xs) = by (test x) (length-filter test xs)
+  where
+    by : (t : Bool) → length (filter test xs) ≤ length xs
+        → length (cond t (x ∷ filter test xs) (filter test xs)) ≤ length (x ∷ xs)
+    by true few = omega arith
+    by false few = omega arith

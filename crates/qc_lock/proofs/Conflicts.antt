@@ -2,7 +2,7 @@
 use Rattle.std.proofs.Common.{[], ◌≡◌, ℕ, ◌==◌, ◌&&◌, Bool, true, false, cond, List, filter, map, Option, Some, None}
 use Rattle.std.proofs.Common.{refl, sym, subst}
 use Rattle.std.specs.List.{flat_map}
-use Rattle.std.proofs.lemmas.Bool.{eq-eqb, eqb-true}
+use Rattle.std.proofs.lemmas.Bool.{eq-eqb, eqb-true, and_from}
 use Rattle.qc_stamp.specs.declared.stamp.TxId.{TxId}
 use Rattle.qc_entry.specs.declared.line.OwnLine.{OwnLine}
 use Rattle.qc_entry.specs.declared.line.ReadLock.{ReadLock}
@@ -11,9 +11,9 @@ use Rattle.qc_lock.specs.declared.clash.Clash.{Clash}
 use Rattle.qc_lock.specs.declared.held.Held.{Held}
 use Rattle.qc_lock.specs.Vocabulary.{In, IsAppendConflict, IsReadConflict, IsSmallest, append_clash, append_clashes}
 use Rattle.qc_lock.specs.Vocabulary.{lines_in_way, locks_in_way, read_clash, read_clashes, same_tx}
-use Rattle.qc_lock.proofs.Entries.{and_first, and_second}
 use Rattle.qc_lock.proofs.SmallestOf.{smallest_by, smallest_of, in-flat_map, flat_map-in, in-map, map-in, in-filter}
 use Rattle.qc_lock.proofs.SmallestOf.{filter-in}
+use Rattle.qc_list.proofs.Booleans.{and_first, and_second}
 
 -- others
 
@@ -24,10 +24,6 @@ in-unless false x xs member = (refl, member)
 
 unless-in : {A : Type 0} (t : Bool) (x : A) (xs : List A) → t ≡ false → In x xs → In x (cond t [] xs)
 unless-in t x xs is member = subst (λ b. In x (cond b [] xs)) (sym is) member
-
-both : (a b : Bool) → a ≡ true → b ≡ true → (a && b) ≡ true
-both true b x y = y
-both false b x y = x
 
 -- reads
 
@@ -59,7 +55,7 @@ read_back relation held tx object inv d c =
     let f : OwnLine → Clash = λ l. record { holder = c.holder.tx; inv = inv; event = l.event } in
     let test : OwnLine → Bool = λ l. (l.object == object) && depends relation inv l.event in
     let passes : test c.line ≡ true =
-    both (c.line.object == object) (depends relation inv c.line.event) (eq-eqb c.line.object object c.here)
+    and_from (c.line.object == object) (depends relation inv c.line.event) (eq-eqb c.line.object object c.here)
     c.depended in
     let here : In (f c.line) (lines_in_way relation tx object inv c.holder) =
     unless-in (same_tx c.holder.tx tx) (f c.line) (map f (filter test c.holder.own)) c.another
@@ -111,7 +107,7 @@ append_back relation held tx own d c =
     let f : ReadLock → Clash = λ l. record { holder = c.holder.tx; inv = l.inv; event = c.line.event } in
     let test : ReadLock → Bool = λ l. (l.object == c.line.object) && depends relation l.inv c.line.event in
     let passes : test c.lock ≡ true =
-    both (c.lock.object == c.line.object) (depends relation c.lock.inv c.line.event)
+    and_from (c.lock.object == c.line.object) (depends relation c.lock.inv c.line.event)
     (eq-eqb c.lock.object c.line.object c.here) c.depended in
     let here : In (f c.lock) (locks_in_way relation tx c.line c.holder) =
     unless-in (same_tx c.holder.tx tx) (f c.lock) (map f (filter test c.holder.locks)) c.another

@@ -3,7 +3,7 @@ use Rattle.std.proofs.Common.{◌≡◌, ℕ, ◌≤◌, ◌++◌, set, take, dr
 use Rattle.std.proofs.Common.{Bool, true, false, cond, fold, List, [], ◌∷◌, filter, Option, Some, None, unwrap_or, refl}
 use Rattle.std.proofs.Common.{sym, ◌∙◌, ap, subst}
 use Rattle.std.specs.List.{find}
-use Rattle.std.proofs.lemmas.Bool.{eq-eqb, eqb-true}
+use Rattle.std.proofs.lemmas.Bool.{eqb-true}
 use Rattle.std.proofs.lemmas.List.{set_split, take_all, drop_all}
 use Rattle.qc_stamp.specs.declared.stamp.TxId.{TxId}
 use Rattle.qc_lock.specs.declared.held.Held.{Held}
@@ -14,40 +14,10 @@ use Rattle.qc_entry.specs.declared.line.ReadLock.{ReadLock}
 use Rattle.qc_list.specs.Vocabulary.{by_order}
 use Rattle.qc_lock.specs.Vocabulary.{AreFull, entry_of, held_of, inserted, lock_cmp, own_cmp, same_tx, with_entry}
 use Rattle.qc_lock.specs.Vocabulary.{with_held, with_locks, with_owns, without_held}
+use Rattle.qc_stamp.proofs.Orders.{same_tx_itself, same_tx_is}
+use Rattle.qc_list.proofs.Booleans.{and_first, and_second}
 
 -- the test of names
-
-pub and_first : (x y : Bool) → (x && y) ≡ true → x ≡ true
-and_first true y h = refl
-and_first false y h = h
-
-pub and_second : (x y : Bool) → (x && y) ≡ true → y ≡ true
-and_second true y h = h
-and_second false y h = absurd (let never : ⊥ = cc in never)
-
-pub same_self : (tx : TxId) → same_tx tx tx ≡ true
-same_self tx =
-    let client : (tx.client == tx.client) ≡ true = eq-eqb tx.client tx.client refl in
-    let life : (tx.life == tx.life) ≡ true = eq-eqb tx.life tx.life refl in
-    let number : (tx.number == tx.number) ≡ true = eq-eqb tx.number tx.number refl in
-    rw (client, life, number) refl
-
-pub tx_apart : (a b : TxId) → same_tx a b ≡ true → a ≡ b
-tx_apart a b h =
-    let rest : ((a.life == b.life) && (a.number == b.number)) ≡ true = and_second (a.client == b.client) _ h in
-    let client : a.client ≡ b.client = eqb-true a.client b.client (and_first (a.client == b.client) _ h) in
-    let life : a.life ≡ b.life = eqb-true a.life b.life (and_first (a.life == b.life) (a.number == b.number) rest) in
-    let number : a.number ≡ b.number = eqb-true a.number b.number
-    (and_second (a.life == b.life) (a.number == b.number) rest) in
-    λ i. record { client = client i; life = life i; number = number i }
-
-pub apart_sym : (a b : TxId) → same_tx a b ≡ false → same_tx b a ≡ false
-apart_sym a b h = by (same_tx b a) refl where
-  by : (t : Bool) → same_tx b a ≡ t → t ≡ false
-  by true is =
-      let same : same_tx a b ≡ true = subst (λ u. same_tx a u ≡ true) (sym (tx_apart b a is)) (same_self a) in
-      absurd (let never : ⊥ = cc in never)
-  by false is = refl
 
 -- none that passes a test is left where those that pass it are left out
 pub find-none : {A : Type 0} (p : A → Bool) (xs : List A) → find p (filter (λ x. not (p x)) xs) ≡ None
@@ -61,11 +31,11 @@ find-none {A = A} p (x ∷ xs) = by (p x) refl (find-none p xs) where
 -- an entry that was put
 
 pub entry-put : (held : List Held) (e : Held) → entry_of (with_entry held e) e.tx ≡ Some e
-entry-put [] e = rw (same_self e.tx) refl
+entry-put [] e = rw (same_tx_itself e.tx) refl
 entry-put (h ∷ hs) e = by (same_tx h.tx e.tx) refl (entry-put hs e) where
   by : (t : Bool) → same_tx h.tx e.tx ≡ t → entry_of (with_entry hs e) e.tx ≡ Some e
       → entry_of (cond t (e ∷ hs) (h ∷ with_entry hs e)) e.tx ≡ Some e
-  by true is rest = rw (same_self e.tx) refl
+  by true is rest = rw (same_tx_itself e.tx) refl
   by false is rest = rw is rest
 
 pub held-put : (held : List Held) (e : Held) → held_of (with_entry held e) e.tx ≡ e
@@ -78,7 +48,7 @@ entry-put_other (h ∷ hs) e tx other = by (same_tx h.tx e.tx) refl (entry-put_o
   by : (t : Bool) → same_tx h.tx e.tx ≡ t → entry_of (with_entry hs e) tx ≡ entry_of hs tx
       → entry_of (cond t (e ∷ hs) (h ∷ with_entry hs e)) tx ≡ entry_of (h ∷ hs) tx
   by true is rest =
-      let same : same_tx h.tx tx ≡ false = subst (λ u. same_tx u tx ≡ false) (sym (tx_apart h.tx e.tx is)) other in
+      let same : same_tx h.tx tx ≡ false = subst (λ u. same_tx u tx ≡ false) (sym (same_tx_is h.tx e.tx is)) other in
       rw (other, same) refl
   by false is rest = ap (λ (o : Option Held). cond (same_tx h.tx tx) (Some h) o) rest
 
@@ -99,7 +69,8 @@ entry-without_other (h ∷ hs) tx other apart = by (same_tx h.tx tx) refl (entry
   by : (t : Bool) → same_tx h.tx tx ≡ t → entry_of (without_held hs tx) other ≡ entry_of hs other
       → entry_of (cond (not t) (h ∷ without_held hs tx) (without_held hs tx)) other ≡ entry_of (h ∷ hs) other
   by true is rest =
-      let same : same_tx h.tx other ≡ false = subst (λ u. same_tx u other ≡ false) (sym (tx_apart h.tx tx is)) apart in
+      let same : same_tx h.tx other ≡ false =
+      subst (λ u. same_tx u other ≡ false) (sym (same_tx_is h.tx tx is)) apart in
       rw same rest
   by false is rest = ap (λ (o : Option Held). cond (same_tx h.tx other) (Some h) o) rest
 

@@ -13,11 +13,11 @@ use Rattle.std.proofs.lemmas.Bool.Decides.{nat_tests}
 use Rattle.std.proofs.lemmas.Map.Keys.{le_from_not_gt}
 use Rattle.qc_stamp.specs.declared.stamp.TxId.{TxId}
 use Rattle.qc_stamp.specs.Vocabulary.{tx_cmp}
-use Rattle.qc_stamp.proofs.Orders.{transactions_are_ordered}
+use Rattle.qc_stamp.proofs.Orders.{transactions_are_ordered, same_tx_itself, same_tx_is}
 use Rattle.qc_lock.specs.declared.places.Place.{Place}
 use Rattle.qc_lock.specs.Vocabulary.{IsFirst, holder_at, is_there, place_cmp, same_tx}
-use Rattle.qc_lock.proofs.Entries.{same_self, tx_apart}
 use Rattle.qc_lock.proofs.NumberedEntries.{cmp_self, nat_self}
+use Rattle.qc_list.proofs.Numbers.{cmp_same}
 
 abbrev pub place : ℕ → ℕ → TxId → Place
 place object number tx = record { object = object; number = number; tx = tx }
@@ -32,9 +32,6 @@ first_most Greater b h = h
 second_most : (a b : Ordering) → a ≡ Equal → is_gt (ordering_then a b) ≡ false → is_gt b ≡ false
 second_most a b is h = subst (λ o. is_gt (ordering_then o b) ≡ false) is h
 
-equal_nat : (a b : ℕ) → a ≡ b → nat_cmp a b ≡ Equal
-equal_nat a b is = subst (λ m. nat_cmp a m ≡ Equal) is (nat_self a)
-
 at_once : (a b : ℕ) → is_gt (nat_cmp a b) ≡ false → is_gt (nat_cmp b a) ≡ false → a ≡ b
 at_once a b up down = let low : a ≤ b = le_from_not_gt a b up in let high : b ≤ a = le_from_not_gt b a down in
     omega arith
@@ -46,9 +43,9 @@ between object number p x z up down =
     let here : object ≡ p.object = at_once object p.object (first_most (nat_cmp object p.object) _ up)
     (first_most (nat_cmp p.object object) _ down) in
     let above : is_gt (ordering_then (nat_cmp number p.number) (tx_cmp x p.tx)) ≡ false =
-    second_most (nat_cmp object p.object) _ (equal_nat object p.object here) up in
+    second_most (nat_cmp object p.object) _ (cmp_same object p.object here) up in
     let below : is_gt (ordering_then (nat_cmp p.number number) (tx_cmp p.tx z)) ≡ false =
-    second_most (nat_cmp p.object object) _ (equal_nat p.object object (sym here)) down in (
+    second_most (nat_cmp p.object object) _ (cmp_same p.object object (sym here)) down in (
       sym here,
       sym (at_once number p.number (first_most (nat_cmp number p.number) _ above)
           (first_most (nat_cmp p.number number) _ below)),
@@ -137,12 +134,12 @@ beside_next places object number tx next first is = by next is where
     order Equal same =
         let equal : tx ≡ other = transactions_are_ordered.apart tx other same in
         absurd (both_ways (same_tx other tx) (not-true (same_tx other tx) apart)
-        (subst (λ u. same_tx u tx ≡ true) equal (same_self tx)))
+        (subst (λ u. same_tx u tx ≡ true) equal (same_tx_itself tx)))
     order Greater same = absurd (first.2 other refl there same)
 
   apart : (holder : TxId) → is_lt (tx_cmp tx holder) ≡ true → not (same_tx holder tx) ≡ true
   apart holder less = ap not (false_from_ne_true (same_tx holder tx) (λ same.
-      let itself : tx_cmp tx holder ≡ Equal = subst (λ u. tx_cmp tx u ≡ Equal) (sym (tx_apart holder tx same))
+      let itself : tx_cmp tx holder ≡ Equal = subst (λ u. tx_cmp tx u ≡ Equal) (sym (same_tx_is holder tx same))
       (cmp_self transactions_are_ordered.total tx) in
       both_ways (is_lt (tx_cmp tx holder)) (ap is_lt itself) less))
 

@@ -12,8 +12,9 @@ use Rattle.qc_lock.specs.declared.places.Place.{Place}
 use Rattle.qc_lock.specs.declared.held.Held.{Held}
 use Rattle.qc_lock.specs.Vocabulary.{AreSmall, IsIndex, Narrows, Widens, entry_of, has_line, has_read, held_of}
 use Rattle.qc_lock.specs.Vocabulary.{is_there, same_tx, with_entry, without_held}
-use Rattle.qc_lock.proofs.Entries.{apart_sym, entry-without, held-put, held-put_other, held-without_other, same_self}
-use Rattle.qc_lock.proofs.Entries.{tx_apart}
+use Rattle.qc_lock.proofs.Entries.{entry-without, held-put, held-put_other, held-without_other}
+use Rattle.qc_stamp.proofs.Orders.{same_tx_itself, same_tx_is, other_tx_sym}
+use Rattle.qc_list.proofs.Booleans.{and_first}
 
 -- what insertion holds was there, or is new
 
@@ -78,14 +79,10 @@ small_wide before after tx test all small widens =
       by other a b there true is = small other a b is
       by other a b there false is = (widens.within other a b there is).2
 
-and_one : (a b : Bool) → (a && b) ≡ true → a ≡ true
-and_one true b h = refl
-and_one false b h = h
-
 small_narrow : (before after : BTreeSet Place) (tx : TxId) (test spared : ℕ → ℕ → Bool) → AreSmall before
     → Narrows before after tx test spared → AreSmall after
 small_narrow before after tx test spared small narrows =
-    λ other a b there. small other a b (and_one (is_there before a b other) _ (sym (narrows other a b) ∙ there))
+    λ other a b there. small other a b (and_first (is_there before a b other) _ (sym (narrows other a b) ∙ there))
 
 -- places of other transactions
 
@@ -97,7 +94,7 @@ widens_other before after tx other test all a b widens apart =
       by true true was is = refl
       by true false was is = sym is ∙ widens.kept other a b was
       by false true was is = absurd (both_ways (same_tx other tx) apart
-          (subst (λ u. same_tx u tx ≡ true) (sym (widens.within other a b is was).0) (same_self tx)))
+          (subst (λ u. same_tx u tx ≡ true) (sym (widens.within other a b is was).0) (same_tx_itself tx)))
       by false false was is = refl
 
 narrows_other : (before after : BTreeSet Place) (tx other : TxId) (test spared : ℕ → ℕ → Bool) (a b : ℕ)
@@ -114,7 +111,7 @@ narrows_own : (before after : BTreeSet Place) (tx : TxId) (test spared : ℕ →
     → Narrows before after tx test spared → is_there after a b tx ≡
     (is_there before a b tx && not (test a b && not (spared a b)))
 narrows_own before after tx test spared a b narrows = narrows tx a b
-    ∙ ap (λ t. is_there before a b tx && not (t && (test a b && not (spared a b)))) (same_self tx)
+    ∙ ap (λ t. is_there before a b tx && not (t && (test a b && not (spared a b)))) (same_tx_itself tx)
 
 -- after want of memory: what was added goes
 
@@ -141,7 +138,7 @@ index_undone places wide after tx was given all index widens narrows = record {
         bools false g false kept new = refl
 
   by : (other : TxId) (a b : ℕ) (t : Bool) → same_tx other tx ≡ t → is_there after a b other ≡ was other a b
-  by other a b true is = subst (λ u. is_there after a b u ≡ was u a b) (sym (tx_apart other tx is)) (own a b)
+  by other a b true is = subst (λ u. is_there after a b u ≡ was u a b) (sym (same_tx_is other tx is)) (own a b)
   by other a b false is =
       narrows_other wide after tx other given (was tx) a b narrows is
       ∙ widens_other places wide tx other given all a b widens is ∙ index.exact other a b
@@ -189,7 +186,7 @@ index_done places wide mid after tx was now given index widens first second othe
         bools false g h false kept new done from = refl
 
   by : (other : TxId) (a b : ℕ) (t : Bool) → same_tx other tx ≡ t → is_there after a b other ≡ now other a b
-  by other a b true is = subst (λ u. is_there after a b u ≡ now u a b) (sym (tx_apart other tx is)) (own a b)
+  by other a b true is = subst (λ u. is_there after a b u ≡ now u a b) (sym (same_tx_is other tx is)) (own a b)
   by other a b false is =
       narrows_other mid after tx other (was tx) (now tx) a b second is
       ∙ narrows_other wide mid tx other given (now tx) a b first is
@@ -228,7 +225,7 @@ index_dropped places after tx was now index narrows others none = record {
         bools false = refl
 
   by : (other : TxId) (a b : ℕ) (t : Bool) → same_tx other tx ≡ t → is_there after a b other ≡ now other a b
-  by other a b true is = subst (λ u. is_there after a b u ≡ now u a b) (sym (tx_apart other tx is)) (own a b)
+  by other a b true is = subst (λ u. is_there after a b u ≡ now u a b) (sym (same_tx_is other tx is)) (own a b)
   by other a b false is = narrows_other places after tx other (was tx) (now tx) a b narrows is ∙ index.exact other a b
       ∙ sym (others other a b is)
 
@@ -246,7 +243,7 @@ pub put_done : (part : Held → ℕ → ℕ → Bool) (held : List Held) (e : He
     → IsIndex after (Of part (with_entry held e))
 put_done part held e given places wide mid after index widens first second within =
     index_done places wide mid after e.tx (Of part held) (Of part (with_entry held e)) given index widens first second
-    (λ other a b apart. ap (λ h. part h a b) (held-put_other held e other (apart_sym other e.tx apart)))
+    (λ other a b apart. ap (λ h. part h a b) (held-put_other held e other (other_tx_sym other e.tx apart)))
     (λ a b passes. within a b (sym (ap (λ h. part h a b) (held-put held e)) ∙ passes))
 
 pub taken_done : (part : Held → ℕ → ℕ → Bool) (held : List Held) (tx : TxId) (places after : BTreeSet Place)
@@ -255,7 +252,7 @@ pub taken_done : (part : Held → ℕ → ℕ → Bool) (held : List Held) (tx :
     → IsIndex after (Of part (without_held held tx))
 taken_done part held tx places after none index narrows =
     index_dropped places after tx (Of part held) (Of part (without_held held tx)) index narrows
-    (λ other a b apart. ap (λ h. part h a b) (held-without_other held tx other (apart_sym other tx apart)))
+    (λ other a b apart. ap (λ h. part h a b) (held-without_other held tx other (other_tx_sym other tx apart)))
     (λ a b. ap (λ (o : Option Held). part (unwrap_or o (record { tx = tx; locks = []; own = [] })) a b)
     (entry-without held tx) ∙ none a b)
 

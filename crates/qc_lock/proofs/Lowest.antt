@@ -5,22 +5,13 @@ use Rattle.std.specs.Prelude.{◌==◌}
 use Rattle.std.specs.Int.{bit_at, bit_not, trailing_zeros}
 use Rattle.std.proofs.lemmas.Bool.{cases_lt, eqb-true, eqb-false, eq-eqb, false_from_ne_true, true≢false}
 use Rattle.std.proofs.lemmas.Nat.{and_le_l}
-use Rattle.std.proofs.lemmas.Nat.Bits.{bit_at-zero, bit_at_above, bit_at_clear_same, bit_at_clear_other}
-use Rattle.std.proofs.lemmas.Nat.Bits.{bit_at-trailing_zeros}
+use Rattle.std.proofs.lemmas.Nat.Bits.{bit_at_clear_same, bit_at_clear_other, bit_at-trailing_zeros}
 use Rattle.qc_lock.specs.declared.clash.Clash.{Clash}
 use Rattle.qc_lock.specs.Vocabulary.{IsSmallest, smaller_of}
 use Rattle.qc_lock.proofs.SmallestOf.{smallest_by}
 use Rattle.qc_lock.proofs.Smallest.{smallest_both}
 use Rattle.qc_table.specs.Vocabulary.{has}
-
--- a number below 2 ^ 64 has events below 64
-pub below_64 : (set k : ℕ) → set < 2 ^ 64 → has set k ≡ true → k < 64
-below_64 set k small here = by (cases_lt k 64)
-  where
-    by : (k < 64) ⊎ (64 ≤ k) → k < 64
-    by (inl l) = l
-    by (inr past) = absurd (let zero_bit : bit_at set k ≡ 0 = bit_at_above set 64 k small past in
-        let one : bit_at set k ≡ 1 = eqb-true (bit_at set k) 1 here in omega arith)
+use Rattle.qc_table.proofs.Sets.{below_64}
 
 -- the set without its lowest event
 abbrev pub without : ℕ → ℕ → ℕ
@@ -63,14 +54,6 @@ left_more rest turn some small left k here = by (k == low) refl
         above from old (inl l) = absurd (let one : bit_at rest k ≡ 1 = eqb-true (bit_at rest k) 1 old in
             let none : bit_at rest k ≡ 0 = lowest.2 k l in omega arith)
         above from old (inr past) = let ne : k ≡ low → ⊥ = eqb-false k low e in grind (arith, from, past, ne)
-
--- the empty set has no event, nor has one whose events are past all
-pub none_left : (rest : ℕ) → rest ≡ 0 → (k : ℕ) → has rest k ≡ false
-none_left rest is k = ap (λ n. has n k) is ∙ ap (λ n. n == 1) (bit_at-zero k)
-
-pub none_past : (rest : ℕ) → rest < 2 ^ 64 → ((k : ℕ) → has rest k ≡ true → 64 ≤ k) → (k : ℕ) → has rest k ≡ false
-none_past rest small past k = false_from_ne_true (has rest k) (λ (here : has rest k ≡ true).
-    let high : 64 ≤ k = past k here in let low : k < 64 = below_64 rest k small here in omega arith)
 
 -- ---- the smallest clash with the events that aren't left
 abbrev pub Passed : (ℕ → Clash → Type 0) → ℕ → Clash → Type 0

@@ -15,10 +15,10 @@ use Rattle.std.proofs.lemmas.Cmp.{nat_cmp_total}
 use Rattle.std.proofs.lemmas.Map.Keys.{sorted_head, sorted_tail}
 use Rattle.qc_stamp.specs.declared.stamp.TxId.{TxId}
 use Rattle.qc_stamp.specs.Vocabulary.{tx_cmp}
-use Rattle.qc_stamp.proofs.Orders.{transactions_are_ordered}
+use Rattle.qc_stamp.proofs.Orders.{transactions_are_ordered, same_tx_itself, same_tx_is}
 use Rattle.qc_lock.specs.Vocabulary.{AreBelow, number_of, one_of, put_one}
 use Rattle.qc_lock.specs.Numbered.{same_tx}
-use Rattle.qc_lock.proofs.Entries.{same_self, tx_apart}
+use Rattle.qc_list.proofs.Options.{none_some}
 
 -- orders
 
@@ -39,11 +39,11 @@ pub tx_same : (a b : TxId) → is_eq (tx_cmp a b) ≡ same_tx a b
 tx_same a b = by (same_tx a b) refl where
   by : (t : Bool) → same_tx a b ≡ t → is_eq (tx_cmp a b) ≡ t
   by true is =
-      subst (λ u. is_eq (tx_cmp a u) ≡ true) (tx_apart a b is) (ap is_eq (cmp_self transactions_are_ordered.total a))
+      subst (λ u. is_eq (tx_cmp a u) ≡ true) (same_tx_is a b is) (ap is_eq (cmp_self transactions_are_ordered.total a))
   by false is = false_from_ne_true (is_eq (tx_cmp a b)) (λ equal.
       both_ways (same_tx a b) is
       (subst (λ u. same_tx a u ≡ true) (transactions_are_ordered.apart a b (equal_is (tx_cmp a b) equal))
-      (same_self a)))
+      (same_tx_itself a)))
 
 pub nat_self : (n : ℕ) → nat_cmp n n ≡ Equal
 nat_self n = cmp_self nat_cmp_total n
@@ -59,9 +59,6 @@ some_is {A = A} d x y h = ap part h where
   part : Option A → A
   part None = d
   part (Some z) = z
-
-pub none_some : {A : Type 0} (x : A) → None ≡ Some x → ⊥
-none_some x h = cc
 
 -- numbers of entries
 
@@ -169,7 +166,8 @@ number_known tx_of (e ∷ es) h n tx rises is =
           ap
           (λ o. number_of tx_of (match_ordering o ((n, h) ∷ e ∷ es) ((e.0, h) ∷ es) (e ∷ insert_entry nat_cmp es n h))
           tx) here
-          ∙ ap (λ u. cond (same_tx u tx) (Some e.0) (number_of tx_of es tx)) (sym (tx_apart (tx_of e.1) (tx_of h) same))
+          ∙ ap (λ u. cond (same_tx u tx) (Some e.0) (number_of tx_of es tx))
+          (sym (same_tx_is (tx_of e.1) (tx_of h) same))
       by false same rest is =
           ap
           (λ o. number_of tx_of (match_ordering o ((n, h) ∷ e ∷ es) ((e.0, h) ∷ es) (e ∷ insert_entry nat_cmp es n h))

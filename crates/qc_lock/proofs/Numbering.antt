@@ -8,11 +8,11 @@ use Rattle.qc_stamp.specs.declared.stamp.TxId.{TxId}
 use Rattle.qc_stamp.specs.Vocabulary.{tx_cmp}
 use Rattle.qc_lock.specs.Vocabulary.{AreBelow, AreNumbered, IsOneForEach, number_of}
 use Rattle.qc_lock.specs.Numbered.{same_tx}
-use Rattle.qc_lock.proofs.Entries.{tx_apart}
 use Rattle.qc_lock.proofs.Ones.{once-put, once-filter}
 use Rattle.qc_lock.proofs.NumberedEntries.{tx_same, values_known, number_known}
 use Rattle.qc_lock.proofs.Numbers.{below_known, values_new, number_new, below_more, below_put, values_taken}
 use Rattle.qc_lock.proofs.Numbers.{number_taken, below_taken}
+use Rattle.qc_stamp.proofs.Orders.{same_tx_is}
 
 -- the map has this at one key, and what the other map has at others
 abbrev pub Changes : BTreeMap TxId ℕ → BTreeMap TxId ℕ → TxId → Option ℕ → Type 0
@@ -63,7 +63,7 @@ numbered_again tx_of m n numbers given after next tx was ordered is none gives t
 } where
   by : (other : TxId) (t : Bool) → same_tx tx other ≡ t
       → cond t None (get tx_cmp given other) ≡ number_of tx_of m.entries other
-  by other true same = subst (λ u. None ≡ number_of tx_of m.entries u) (tx_apart tx other same) (sym none)
+  by other true same = subst (λ u. None ≡ number_of tx_of m.entries u) (same_tx_is tx other same) (sym none)
   by other false same = gives other ∙ ap (λ t. cond t (Some next) (get tx_cmp numbers other)) (tx_same tx other ∙ same)
       ∙ was.known other
 

@@ -11,9 +11,9 @@ use Rattle.std.proofs.lemmas.Map.Keys.{sorted_tail}
 use Rattle.qc_stamp.specs.declared.stamp.TxId.{TxId}
 use Rattle.qc_lock.specs.Vocabulary.{AreBelow, AreOfOthers, IsOneForEach, number_of, one_of, put_one, without_one}
 use Rattle.qc_lock.specs.Numbered.{same_tx}
-use Rattle.qc_lock.proofs.Entries.{tx_apart}
-use Rattle.qc_lock.proofs.NumberedEntries.{nat_self, below_greater, some_is, none_some, Rises, later, number_below}
-use Rattle.qc_lock.proofs.NumberedEntries.{number_none}
+use Rattle.qc_lock.proofs.NumberedEntries.{nat_self, below_greater, some_is, Rises, later, number_below, number_none}
+use Rattle.qc_stamp.proofs.Orders.{same_tx_is}
+use Rattle.qc_list.proofs.Options.{none_some}
 
 -- an entry is put last, under the next number
 
@@ -58,7 +58,7 @@ number_new tx_of (e ∷ es) h n tx low is =
           ≡ cond t (Some n) (cond (same_tx (tx_of e.1) tx) (Some e.0) (number_of tx_of es tx))
       by true same =
           ap (λ t. cond t (Some e.0) (Some n))
-          (subst (λ u. same_tx (tx_of e.1) u ≡ false) (tx_apart (tx_of h) tx same) none.0)
+          (subst (λ u. same_tx (tx_of e.1) u ≡ false) (same_tx_is (tx_of h) tx same) none.0)
       by false same = refl
 
 pub below_more : {A : Type 0} (n : ℕ) (es : List (ℕ × A)) → AreBelow n es → AreBelow (n + 1) es
@@ -113,7 +113,7 @@ values_taken tx_of (e ∷ es) tx n rises single is =
       by true same rest is =
           let here : nat_cmp n e.0 ≡ Equal = subst (λ m. nat_cmp m e.0 ≡ Equal) (some_is 0 e.0 n is) (nat_self e.0) in
           let apart : AreOfOthers tx_of tx (values_of es) =
-          subst (λ u. AreOfOthers tx_of u (values_of es)) (tx_apart (tx_of e.1) tx same) single.0 in
+          subst (λ u. AreOfOthers tx_of u (values_of es)) (same_tx_is (tx_of e.1) tx same) single.0 in
           ap (λ o. values_of (cond (is_eq o) es (e ∷ remove_entry (is_at (nat_cmp n)) es))) here
           ∙ sym (without_none tx_of (values_of es) tx (apart_none tx_of (values_of es) tx apart))
       by false same rest is =
@@ -134,14 +134,14 @@ number_taken tx_of (e ∷ es) tx n other rises single is =
       gone same true is =
           number_none tx_of es other
           (apart_none tx_of (values_of es) other
-          (subst (λ u. AreOfOthers tx_of u (values_of es)) (sym same ∙ tx_apart tx other is) single.0))
+          (subst (λ u. AreOfOthers tx_of u (values_of es)) (sym same ∙ same_tx_is tx other is) single.0))
       gone same false is = refl
 
       kept : same_tx (tx_of e.1) tx ≡ false → (s : Bool) → same_tx tx other ≡ s
           → cond (same_tx (tx_of e.1) other) (Some e.0) (cond s None (number_of tx_of es other))
           ≡ cond s None (cond (same_tx (tx_of e.1) other) (Some e.0) (number_of tx_of es other))
       kept apart true is =
-          ap (λ t. cond t (Some e.0) None) (subst (λ u. same_tx (tx_of e.1) u ≡ false) (tx_apart tx other is) apart)
+          ap (λ t. cond t (Some e.0) None) (subst (λ u. same_tx (tx_of e.1) u ≡ false) (same_tx_is tx other is) apart)
       kept apart false is = refl
 
       by : (t : Bool) → same_tx (tx_of e.1) tx ≡ t
@@ -153,7 +153,7 @@ number_taken tx_of (e ∷ es) tx n other rises single is =
           ≡ cond (same_tx tx other) None (cond (same_tx (tx_of e.1) other) (Some e.0) (number_of tx_of es other))
       by true same rest is =
           let here : nat_cmp n e.0 ≡ Equal = subst (λ m. nat_cmp m e.0 ≡ Equal) (some_is 0 e.0 n is) (nat_self e.0) in
-          let named : tx ≡ tx_of e.1 = sym (tx_apart (tx_of e.1) tx same) in
+          let named : tx ≡ tx_of e.1 = sym (same_tx_is (tx_of e.1) tx same) in
           ap (λ o. number_of tx_of (cond (is_eq o) es (e ∷ remove_entry (is_at (nat_cmp n)) es)) other) here
           ∙ subst
           (λ u. number_of tx_of es other

@@ -5,7 +5,7 @@ use Rattle.qc_stamp.specs.declared.stamp.TxId.{TxId}
 use Rattle.qc_lock.specs.declared.held.Held.{Held}
 use Rattle.qc_lock.specs.Vocabulary.{AreOfOthers, IsOneForEach, one_of, put_one, with_entry, without_one}
 use Rattle.qc_lock.specs.Numbered.{same_tx}
-use Rattle.qc_lock.proofs.Entries.{apart_sym, same_self, tx_apart}
+use Rattle.qc_stamp.proofs.Orders.{same_tx_itself, same_tx_is, other_tx_sym}
 
 others-put : {A : Type 0} (tx_of : A → TxId) (tx : TxId) (xs : List A) (one : A) → same_tx (tx_of one) tx ≡ false
     → AreOfOthers tx_of tx xs → AreOfOthers tx_of tx (put_one tx_of xs one)
@@ -23,8 +23,8 @@ once-put tx_of [] one once = (tt, tt)
 once-put tx_of (x ∷ xs) one once = by (same_tx (tx_of x) (tx_of one)) refl (once-put tx_of xs one once.1) where
   by : (t : Bool) → same_tx (tx_of x) (tx_of one) ≡ t → IsOneForEach tx_of (put_one tx_of xs one)
       → IsOneForEach tx_of (cond t (one ∷ xs) (x ∷ put_one tx_of xs one))
-  by true is rest = (subst (λ u. AreOfOthers tx_of u xs) (tx_apart (tx_of x) (tx_of one) is) once.0, once.1)
-  by false is rest = (others-put tx_of (tx_of x) xs one (apart_sym (tx_of x) (tx_of one) is) once.0, rest)
+  by true is rest = (subst (λ u. AreOfOthers tx_of u xs) (same_tx_is (tx_of x) (tx_of one) is) once.0, once.1)
+  by false is rest = (others-put tx_of (tx_of x) xs one (other_tx_sym (tx_of x) (tx_of one) is) once.0, rest)
 
 others-filter : {A : Type 0} (tx_of : A → TxId) (tx : TxId) (test : A → Bool) (xs : List A) → AreOfOthers tx_of tx xs
     → AreOfOthers tx_of tx (filter test xs)
@@ -71,7 +71,7 @@ put_last tx_of (x ∷ xs) one none =
 
 pub without_last : {A : Type 0} (tx_of : A → TxId) (xs : List A) (one : A) → one_of tx_of xs (tx_of one) ≡ None
     → without_one tx_of (xs ++ one ∷ []) (tx_of one) ≡ xs
-without_last tx_of [] one none = ap (λ t. cond (not t) (one ∷ []) []) (same_self (tx_of one))
+without_last tx_of [] one none = ap (λ t. cond (not t) (one ∷ []) []) (same_tx_itself (tx_of one))
 without_last tx_of (x ∷ xs) one none =
     let first = none_first tx_of x xs (tx_of one) none in
     ap (λ t. cond (not t) (x ∷ without_one tx_of (xs ++ one ∷ []) (tx_of one))

@@ -17,8 +17,10 @@ use Rattle.qc_lock.specs.declared.held.Held.{Held}
 use Rattle.qc_lock.specs.Vocabulary.{AreSorted, IsSingle, IsSound, entry_of, has_lock, held_of, lock_cmp, own_cmp}
 use Rattle.qc_lock.specs.Vocabulary.{same_lock, same_tx, with_entry, with_held, with_lock, with_locks, with_owns}
 use Rattle.qc_lock.specs.Vocabulary.{without_held}
-use Rattle.qc_lock.proofs.Entries.{and_first, and_second, tx_apart, full-put, full-filter}
+use Rattle.qc_lock.proofs.Entries.{full-put, full-filter}
 use Rattle.qc_lock.proofs.Ones.{holder, once-put, once-filter, put_entry}
+use Rattle.qc_stamp.proofs.Orders.{same_tx_is}
+use Rattle.qc_list.proofs.Booleans.{and_first, and_second}
 
 lock_total : IsTotalOrder lock_cmp
 lock_total = then_total (on_total (λ (l : ReadLock). l.object) nat_cmp_total)
@@ -129,7 +131,7 @@ put_again (h ∷ hs) tx lock sorted member = by (same_tx h.tx tx) refl (put_agai
       → (let e : Held = unwrap_or (cond t (Some h) (entry_of hs tx)) (record { tx = tx; locks = []; own = [] }) in
       cond t (record { tx = tx; locks = with_lock e.locks lock; own = e.own } ∷ hs)
       (h ∷ with_entry hs (record { tx = tx; locks = with_lock e.locks lock; own = e.own })) ≡ h ∷ hs)
-  by true is rest member = here (sym (tx_apart h.tx tx is)) member
+  by true is rest member = here (sym (same_tx_is h.tx tx is)) member
   by false is rest member = ap (λ ks. h ∷ ks) (rest member)
 
 pub held_already : (held : List Held) (tx : TxId) (lock : ReadLock) → AreSorted held → has_lock held tx lock ≡ true

@@ -22,10 +22,10 @@ use Rattle.qc_lock.specs.Vocabulary.{entry_of, has_line, has_read, held_of, is_t
 use Rattle.qc_lock.specs.Vocabulary.{reads_held, same_tx}
 use Rattle.qc_lock.proofs.SmallestOf.{smallest_by}
 use Rattle.qc_lock.proofs.Conflicts.{appends_are_refused_on_conflict, reads_are_refused_on_conflict}
-use Rattle.qc_lock.proofs.Entries.{same_self, tx_apart}
 use Rattle.qc_lock.proofs.NumberedEntries.{nat_self}
 use Rattle.qc_lock.proofs.Ones.{holder}
 use Rattle.qc_lock.proofs.Smallest.{smallest_one}
+use Rattle.qc_stamp.proofs.Orders.{same_tx_itself, same_tx_is}
 
 -- one invocation with one event
 
@@ -77,13 +77,14 @@ apart_in (k ∷ ks) h tx apart (inr member) = apart_in ks h tx apart.1 member
 found_in : (hs : List Held) (h : Held) → IsSingle hs → In h hs → entry_of hs h.tx ≡ Some h
 found_in [] h single member = absurd member
 found_in (k ∷ ks) h single (inl is) =
-    ap (λ t. cond t (Some k) (entry_of ks h.tx)) (subst (λ (x : Held). same_tx x.tx h.tx ≡ true) is (same_self h.tx))
+    ap (λ t. cond t (Some k) (entry_of ks h.tx))
+    (subst (λ (x : Held). same_tx x.tx h.tx ≡ true) is (same_tx_itself h.tx))
     ∙ ap Some (sym is)
 found_in (k ∷ ks) h single (inr member) = ap (λ t. cond t (Some k) (entry_of ks h.tx)) (other (same_tx k.tx h.tx) refl)
     ∙ found_in ks h single.1 member where
       other : (t : Bool) → same_tx k.tx h.tx ≡ t → same_tx k.tx h.tx ≡ false
       other true is = absurd (both_ways (same_tx h.tx k.tx) (apart_in ks h k.tx single.0 member)
-          (subst (λ u. same_tx u k.tx ≡ true) (tx_apart k.tx h.tx is) (same_self k.tx)))
+          (subst (λ u. same_tx u k.tx ≡ true) (same_tx_is k.tx h.tx is) (same_tx_itself k.tx)))
       other false is = is
 
 held_in : (hs : List Held) (h : Held) → IsSingle hs → In h hs → held_of hs h.tx ≡ h
@@ -113,7 +114,7 @@ holder_in (k ∷ ks) tx test none passes = by (same_tx k.tx tx) refl (holder_in 
       → (let o : Option Held = cond t (Some k) (entry_of ks tx) in
       test (unwrap_or o (record { tx = tx; locks = []; own = [] })) ≡ true)
       → (h : Held) × In h (k ∷ ks) × (h.tx ≡ tx) × (test h ≡ true)
-  by true is rest passes = (k, inl refl, tx_apart k.tx tx is, passes)
+  by true is rest passes = (k, inl refl, same_tx_is k.tx tx is, passes)
   by false is rest passes = let found = rest passes in (found.0, inr found.1, found.2, found.3)
 
 told_as : (d : Clash) (tx : TxId) (inv event : ℕ) → tx ≡ d.holder → d.inv ≡ inv → d.event ≡ event

@@ -13,6 +13,7 @@ use Rattle.qc_list.specs.Vocabulary.{by_order}
 use Rattle.qc_lock.specs.declared.clash.Clash.{Clash}
 use Rattle.qc_lock.specs.Vocabulary.{In, IsSmallest, clash_cmp, smaller_of}
 use Rattle.qc_lock.proofs.SmallestOf.{clash_total, in-append, in-append_left, in-append_right, smallest_by, turned}
+use Rattle.qc_lock.proofs.SmallestOf.{never_both, equal_or}
 
 -- the smallest of two, and of one kind alone
 
@@ -23,12 +24,6 @@ after_two a b c first second greater = by (clash_cmp a b) refl where
   by Less is = second (turned c b Less (clash_total.trans c a b (turned a c Greater greater) is))
   by Equal is = second (sym (clash_total.congr a b c is) ∙ greater)
   by Greater is = first is
-
-order_apart : (o : Ordering) → o ≡ Less → o ≡ Greater → ⊥
-order_apart o a b = cc
-
-order_unequal : (o : Ordering) → o ≡ Equal → o ≡ Greater → ⊥
-order_unequal o a b = cc
 
 pub smallest_both : (P Q : Clash → Type 0) (a b : Option Clash) → IsSmallest P a → IsSmallest Q b
     → IsSmallest (λ d. P d ⊎ Q d) (smaller_of a b)
@@ -50,10 +45,10 @@ smallest_both P Q (Some a) (Some b) p q = by (clash_cmp b a) refl where
   by : (o : Ordering) → clash_cmp b a ≡ o → IsSmallest (λ d. P d ⊎ Q d) (Some (by_order o b a a))
   by Less is = (inr q.0, all) where
     all : (d : Clash) → P d ⊎ Q d → clash_cmp b d ≡ Greater → ⊥
-    all d (inl x) greater = after_two b a d (order_apart (clash_cmp b a) is) (p.1 d x) greater
+    all d (inl x) greater = after_two b a d (never_both (clash_cmp b a) is) (p.1 d x) greater
     all d (inr y) greater = q.1 d y greater
-  by Equal is = keep (order_unequal (clash_cmp a b) (turned b a Equal is))
-  by Greater is = keep (order_apart (clash_cmp a b) (turned b a Greater is))
+  by Equal is = keep (equal_or (clash_cmp a b) (turned b a Equal is))
+  by Greater is = keep (never_both (clash_cmp a b) (turned b a Greater is))
 
 clash_apart : (a b : Clash) → clash_cmp a b ≡ Equal → a ≡ b
 clash_apart a b h =

@@ -17,7 +17,7 @@ clash_total =
     then_total (on_total (λ (c : Clash). c.holder) transactions_are_ordered.total)
     (then_total (on_total (λ (c : Clash). c.inv) nat_cmp_total) (on_total (λ (c : Clash). c.event) nat_cmp_total))
 
-never_both : (o : Ordering) → o ≡ Less → o ≡ Greater → ⊥
+pub never_both : (o : Ordering) → o ≡ Less → o ≡ Greater → ⊥
 never_both o a b = cc
 
 equal_self : (c : Clash) → clash_cmp c c ≡ Equal
@@ -33,7 +33,7 @@ equal_self c = by (clash_cmp c c) refl where
 
 -- the smallest so far
 
-equal_or : (o : Ordering) → o ≡ Equal → o ≡ Greater → ⊥
+pub equal_or : (o : Ordering) → o ≡ Equal → o ≡ Greater → ⊥
 equal_or o a b = cc
 
 pub turned : (a b : Clash) (o : Ordering) → clash_cmp a b ≡ o → clash_cmp b a ≡ ordering_reverse o

@@ -1,6 +1,6 @@
 -- Places that are added and dropped one after another.
 use Rattle.std.proofs.Common.{◌≡◌, ◌⊎◌, inl, inr, ℕ, ◌<◌, Bool, true, false, cond, ◌==◌, ◌&&◌, ◌||◌, not, List, take}
-use Rattle.std.proofs.Common.{drop, arith, refl, sym, ◌∙◌, ap, subst}
+use Rattle.std.proofs.Common.{drop, refl, sym, ◌∙◌, ap, subst}
 use Rattle.std.specs.BTreeMap.{is_at}
 use Rattle.std.specs.BTreeSet.{BTreeSet}
 use Rattle.std.specs.List.{list_any}
@@ -8,16 +8,16 @@ use Rattle.std.specs.Ordering.{is_eq, nat_cmp, ordering_then}
 use Rattle.std.specs.declared.cmp.Ordering.{Ordering}
 use Rattle.std.specs.declared.cmp.Ordering.TheVariants.{Less, Equal, Greater}
 use Rattle.std.proofs.lemmas.Bool.{and_parts, both_ways, eqb-true, or_cases, or_left, or_right}
-use Rattle.std.proofs.lemmas.Bool.Decides.{nat_tests}
 use Rattle.std.proofs.lemmas.List.{take-append-drop}
 use Rattle.std.proofs.lemmas.List.Folds.{list_any-append}
 use Rattle.qc_stamp.specs.declared.stamp.TxId.{TxId}
 use Rattle.qc_stamp.specs.Vocabulary.{tx_cmp}
 use Rattle.qc_lock.specs.declared.places.Place.{Place}
 use Rattle.qc_lock.specs.Vocabulary.{Narrows, Sets, Widens, is_there, place_cmp, same_tx}
-use Rattle.qc_lock.proofs.Entries.{apart_sym, same_self, tx_apart}
 use Rattle.qc_lock.proofs.Holding.{place}
 use Rattle.qc_lock.proofs.NumberedEntries.{tx_same}
+use Rattle.qc_stamp.proofs.Orders.{same_tx_itself, same_tx_is, other_tx_sym}
+use Rattle.qc_list.proofs.Numbers.{cmp_is_eq}
 
 -- one test passes what the other does, and these numbers
 abbrev pub Grows : (ℕ → ℕ → Bool) → (ℕ → ℕ → Bool) → ℕ → ℕ → Type 0
@@ -28,18 +28,15 @@ then_eq Less b = refl
 then_eq Equal b = refl
 then_eq Greater b = refl
 
-nat_same : (a b : ℕ) → is_eq (nat_cmp a b) ≡ (a == b)
-nat_same a b = grind (arith, nat_tests)
-
 -- when two places are the same
 place_same : (object number a b : ℕ) (tx other : TxId)
     → is_eq (place_cmp (place object number tx) (place a b other)) ≡
     ((object == a) && ((number == b) && same_tx tx other))
 place_same object number a b tx other =
     then_eq (nat_cmp object a) _ ∙ ap (λ t. t && is_eq (ordering_then (nat_cmp number b) (tx_cmp tx other)))
-    (nat_same object a)
+    (cmp_is_eq object a)
     ∙ ap (λ t. (object == a) && t) (then_eq (nat_cmp number b) _
-    ∙ ap (λ t. t && is_eq (tx_cmp tx other)) (nat_same number b) ∙ ap (λ t. (number == b) && t) (tx_same tx other))
+    ∙ ap (λ t. t && is_eq (tx_cmp tx other)) (cmp_is_eq number b) ∙ ap (λ t. (number == b) && t) (tx_same tx other))
 
 sets_at : (before after : BTreeSet Place) (object number : ℕ) (tx : TxId) (there : Bool)
     → Sets before after object number tx there → (a b : ℕ) (other : TxId)
@@ -88,7 +85,7 @@ widens_more before mid after tx test more object number small widens sets grows 
         let rest = and_parts (number == b) (same_tx tx other) parts.1 in
         let both : ((object == a) && (number == b)) ≡ true =
         subst (λ t. (t && (number == b)) ≡ true) (sym parts.0) rest.0 in (
-          sym (tx_apart tx other rest.1),
+          sym (same_tx_is tx other rest.1),
           grows a b ∙ or_right (test a b) ((object == a) && (number == b)) both,
           subst (λ n. n < 256) (eqb-true number b rest.0) small,
         )
@@ -102,7 +99,7 @@ widens_more before mid after tx test more object number small widens sets grows 
       let parts = and_parts (object == a) (number == b) is in
       at a b tx ∙ ap (λ t. cond t true (is_there mid a b tx))
       (subst (λ t. (t && ((number == b) && same_tx tx tx)) ≡ true) (sym parts.0)
-      (subst (λ t. (t && same_tx tx tx) ≡ true) (sym parts.1) (same_self tx)))
+      (subst (λ t. (t && same_tx tx tx) ≡ true) (sym parts.1) (same_tx_itself tx)))
 
 -- some of the places, where the next found no memory
 pub widens_part : (before mid after : BTreeSet Place) (tx : TxId) (test more : ℕ → ℕ → Bool)
@@ -172,8 +169,8 @@ narrows_more before mid after tx test more spared object number apart narrows se
       same_turned : (x y : TxId) → same_tx x y ≡ same_tx y x
       same_turned x y = turned (same_tx x y) refl where
         turned : (t : Bool) → same_tx x y ≡ t → t ≡ same_tx y x
-        turned true is = sym (subst (λ u. same_tx u x ≡ true) (tx_apart x y is) (same_self x))
-        turned false is = sym (apart_sym x y is)
+        turned true is = sym (subst (λ u. same_tx u x ≡ true) (same_tx_is x y is) (same_tx_itself x))
+        turned false is = sym (other_tx_sym x y is)
 
 pub narrows_spared : (before mid : BTreeSet Place) (tx : TxId) (test more spared : ℕ → ℕ → Bool) (object number : ℕ)
     → spared object number ≡ true

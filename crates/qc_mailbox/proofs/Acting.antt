@@ -21,9 +21,10 @@ use Rattle.qc_mailbox.specs.Vocabulary.{Inboxes, IsKept, MayWrite, Shows, Tray, 
 use Rattle.qc_mailbox.specs.Vocabulary.{after_take, after_turn, calls_at, calls_of, empty_tray, tray_at, tray_of}
 use Rattle.qc_mailbox.specs.Vocabulary.{tray_taken, tray_told}
 use Rattle.qc_mailbox.proofs.Keeping.{kept_send, kept_step, shows_along}
-use Rattle.qc_mailbox.proofs.Sent.{Keeps, by_test, same}
+use Rattle.qc_mailbox.proofs.Sent.{Keeps, same}
 use Rattle.qc_mailbox.proofs.Taking.{taken_shown}
 use Rattle.qc_link.specs.Vocabulary.{most_actors}
+use Rattle.qc_script.proofs.InboxesSend.{by_test}
 
 -- the trays, where one of them is changed
 pub own_tray : (trays : List Tray) (a b : ℕ) (change : Tray → Tray) (old new : Tray) → a < length trays

@@ -24,7 +24,8 @@ use Rattle.qc_script.specs.Vocabulary.{wrote_record}
 use Rattle.qc_script.specs.Ready as ready
 use Rattle.qc_script.specs.declared.script.Script.{Script}
 use Rattle.qc_mailbox.specs.Vocabulary.{AreNumbered, Inboxes, IsKept}
-use Rattle.qc_mailbox.proofs.AmongSteps.{IsSentTo, Waits, by_test, waits_more, sends_wait, begun_wait, acted_wait}
+use Rattle.qc_mailbox.proofs.AmongSteps.{IsSentTo, Waits, waits_more, sends_wait, begun_wait, acted_wait}
+use Rattle.qc_script.proofs.InboxesSend.{by_test}
 
 -- what a fall leaves
 fell_wait : (ms : List Envelope) (a : ℕ) (i : Inbox) (r : ℕ) → Waits ms a i → Waits ms a (actor_fell a i r)
@@ -100,7 +101,7 @@ step_waits script ms a i by (steps.Fell cause pending) waits = nothing ms a _ (f
 step_waits script ms a i by (steps.Rose records) waits = nothing ms a i waits
 step_waits script ms a i by (steps.Damaged offset) waits = nothing ms a _ (acted_wait ms a i waits)
 
-mail_cons : (ms : List Envelope) (o : Option Envelope) (ns : List Envelope)
+pub mail_cons : (ms : List Envelope) (o : Option Envelope) (ns : List Envelope)
     → (ms ++ option_to_list o) ++ ns ≡ ms ++ cons_option o ns
 mail_cons ms None ns = ap (λ (x : List Envelope). x ++ ns) (append-nil ms)
 mail_cons ms (Some e) ns = append_assoc ms (e ∷ []) ns
@@ -120,7 +121,7 @@ inbox_waits script a h = steps_wait script a h [] empty_inbox (record { copies =
 
 -- by their numbers
 
-place_of : (e : Envelope) (ms : List Envelope) → In e ms → (n : ℕ) × (slice_get ms n ≡ Some e)
+pub place_of : (e : Envelope) (ms : List Envelope) → In e ms → (n : ℕ) × (slice_get ms n ≡ Some e)
 place_of e [] member = absurd member
 place_of e (m ∷ ms) (inl same) = (zero, ap (λ (x : Envelope). Some x) (sym same))
 place_of e (m ∷ ms) (inr later) =

@@ -20,6 +20,7 @@ use Rattle.qc_script.specs.Vocabulary.{control_acted, copies_at_once, count_of, 
 use Rattle.qc_script.specs.Vocabulary.{is_request, is_up, late_copies, one_more, opened, opened_by, phase_begun}
 use Rattle.qc_script.specs.Vocabulary.{request_answered, request_sent, with_copies}
 use Rattle.qc_script.specs.declared.script.PhaseLines.{PhaseLines}
+use Rattle.qc_script.proofs.InboxesSend.{by_test}
 
 -- an envelope is one of some messages, and for actor a
 abbrev pub IsSentTo : List Envelope → ℕ → Envelope → Type 0
@@ -39,10 +40,6 @@ record SameWaits (i j : Inbox) : Type 0 where
 
 same_waits : (i : Inbox) → SameWaits i i
 same_waits i = record { copies = refl; opening = refl; late = refl }
-
-pub by_test : (P : Inbox → Type 0) (t : Bool) (i j : Inbox) → P i → P j → P (if t then i else j)
-by_test P true i j here there = here
-by_test P false i j here there = there
 
 waits_along : (ms : List Envelope) (a : ℕ) (i j : Inbox) → SameWaits i j → Waits ms a i → Waits ms a j
 waits_along ms a i j same waits = record {

@@ -21,6 +21,7 @@ use Rattle.qc_script.specs.declared.script.PhaseLines.{PhaseLines}
 use Rattle.qc_script.specs.declared.script.Script.{Script}
 use Rattle.qc_mailbox.specs.Vocabulary.{Inboxes, IsKept, IsWithin, Shows, Tray, calls_at, calls_of, tray_at}
 use Rattle.qc_mailbox.proofs.Sent.{sends_count}
+use Rattle.qc_script.proofs.InboxesSend.{by_test}
 
 -- an actor calls no more commands than there are steps
 
@@ -118,10 +119,6 @@ fell_within a i r all = by (r == a)
     }))
     by true = all
     by false = all
-
-by_test : (P : Inbox → Type 0) (t : Bool) (i j : Inbox) → P i → P j → P (if t then i else j)
-by_test P true i j here there = here
-by_test P false i j here there = there
 
 begun_within : (decl : Declaration) (script : Script) → administrator decl < most_actors → IsScriptFor decl script
     → (a n : ℕ) (i : Inbox) (o : Option PhaseLines) → slice_get script.phases n ≡ o

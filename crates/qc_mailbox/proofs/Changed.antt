@@ -3,6 +3,7 @@ use Rattle.std.proofs.Common.{◌≡◌, ℕ, zero, suc, ◌+◌, ◌<◌, Bool,
 use Rattle.std.proofs.Common.{drop, ap, subst, ◌∙◌, arith}
 use Rattle.qc_mailbox.specs.Vocabulary.{Tray, each_by_up}
 use Rattle.qc_script.specs.Vocabulary.{is_up}
+use Rattle.qc_mailbox.proofs.Each.{next}
 
 -- the first ones are, and one more is
 each_next : {A : Type 0} (f : A → Tray) (g : Bool → Tray → Tray) (up : List Bool) (olds xs : List A) (a : ℕ) (x d : A)
@@ -29,9 +30,6 @@ each_next f g (u ∷ up) (o ∷ olds) (y ∷ ys) (suc a) x d within is made =
     let here : f y ≡ g u (f o) = cc in
     let rest : map f ys ≡ each_by_up g up (map f (take a olds)) ++ map f (drop a olds) = cc in
     λ i. here i ∷ each_next f g up olds ys a x d (omega arith) rest made i
-
-next : (a : ℕ) → suc a ≡ a + 1
-next a = omega arith
 
 pub each_on : {A : Type 0} (f : A → Tray) (g : Bool → Tray → Tray) (up : List Bool) (olds xs : List A) (a : ℕ) (x d : A)
     → a < length olds

@@ -3,7 +3,7 @@ use Rattle.std.proofs.Common.{◌≡◌, ℕ, zero, suc, ◌+◌, ◌<◌, ◌==
 use Rattle.std.proofs.Common.{length, Option, Some, None, refl, ap, sym, subst, ◌∙◌, append_assoc, arith}
 use Rattle.std.specs.Prelude.{set, slice_get}
 use Rattle.std.specs.List.{fold}
-use Rattle.std.proofs.lemmas.Bool.{eq-eqb, eqb-false, eqb-true}
+use Rattle.std.proofs.lemmas.Bool.{eqb-false, eqb-true}
 use Rattle.std.proofs.lemmas.List.{append-nil, get_or-set_other, get_or-set_same}
 use Rattle.std.proofs.lemmas.List.Sums.{fold-append}
 use Rattle.qc_link.specs.Vocabulary.{most_actors}
@@ -24,18 +24,16 @@ use Rattle.qc_msg.proofs.DeedsGrow.{deeds-append, deeds-other}
 use Rattle.qc_msg.proofs.Growth.{deeds-posted_as}
 use Rattle.qc_script.specs.Vocabulary.{is_up}
 use Rattle.qc_mailbox.specs.Vocabulary.{down_at, is_down}
+use Rattle.qc_list.proofs.Numbers.{number_same}
 
 -- a step more
-
-same_actor : (a : ℕ) → (a == a) ≡ true
-same_actor a = eq-eqb a a refl
 
 pub down_step : (a : ℕ) (h : List Entry) (step : Step)
     → is_down (deeds a [] (h ++ marked a step ∷ [])) ≡ fold down_at (is_down (deeds a [] h)) (deed_at (mail h) step)
 down_step a h step =
     ap is_down (deeds-append a [] h (marked a step ∷ []))
     ∙ fold-append down_at false (deeds a [] h) (deeds a (mail h) (marked a step ∷ []))
-    ∙ ap (λ (t : Bool). fold down_at (is_down (deeds a [] h)) (cond t (deed_at (mail h) step) [] ++ [])) (same_actor a)
+    ∙ ap (λ (t : Bool). fold down_at (is_down (deeds a [] h)) (cond t (deed_at (mail h) step) [] ++ [])) (number_same a)
     ∙ ap (λ (ds : List Deed). fold down_at (is_down (deeds a [] h)) ds) (append-nil (deed_at (mail h) step))
 
 -- a step that is no deed, whoever makes it

@@ -89,7 +89,7 @@ map_next f g (o ∷ olds) (y ∷ ys) (suc a) x d within is made =
 
 -- the same, for the number that follows
 
-next : (a : ℕ) → suc a ≡ a + 1
+pub next : (a : ℕ) → suc a ≡ a + 1
 next a = omega arith
 
 pub front_next : {A : Type 0} (P : A → Type 0) (xs : List A) (a : ℕ) (x : A) → a < length xs → Every P (take a xs) → P x

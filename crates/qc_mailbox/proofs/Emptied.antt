@@ -20,7 +20,7 @@ use Rattle.qc_script.specs.declared.script.Script.{Script}
 use Rattle.qc_script.proofs.InboxesSend.{opened_keeps, sends_does}
 use Rattle.qc_mailbox.specs.Vocabulary.{IsEmptied}
 
-emptied_if : (t : Bool) (i j : Inbox) → IsEmptied i → IsEmptied j → IsEmptied (if t then i else j)
+pub emptied_if : (t : Bool) (i j : Inbox) → IsEmptied i → IsEmptied j → IsEmptied (if t then i else j)
 emptied_if true i j here there = here
 emptied_if false i j here there = there
 

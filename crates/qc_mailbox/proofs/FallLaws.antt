@@ -28,6 +28,7 @@ use Rattle.qc_mailbox.proofs.FallTrays.{trays_know_who_is_up}
 use Rattle.qc_mailbox.proofs.LinedSteps.{Lined}
 use Rattle.qc_mailbox.proofs.Lined.{run_lined}
 use Rattle.qc_mailbox.proofs.Standing.{ClosedWhile, IsSettled, Stands}
+use Rattle.qc_list.proofs.Booleans.{not_false}
 
 -- between lines
 
@@ -53,10 +54,6 @@ commanded decl a i [] (e ∷ es) ns g copies lost is = absurd (let never : ⊥ =
 commanded decl a i [] [] (n ∷ ns) g copies lost is = absurd (let never : ⊥ = cc in never)
 commanded decl a i [] [] [] g copies lost is = first_commanded (takes_commands decl a && not i.busy) i.commands g is
 
-flipped : (t : Bool) → not t ≡ false → t ≡ true
-flipped true is = refl
-flipped false is = absurd (let never : ⊥ = cc in never)
-
 module _ (lawful : ℕ → List Deed → Turn → Type 0) (fits : ℕ → List Record → Type 0) (decl : Declaration)
     (script : Script) (h : List Entry) (open_inputs : List Bool)
     (few : actors decl ≤ most_actors) (run : RunsWithFalls lawful fits decl script h open_inputs) where
@@ -71,7 +68,7 @@ module _ (lawful : ℕ → List Deed → Turn → Type 0) (fits : ℕ → List R
 
   pub crashes_up : (a : ℕ) (lines : List Control) → controls_left script h ≡ controls.Crash a ∷ lines
       → is_up (inbox script 0 h).up a ≡ true
-  crashes_up a lines left = flipped (is_up (inbox script 0 h).up a)
+  crashes_up a lines left = not_false (is_up (inbox script 0 h).up a)
       (subst (λ (cs : List Control). IsSettled (inbox script 0 h).up cs) left lined.settled)
 
   pub restarts_down : (a : ℕ) (lines : List Control) → controls_left script h ≡ controls.Restart a ∷ lines

@@ -1,6 +1,6 @@
 -- Each event of a run with falls keeps what stands in the inbox of an actor.
-use Rattle.std.proofs.Common.{◌≡◌, ℕ, ◌<◌, ◌==◌, Bool, true, false, not, if◌then◌else◌, List, [], ◌∷◌, ◌++◌, length}
-use Rattle.std.proofs.Common.{Option, Some, None, refl, ap, sym, subst, ◌∙◌, arith, eqb-true}
+use Rattle.std.proofs.Common.{◌≡◌, ℕ, ◌<◌, ◌==◌, Bool, true, false, not, List, [], ◌∷◌, ◌++◌, length, Option, Some}
+use Rattle.std.proofs.Common.{None, refl, ap, sym, subst, ◌∙◌, arith, eqb-true}
 use Rattle.std.specs.Prelude.{drop, set}
 use Rattle.std.proofs.lemmas.List.{length-set}
 use Rattle.qc_link.specs.Vocabulary.{most_actors}
@@ -27,7 +27,7 @@ use Rattle.qc_mailbox.proofs.Apart.{one_controls}
 use Rattle.qc_mailbox.proofs.Downs.{AreTied, down_within, down_posted, down_risen, down_step, ends_down, tied_on}
 use Rattle.qc_mailbox.proofs.Downs.{tied_silent, up_other, up_same}
 use Rattle.qc_mailbox.proofs.Downs as downs
-use Rattle.qc_mailbox.proofs.Emptied.{Passes, acted_up, after, told_controls, told_emptied, told_up}
+use Rattle.qc_mailbox.proofs.Emptied.{Passes, acted_up, after, told_controls, told_emptied, told_up, emptied_if}
 use Rattle.qc_mailbox.proofs.Sent.{Keeps}
 use Rattle.qc_mailbox.proofs.Standing.{Breaks, ClosedWhile, Goes, IsSettled, NoneOpen, Stands, acts, failed_breaks}
 use Rattle.qc_mailbox.proofs.Standing.{falls_by_line, falls_in_post, fell_by_line, fell_in_post, stopped_breaks}
@@ -38,20 +38,16 @@ use Rattle.qc_mailbox.proofs.Standing.{tail_goes, wrote_where_down, wrote_where_
 dropped : {A : Type 0} (xs : List A) → xs ≡ [] → drop 1 xs ≡ []
 dropped xs none = ap (λ (ys : List _). drop 1 ys) none
 
-emptied_by : (t : Bool) (i j : Inbox) → IsEmptied i → IsEmptied j → IsEmptied (if t then i else j)
-emptied_by true i j here there = here
-emptied_by false i j here there = there
-
 input_emptied : (script : Script) (b : ℕ) (i : Inbox) (a : ℕ) (g : Input) → IsEmptied i
     → IsEmptied (inbox_at script b i a (step_of g))
 input_emptied script b i a (given.Called command) is =
-    emptied_by (a == b) (command_called i) i
+    emptied_if (a == b) (command_called i) i
     (record { copies = is.copies; unanswered = is.unanswered; lost = is.lost }) is
 input_emptied script b i a (given.Got e) is =
-    emptied_by (a == b) (copy_taken i) i (record
+    emptied_if (a == b) (copy_taken i) i (record
     { copies = dropped i.copies is.copies; unanswered = is.unanswered; lost = is.lost }) is
 input_emptied script b i a (given.Lost number) is =
-    emptied_by (a == b) (loss_taken i) i (record
+    emptied_if (a == b) (loss_taken i) i (record
     { copies = is.copies; unanswered = is.unanswered; lost = dropped i.lost is.lost }) is
 
 -- what an actor that is up sends and tells

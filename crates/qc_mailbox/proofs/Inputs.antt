@@ -1,6 +1,6 @@
 -- Open inputs by their places, and that nothing is ready between control lines.
-use Rattle.std.proofs.Common.{◌≡◌, ℕ, zero, suc, ◌<◌, Bool, List, [], ◌∷◌, length, Option, Some, refl, ap, arith}
-use Rattle.std.specs.Prelude.{slice_get, slice_set}
+use Rattle.std.proofs.Common.{◌≡◌, ℕ, zero, suc, Bool, List, [], ◌∷◌, length, Option, Some, refl, ap}
+use Rattle.std.specs.Prelude.{slice_set}
 use Rattle.qc_msg.specs.declared.step.Control.{Control}
 use Rattle.qc_msg.specs.declared.step.Input.{Input}
 use Rattle.qc_script.specs.Vocabulary.{after_controls}
@@ -9,11 +9,6 @@ pub set_long : (bs : List Bool) (a : ℕ) (v : Bool) → length (slice_set bs a 
 set_long [] a v = refl
 set_long (b ∷ bs) zero v = refl
 set_long (b ∷ bs) (suc a) v = ap suc (set_long bs a v)
-
-pub place_within : (bs : List Bool) (a : ℕ) (v : Bool) → slice_get bs a ≡ Some v → a < length bs
-place_within [] a v is = absurd (let never : ⊥ = cc in never)
-place_within (b ∷ bs) zero v is = omega arith
-place_within (b ∷ bs) (suc a) v is = let rest : a < length bs = place_within bs a v is in omega arith
 
 pub between_none : (lines : List Control) (other : Option Input) (g : Input) → after_controls lines other ≡ Some g
     → lines ≡ []

@@ -26,11 +26,12 @@ use Rattle.qc_script.specs.declared.script.PhaseLines.{PhaseLines}
 use Rattle.qc_script.specs.declared.script.Script.{Script}
 use Rattle.qc_mailbox.proofs.Apart.{one_controls}
 use Rattle.qc_mailbox.proofs.Emptied.{after}
-use Rattle.qc_mailbox.proofs.Inputs.{between_none, place_within, set_long}
+use Rattle.qc_mailbox.proofs.Inputs.{between_none, set_long}
 use Rattle.qc_mailbox.proofs.Standing.{Breaks, ClosedWhile, Goes, IsSettled, NoneOpen, closes, failed_breaks}
 use Rattle.qc_mailbox.proofs.Standing.{fell_by_line, none_left, opened_settled, opened_up, stopped_breaks, tail_goes}
 use Rattle.qc_mailbox.proofs.Standing.{wrote_where_down}
 use Rattle.qc_mailbox.proofs.LinedSteps.{Lined, fell_calm, step_calm, steps_calm, post_actors, input_actors, rests}
+use Rattle.qc_list.proofs.Places.{place_within}
 
 -- one in which a line acts, or a phase begins
 

@@ -1,12 +1,12 @@
 -- What an actor waits for are its own requests, as messages come and go.
-use Rattle.std.proofs.Common.{[], ◌≡◌, ℕ, ◌+◌, ◌-◌, ◌==◌, ◌&&◌, ◌||◌, nat_lt, Bool, true, false, cond, if◌then◌else◌}
-use Rattle.std.proofs.Common.{List, ◌∷◌, ◌++◌, refl, subst, eqb-true}
-use Rattle.std.specs.Prelude.{drop, filter}
+use Rattle.std.proofs.Common.{[], ◌≡◌, ℕ, ◌+◌, ◌-◌, ◌==◌, ◌&&◌, ◌||◌, nat_lt, Bool, true, false, if◌then◌else◌, List}
+use Rattle.std.proofs.Common.{◌∷◌, ◌++◌, refl, subst, eqb-true}
+use Rattle.std.specs.Prelude.{drop}
 use Rattle.std.specs.List.{AllByRecursion as Every}
 use Rattle.qc_link.specs.Vocabulary.{fate}
 use Rattle.qc_link.specs.declared.plan.Link.{Link}
 use Rattle.qc_link.specs.declared.rule.Fate.{Fate}
-use Rattle.qc_list.proofs.Members.{In-first, In-last, every-append, every-weaker}
+use Rattle.qc_list.proofs.Members.{In-first, In-last, every-append, every-weaker, every-filter}
 use Rattle.qc_msg.specs.declared.message.Envelope.{Envelope}
 use Rattle.qc_msg.specs.declared.message.Message.{Message}
 use Rattle.qc_msg.specs.declared.message.Message.TheVariants as messages
@@ -45,14 +45,6 @@ owns_more ms ns a i o = record {
 }
 
 -- lists
-
-pub every_filter : {A : Type 0} (P : A → Type 0) (p : A → Bool) (xs : List A) → Every P xs → Every P (filter p xs)
-every_filter P p [] all = all
-every_filter P p (x ∷ xs) all = at (p x) (every_filter P p xs all.1)
-  where
-    at : (t : Bool) → Every P (filter p xs) → Every P (cond t (x ∷ filter p xs) (filter p xs))
-    at true rest = (all.0, rest)
-    at false rest = rest
 
 every_number : (P : ℕ → Type 0) (ns : List ℕ) (n : ℕ) → Every P ns → P n → Every P (with_number ns n)
 every_number P [] n all is = (is, tt)
@@ -100,7 +92,7 @@ module _ (ms : List Envelope) (a : ℕ) where
           } else i)
       at true is =
           record {
-            unanswered = every_filter (IsOwn ms a) _ i.unanswered o.unanswered;
+            unanswered = every-filter (IsOwn ms a) _ i.unanswered o.unanswered;
             lost = lost (comes_at_once f) (asked_of i.unanswered number o.unanswered is);
           }
       at false is = o

@@ -1,10 +1,9 @@
 -- What an actor may take as lost, and what it waits for, are requests that it sent itself.
 use Rattle.std.proofs.Common.{[], ◌≡◌, ℕ, ◌+◌, ◌-◌, ◌==◌, ◌&&◌, Bool, true, false, cond, not, List, ◌∷◌, ◌++◌, Option}
-use Rattle.std.proofs.Common.{Some, None, option_to_list, ap, subst, append_assoc}
+use Rattle.std.proofs.Common.{Some, None, option_to_list, subst}
 use Rattle.std.specs.Prelude.{drop, set, slice_get}
-use Rattle.std.specs.List.{AllByRecursion as Every, cons_option, fold}
+use Rattle.std.specs.List.{AllByRecursion as Every, fold}
 use Rattle.std.specs.Option.{option_map_or}
-use Rattle.std.proofs.lemmas.List.{append-nil}
 use Rattle.qc_decl.specs.declared.declaration.Declaration.{Declaration}
 use Rattle.qc_link.specs.Vocabulary.{with_cut, without_cut}
 use Rattle.qc_msg.specs.declared.message.Envelope.{Envelope}
@@ -24,8 +23,9 @@ use Rattle.qc_script.specs.Ready as ready
 use Rattle.qc_script.specs.declared.script.PhaseLines.{PhaseLines}
 use Rattle.qc_script.specs.declared.script.Script.{Script}
 use Rattle.qc_mailbox.specs.Vocabulary.{IsOwnRequest}
-use Rattle.qc_mailbox.proofs.OwnMessages.{IsOwn, Owns, owns_if, owns_more, every_filter, every_lost, every_drop}
-use Rattle.qc_mailbox.proofs.OwnMessages.{owns_message}
+use Rattle.qc_mailbox.proofs.OwnMessages.{IsOwn, Owns, owns_if, owns_more, every_lost, every_drop, owns_message}
+use Rattle.qc_mailbox.proofs.Among.{mail_cons}
+use Rattle.qc_list.proofs.Members.{every-filter}
 
 -- each step
 
@@ -68,10 +68,10 @@ owns_fallen ms a i r o = at (r == a)
         }))
     at true = record { unanswered = tt; lost = tt }
     at false = record {
-      unanswered = every_filter (IsOwn ms a) _ i.unanswered o.unanswered;
+      unanswered = every-filter (IsOwn ms a) _ i.unanswered o.unanswered;
       lost =
           every_lost (IsOwnRequest ms a) (requests_to r i.unanswered) i.lost
-          (every_filter (IsOwn ms a) _ i.unanswered o.unanswered) o.lost;
+          (every-filter (IsOwn ms a) _ i.unanswered o.unanswered) o.lost;
     }
 
 owns_fell : (ms : List Envelope) (a : ℕ) (i : Inbox) (r : ℕ) (cause : Fall) → Owns ms a i
@@ -115,11 +115,6 @@ owns_step script ms a i by (steps.Told reply) o =
 owns_step script ms a i by (steps.Fell cause pending) o = owns_more ms [] a _ (owns_fell ms a i by cause o)
 owns_step script ms a i by (steps.Rose records) o = owns_more ms [] a i o
 owns_step script ms a i by (steps.Damaged offset) o = owns_more ms [] a _ (owns_acted ms a i o)
-
-mail_cons : (ms : List Envelope) (o : Option Envelope) (ns : List Envelope)
-    → (ms ++ option_to_list o) ++ ns ≡ ms ++ cons_option o ns
-mail_cons ms None ns = ap (λ (x : List Envelope). x ++ ns) (append-nil ms)
-mail_cons ms (Some e) ns = append_assoc ms (e ∷ []) ns
 
 owns_all : (script : Script) (a : ℕ) (h : List Entry) (ms : List Envelope) (i : Inbox) → Owns ms a i
     → Owns (ms ++ mail h) a (fold (λ (i : Inbox) (e : Entry). inbox_at script a i e.actor e.step) i h)

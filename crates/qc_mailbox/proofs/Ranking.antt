@@ -12,6 +12,7 @@ use Rattle.qc_mailbox.specs.declared.input.Candidate.{Candidate}
 use Rattle.qc_mailbox.specs.declared.input.Rank.{Rank}
 use Rattle.qc_mailbox.specs.declared.input.Rank.TheVariants.{Copy, Lost, Command}
 use Rattle.qc_mailbox.proofs.Picking.{none_first, some_first}
+use Rattle.qc_list.proofs.Options.{none_some, some_same}
 
 -- the order of ranks
 
@@ -55,12 +56,6 @@ between (Command m) (Command j) (Command k) p q = let low : m < k = ltb-true m k
 record Leads (f : ℕ → Option Rank) (n : ℕ) (c : Candidate) : Type 0 where
   first : (b : ℕ) (r : Rank) → b < n → f b ≡ Some r → comes_before r c.rank ≡ false
   lowest : (b : ℕ) (r : Rank) → b < c.actor → f b ≡ Some r → comes_before c.rank r ≡ true
-
-some_same : {A : Type 0} (x y : A) → Some x ≡ Some y → x ≡ y
-some_same x y e = cc
-
-none_some : {A : Type 0} (x : A) → None ≡ Some x → ⊥
-none_some x e = cc
 
 -- one more actor, which has no rank
 leads_on : (f : ℕ → Option Rank) (n : ℕ) (c : Candidate) → f n ≡ None → Leads f n c → Leads f (suc n) c

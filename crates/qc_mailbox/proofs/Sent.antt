@@ -9,6 +9,7 @@ use Rattle.qc_msg.specs.declared.message.Message.TheVariants as messages
 use Rattle.qc_script.specs.Vocabulary.{Inbox, answers_by, comes, comes_at_once, comes_with, count_of, goes, goes_with}
 use Rattle.qc_script.specs.Vocabulary.{has_request, is_request, is_up, one_more, request_answered, request_sent}
 use Rattle.qc_script.specs.Vocabulary.{with_copies}
+use Rattle.qc_script.proofs.InboxesSend.{by_test}
 
 -- the same but for what waits, with these counts
 pub record Counts (i j : Inbox) (from_now to_now : List ℕ) : Type 0 where
@@ -23,10 +24,6 @@ Keeps i j = Counts i j i.from_each i.to_each
 
 pub same : (i : Inbox) → Keeps i i
 same i = record { cuts = refl; up = refl; controls = refl; from_each = refl; to_each = refl }
-
-pub by_test : (P : Inbox → Type 0) (t : Bool) (i j : Inbox) → P i → P j → P (if t then i else j)
-by_test P true i j here there = here
-by_test P false i j here there = there
 
 answered_keeps : (i : Inbox) (number : ℕ) (f : Fate) → Keeps i (request_answered i number f)
 answered_keeps i number f = by_test (Keeps i) (has_request i.unanswered number) _ i

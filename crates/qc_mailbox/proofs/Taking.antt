@@ -1,8 +1,7 @@
 -- What is ready for an actor is what its tray shows, and is taken from both.
-use Rattle.std.proofs.Common.{◌≡◌, ℕ, ◌+◌, ◌==◌, ◌&&◌, Bool, true, false, cond, not, if◌then◌else◌, List, [], ◌∷◌}
-use Rattle.std.proofs.Common.{Option, Some, None, refl, ap, subst, ◌∙◌}
+use Rattle.std.proofs.Common.{◌≡◌, ℕ, ◌+◌, ◌&&◌, Bool, true, false, cond, not, if◌then◌else◌, List, [], ◌∷◌, Option}
+use Rattle.std.proofs.Common.{Some, None, refl, ap, subst, ◌∙◌}
 use Rattle.std.specs.Prelude.{option_map}
-use Rattle.std.proofs.lemmas.Bool.{eq-eqb}
 use Rattle.qc_decl.specs.declared.declaration.Declaration.{Declaration}
 use Rattle.qc_msg.specs.declared.message.Envelope.{Envelope}
 use Rattle.qc_msg.specs.declared.step.Command.{Command}
@@ -16,6 +15,7 @@ use Rattle.qc_script.specs.declared.script.Script.{Script}
 use Rattle.qc_mailbox.specs.Vocabulary.{after_controls, calls_at, first_command, first_copy, first_lost, input_of}
 use Rattle.qc_mailbox.specs.Vocabulary.{next_in, numbers_of, tray_of, tray_taken}
 use Rattle.qc_mailbox.specs.declared.input.ReadyInput.{ReadyInput}
+use Rattle.qc_list.proofs.Numbers.{number_same}
 
 -- what is ready
 
@@ -61,28 +61,26 @@ abbrev TakesBoth : Script → ℕ → ℕ → Inbox → Input → Type 0
 TakesBoth script a calls i g =
     tray_of (calls_at a calls a (step_of g)) (inbox_at script a i a (step_of g)) ≡ tray_taken (tray_of calls i)
 
-same : (a : ℕ) → (a == a) ≡ true
-same a = eq-eqb a a refl
-
 call_taken : (script : Script) (a calls : ℕ) (i : Inbox) (commands : List Command) (command : Command)
     → TakesBoth script a calls (record i { copies = []; lost = []; commands = commands }) (inputs.Called command)
 call_taken script a calls i commands command =
     ap (λ (t : Bool). tray_of (if t then calls + 1 else calls)
     (if t then command_called (record i { copies = []; lost = []; commands = commands }) else record i
-    { copies = []; lost = []; commands = commands })) (same a)
+    { copies = []; lost = []; commands = commands })) (number_same a)
 
 copy_taken : (script : Script) (a calls : ℕ) (i : Inbox) (e : Envelope) (es : List Envelope)
     → TakesBoth script a calls (record i { copies = e ∷ es }) (inputs.Got e)
 copy_taken script a calls i e es =
-    ap (λ (t : Bool). tray_of calls (if t then record i { copies = es } else record i { copies = e ∷ es })) (same a)
+    ap (λ (t : Bool). tray_of calls (if t then record i { copies = es } else record i { copies = e ∷ es }))
+    (number_same a)
 
 loss_taken : (script : Script) (a calls : ℕ) (i : Inbox) (n : ℕ) (ns : List ℕ)
     → TakesBoth script a calls (record i { copies = []; lost = n ∷ ns }) (inputs.Lost n)
 loss_taken script a calls i n ns =
     ap (λ (t : Bool). tray_of calls (if t then record i { copies = []; lost = ns } else record i
-    { copies = []; lost = n ∷ ns })) (same a)
+    { copies = []; lost = n ∷ ns })) (number_same a)
 
--- that two are the same where one is
+-- that two are the number_same where one is
 some_same : (x y : Input) → Some x ≡ Some y → x ≡ y
 some_same x y e = cc
 

@@ -1,15 +1,13 @@
 -- How an actor's own steps and deeds grow, as the history does.
-use Rattle.std.proofs.Common.{[], ◌≡◌, ℕ, ◌+◌, ◌==◌, Bool, true, false, cond, List, ◌∷◌, ◌++◌, map, filter, Option}
-use Rattle.std.proofs.Common.{Some, None, option_to_list, refl, ap, sym, ◌∙◌, append_assoc}
+use Rattle.std.proofs.Common.{[], ◌≡◌, ℕ, ◌+◌, ◌==◌, Bool, false, cond, List, ◌∷◌, ◌++◌, map, filter, Option, Some}
+use Rattle.std.proofs.Common.{None, option_to_list, refl, ap, sym, ◌∙◌, append_assoc, suc, length}
 use Rattle.std.specs.List.{cons_option}
-use Rattle.std.proofs.lemmas.Bool.{eq-eqb}
 use Rattle.std.proofs.lemmas.List.{append-nil, map-append}
 use Rattle.std.proofs.lemmas.List.Elements.{filter-append}
 use Rattle.qc_msg.specs.declared.message.Envelope.{Envelope}
 use Rattle.qc_msg.specs.declared.record.Record.{Record}
 use Rattle.qc_msg.specs.declared.reply.Reply.{Reply}
 use Rattle.qc_msg.specs.declared.step.Fall.{Fall}
-use Rattle.qc_msg.specs.declared.step.Fall.TheVariants as causes
 use Rattle.qc_msg.specs.declared.step.Step.{Step}
 use Rattle.qc_msg.specs.declared.step.Step.TheVariants.{Fell, Rose, Wrote, Sent, Told}
 use Rattle.qc_msg.specs.declared.turn.Appended.{Appended}
@@ -20,11 +18,11 @@ use Rattle.qc_msg.specs.Vocabulary.{Deed, Entry, Falls, Rises, Sends, by, deed_a
 use Rattle.qc_msg.specs.Vocabulary.{mail, marked, own, posted, posted_as, sends_of, sents, tells_of, told, turn_deeds}
 use Rattle.qc_msg.specs.Vocabulary.{writes_of, written, wrote}
 use Rattle.qc_msg.proofs.GrownMail.{by-append, by-posted}
+use Rattle.qc_list.proofs.Numbers.{number_same}
+use Rattle.qc_msg.specs.declared.step.Fall.TheVariants as causes
+use Rattle.qc_msg.specs.declared.step.Step.TheVariants as steps
 
 -- an actor's own steps
-
-pub same_actor : (a : ℕ) → (a == a) ≡ true
-same_actor a = eq-eqb a a refl
 
 pub own-append : (a : ℕ) (h k : List Entry) → own a (h ++ k) ≡ own a h ++ own a k
 own-append a h k =
@@ -37,7 +35,7 @@ own-by_same a [] = refl
 own-by_same a (x ∷ xs) =
     ap (λ (v : Bool). map (λ (e : Entry). e.step)
     (cond v (marked a x ∷ filter (λ (e : Entry). e.actor == a) (by a xs))
-    (filter (λ (e : Entry). e.actor == a) (by a xs)))) (same_actor a)
+    (filter (λ (e : Entry). e.actor == a) (by a xs)))) (number_same a)
     ∙ ap (λ (v : List Step). x ∷ v) (own-by_same a xs)
 
 pub own-by_other : (a b : ℕ) (xs : List Step) → (a == b) ≡ false → own b (by a xs) ≡ []
@@ -92,18 +90,18 @@ deeds-other a b ms h xs other =
 
 deeds-wrote : (a : ℕ) (ms : List Envelope) (write : Option Record) → deeds a ms (by a (wrote write)) ≡ writes_of write
 deeds-wrote a ms None = refl
-deeds-wrote a ms (Some written) = ap (λ (v : Bool). cond v (deed_at ms (Wrote written)) [] ++ []) (same_actor a)
+deeds-wrote a ms (Some written) = ap (λ (v : Bool). cond v (deed_at ms (Wrote written)) [] ++ []) (number_same a)
 
 deeds-told : (a : ℕ) (ms : List Envelope) (reply : Option Reply) → deeds a ms (by a (told reply)) ≡ tells_of reply
 deeds-told a ms None = refl
-deeds-told a ms (Some reply) = ap (λ (v : Bool). cond v (deed_at ms (Told reply)) [] ++ []) (same_actor a)
+deeds-told a ms (Some reply) = ap (λ (v : Bool). cond v (deed_at ms (Told reply)) [] ++ []) (number_same a)
 
 deeds-sents : (a n : ℕ) (ms : List Envelope) (ps : List Posting) → deeds a ms (by a (sents n ps)) ≡ sends_of n ps
 deeds-sents a n ms [] = refl
 deeds-sents a n ms (p ∷ ps) =
     let more : List Envelope = ms ++ option_to_list (envelope_of (marked a (Sent n p.to p.message))) in
     ap (λ (v : Bool). cond v (deed_at ms (Sent n p.to p.message)) [] ++ deeds a more (by a (sents (n + 1) ps)))
-    (same_actor a)
+    (number_same a)
     ∙ ap (λ (v : List Deed). Sends n p.to p.message ∷ v) (deeds-sents a (n + 1) more ps)
 
 -- what a turn does
@@ -133,11 +131,11 @@ deeds-two a ms xs ys ds es first second =
 
 pub deeds-fell : (a : ℕ) (ms : List Envelope) (cause : Fall) (pending : Option Record)
     → deeds a ms (by a (fell cause pending)) ≡ Falls cause pending ∷ []
-deeds-fell a ms cause pending = ap (λ (v : Bool). cond v (deed_at ms (Fell cause pending)) [] ++ []) (same_actor a)
+deeds-fell a ms cause pending = ap (λ (v : Bool). cond v (deed_at ms (Fell cause pending)) [] ++ []) (number_same a)
 
 pub deeds-rose : (a : ℕ) (ms : List Envelope) (records : List Record)
     → deeds a ms (by a (Rose records ∷ [])) ≡ Rises records ∷ []
-deeds-rose a ms records = ap (λ (v : Bool). cond v (deed_at ms (Rose records)) [] ++ []) (same_actor a)
+deeds-rose a ms records = ap (λ (v : Bool). cond v (deed_at ms (Rose records)) [] ++ []) (number_same a)
 
 pub deeds-as_same : (end : Appended) (a n : ℕ) (ms : List Envelope) (turn : Turn)
     → deeds a ms (by a (posted_as end n turn)) ≡ deeds_as end n turn
@@ -153,3 +151,13 @@ deeds-as_same Stopped a n ms turn =
     deeds-two a ms (told turn.failed_told) (fell causes.Stop turn.write) (tells_of turn.failed_told)
     (Falls causes.Stop turn.write ∷ []) (λ ns. deeds-told a ns turn.failed_told)
     (λ ns. deeds-fell a ns causes.Stop turn.write)
+
+pub length-by : (a : ℕ) (ss : List Step) → length (by a ss) ≡ length ss
+length-by a [] = refl
+length-by a (s ∷ ss) = ap suc (length-by a ss)
+
+pub deeds-rise : (a : ℕ) (h : List Entry) (records : List Record)
+    → deeds a [] (h ++ marked a (steps.Rose records) ∷ []) ≡ deeds a [] h ++ Rises records ∷ []
+deeds-rise a h records =
+    deeds-append a [] h (by a (steps.Rose records ∷ []))
+    ∙ ap (λ (ds : List Deed). deeds a [] h ++ ds) (deeds-rose a (mail h) records)

@@ -12,11 +12,8 @@ use Rattle.qc_msg.specs.declared.message.Envelope.{Envelope}
 use Rattle.qc_msg.specs.declared.record.Record.{Record}
 use Rattle.qc_msg.specs.declared.reply.Reply.{Reply}
 use Rattle.qc_msg.specs.declared.step.Fall.{Fall}
-use Rattle.qc_msg.specs.declared.step.Fall.TheVariants as causes
 use Rattle.qc_msg.specs.declared.step.Input.{Input}
-use Rattle.qc_msg.specs.declared.step.Input.TheVariants as inputs
 use Rattle.qc_msg.specs.declared.step.Step.{Step}
-use Rattle.qc_msg.specs.declared.step.Step.TheVariants as steps
 use Rattle.qc_msg.specs.declared.step.Step.TheVariants.{Fell, Rose, Wrote, Sent, Told}
 use Rattle.qc_msg.specs.declared.turn.Appended.{Appended}
 use Rattle.qc_msg.specs.declared.turn.Appended.TheVariants.{Done, Failed, Stopped}
@@ -28,6 +25,9 @@ use Rattle.qc_msg.specs.Vocabulary.{envelopes, fell, heard, mail, marked, no_tal
 use Rattle.qc_msg.specs.Vocabulary.{posted_as, sends_as, sends_of, sents, standing_after, step_of, tally_of, tally_with}
 use Rattle.qc_msg.specs.Vocabulary.{tells_of, told, turn_deeds, writes_of, written, wrote}
 use Rattle.qc_entry.specs.declared.record.Commit.{Commit}
+use Rattle.qc_msg.specs.declared.step.Fall.TheVariants as causes
+use Rattle.qc_msg.specs.declared.step.Input.TheVariants as inputs
+use Rattle.qc_msg.specs.declared.step.Step.TheVariants as steps
 
 -- an actor's steps, as entries
 
@@ -98,3 +98,10 @@ length-mail (e ∷ h) = omega (arith, length-cons_option (envelope_of e) (mail h
 pub length-envelopes : (a n : ℕ) (ps : List Posting) → length (envelopes a n ps) ≡ length ps
 length-envelopes a n [] = refl
 length-envelopes a n (p ∷ ps) = ap (λ (v : ℕ). suc v) (length-envelopes a (n + 1) ps)
+
+pub mail-cons : (e : Entry) (h : List Entry) → mail (e ∷ h) ≡ option_to_list (envelope_of e) ++ mail h
+mail-cons e h = by (envelope_of e) refl
+  where
+    by : (o : Option Envelope) → envelope_of e ≡ o → mail (e ∷ h) ≡ option_to_list (envelope_of e) ++ mail h
+    by None is = rw is refl
+    by (Some envelope) is = rw is refl

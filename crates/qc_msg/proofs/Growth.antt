@@ -21,7 +21,8 @@ use Rattle.qc_msg.specs.Vocabulary.{marked, no_tally, operations_of, own, posted
 use Rattle.qc_msg.specs.Vocabulary.{standing_after, step_of, tally_of, tally_with, told, turn_deeds, written}
 use Rattle.qc_entry.specs.declared.record.Commit.{Commit}
 use Rattle.qc_msg.proofs.GrownMail.{by-append, mail-append, mail-sents, mail-told, mail-posted}
-use Rattle.qc_msg.proofs.DeedsGrow.{same_actor, own-append, deeds-append, deeds-by_same, deeds-as_same}
+use Rattle.qc_msg.proofs.DeedsGrow.{own-append, deeds-append, deeds-by_same, deeds-as_same}
+use Rattle.qc_list.proofs.Numbers.{number_same}
 
 -- the actor's deeds go on by its post
 pub deeds-posted_as : (end : Appended) (a n : ℕ) (h : List Entry) (turn : Turn)
@@ -58,7 +59,7 @@ deed_at-given a ms (inputs.Lost number) sent = refl
 deeds-input : (a : ℕ) (ms : List Envelope) (input : Input) → WasSentTo a ms input
     → deeds a ms (marked a (step_of input) ∷ []) ≡ Takes input ∷ []
 deeds-input a ms input sent =
-    ap (λ (v : Bool). cond v (deed_at ms (step_of input)) [] ++ []) (same_actor a)
+    ap (λ (v : Bool). cond v (deed_at ms (step_of input)) [] ++ []) (number_same a)
     ∙ ap (λ (v : List Deed). v ++ []) (deed_at-given a ms input sent)
 
 -- the actor's own deeds go on by its input

@@ -1,5 +1,5 @@
 -- A begun transaction: the first epoch; the lives of the sites in their first grants that counted; the sites asked.
-use Rattle.std.specs.Prelude.{ℕ, ◌==◌, List, [], ◌∷◌, ◌++◌, map, Bool, if◌then◌else◌}
+use Rattle.std.specs.Prelude.{ℕ, ◌==◌, ◌^◌, List, [], ◌∷◌, ◌++◌, map, sum_by, Bool, if◌then◌else◌}
 use Rattle.std.specs.List.{find, list_any}
 use Rattle.std.specs.Option.{option_map_or}
 use Rattle.std.specs.Ordering.{nat_cmp}
@@ -29,6 +29,10 @@ with_life lives site life =
 -- a site among ascending sites, once
 abbrev pub with_site : List ℕ → ℕ → List ℕ
 with_site sites site = inserted nat_cmp sites site
+
+-- sites as a set: site k is bit k
+abbrev pub site_set : List ℕ → ℕ
+site_set sites = sum_by (λ (site : ℕ). 2 ^ site) sites
 
 -- a verdict goes to each site that the transaction asked, ascending
 abbrev pub decisions : Begun → Outcome → List Posting

@@ -1,5 +1,5 @@
 -- What proofs, and other crates, name of this crate's definitions.
-pub use Rattle.qc_msg.specs.Begun.{decisions, first_epoch, has_granted, life_of, with_life, with_site}
+pub use Rattle.qc_msg.specs.Begun.{decisions, first_epoch, has_granted, life_of, site_set, with_life, with_site}
 pub use Rattle.qc_msg.specs.Calls.{calls_from, numbered_from, site_called, with_call, without_call}
 pub use Rattle.qc_msg.specs.Counts.{IsNoRise, Tally, answered, answered_at, answered_in, answered_in_all, carried_at}
 pub use Rattle.qc_msg.specs.Counts.{carried_back, carried_of, commit_in, commit_of, lines_promised, no_tally}

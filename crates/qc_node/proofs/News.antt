@@ -1,20 +1,17 @@
 -- A new pass among new passes.
-use Rattle.std.proofs.Common.{◌≡◌, ℕ, suc, ◌+◌, ◌<◌, List, [], ◌∷◌, ◌++◌, length, length-append, Some, refl, sym, ap}
-use Rattle.std.proofs.Common.{◌∙◌, subst, arith, slice_get}
+use Rattle.std.proofs.Common.{◌≡◌, ℕ, suc, ◌+◌, ◌<◌, List, [], ◌∷◌, ◌++◌, length, length-append, Some, sym, ap, ◌∙◌}
+use Rattle.std.proofs.Common.{subst, arith, slice_get}
 use Rattle.atomic_table.specs.Seated.{TableId}
-use Rattle.laws_turns.proofs.Places.{slice_get-last, slice_get-more}
+use Rattle.laws_turns.proofs.Places.{slice_get-last}
 use Rattle.qc_msg.specs.declared.step.Step.{Step}
 use Rattle.qc_pass.specs.declared.token.Pass.{Pass}
 use Rattle.qc_pass.specs.Vocabulary.{AreNew, IsNew, number}
-
-pub at_place : {A : Type 0} (xs ys : List A) (p : A) → slice_get (xs ++ p ∷ ys) (length xs) ≡ Some p
-at_place [] ys p = refl
-at_place (x ∷ xs) ys p = at_place xs ys p
+use Rattle.qc_list.proofs.Places.{slice_get-more, slice_get-seam}
 
 module _ (z : TableId) (all xs ys : List (Pass Step)) (p : Pass Step) (split : xs ++ p ∷ ys ≡ all)
     (new : AreNew z all) where
   here : IsNew z (length xs) p
-  here = new (length xs) p (ap (λ (l : List (Pass Step)). slice_get l (length xs)) (sym split) ∙ at_place xs ys p)
+  here = new (length xs) p (ap (λ (l : List (Pass Step)). slice_get l (length xs)) (sym split) ∙ slice_get-seam xs ys p)
 
   pub is_new : IsNew z (number p) p
   is_new = subst (λ (n : ℕ). IsNew z n p) (sym here.number_is) here

@@ -8,7 +8,6 @@ use Rattle.qc_core.specs.Vocabulary.{ActorMove, IsLawfulWithFalls, actor_after}
 use Rattle.qc_core.proofs.LivesOfActors.{falls}
 use Rattle.qc_decl.specs.Vocabulary.{IsAccepted, actors, controller}
 use Rattle.qc_decl.specs.declared.declaration.Declaration.{Declaration}
-use Rattle.qc_link.specs.Vocabulary.{most_actors}
 use Rattle.qc_msg.specs.Vocabulary.{Deed, Entry, deeds, marked}
 use Rattle.qc_msg.specs.declared.step.Control.{Control}
 use Rattle.qc_msg.specs.declared.step.Control.TheVariants as controls
@@ -25,12 +24,7 @@ use Rattle.qc_fabric.specs.Vocabulary.{Arms, FallsByLine, IsSame, IsUpTo, MayDo,
 use Rattle.qc_fabric.specs.declared.rising.Rising.{Rising}
 use Rattle.qc_node.specs.Vocabulary.{IsCell, IsLeft, IsRunnable, fits_of}
 use Rattle.qc_node.proofs.Lines.{armed_counted, crashed_up, restarted_down}
-
-pub few_actors : (decl : Declaration) → IsAccepted decl → actors decl ≤ most_actors
-few_actors decl accepted =
-    let sites : decl.sites ≤ 16 = accepted.sites in
-    let clients : decl.clients ≤ 16 = accepted.clients in
-    omega arith
+use Rattle.qc_decl.proofs.Clients.{few_actors}
 
 module _ (tells : Bool) (z : TableId) (decl : Declaration) (p : Pass Step) (pr : ProcessView)
     (cell : IsCell tells z decl false pr p) (q : Pass Step) (new : ProcessView) where

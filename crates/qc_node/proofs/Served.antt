@@ -5,7 +5,6 @@ use Rattle.qc_core.specs.declared.actor.Actor.{Actor}
 use Rattle.qc_core.specs.declared.actor.Actor.TheVariants as actors_of
 use Rattle.qc_core.specs.Vocabulary.{ActorFits, ActorMove, AsksFew, IsLawfulWithFalls, actor_after, actor_sent}
 use Rattle.qc_core.specs.Vocabulary.{actor_takes, moved}
-use Rattle.qc_core.proofs.PostsByTurns.{after_takes}
 use Rattle.qc_core.proofs.Written.{after_written}
 use Rattle.qc_epoch.specs.Vocabulary.{most_asks}
 use Rattle.qc_decl.specs.Vocabulary.{IsAccepted, actors, most_steps}
@@ -32,6 +31,7 @@ use Rattle.qc_node.specs.Vocabulary.{IsServed, fits_of}
 use Rattle.qc_node.proofs.Turned.{same_deeds, same_record, turned}
 use Rattle.qc_node.proofs.Turns.{asks_few, fits, numbered, readable, short_failed, short_turn, turn_is_lawful}
 use Rattle.qc_node.proofs.ServedStores.{took_goes, saw_goes, stored_over_input, stored_over_others, few_open}
+use Rattle.qc_core.proofs.ActorLaws.{input}
 
 -- an actor took an input: what its calls ask
 
@@ -73,7 +73,7 @@ module _ (tells : Bool) (decl : Declaration) (script : Script) (accepted : IsAcc
       move_is : actor_after decl (number p) (deeds (number p) [] (seen q)) ≡ moved after turn
       move_is =
           ap (actor_after decl (number p)) took.does
-          ∙ (after_takes decl (number p) (deeds (number p) [] (seen p)) g
+          ∙ (input decl (number p) (deeds (number p) [] (seen p)) g
           ∙ (ap (λ (v : Actor). actor_takes decl v g) (sym known.actor_is) ∙ acted))
 
       after_is : (actor_after decl (number p) (deeds (number p) [] (seen q))).actor ≡ after

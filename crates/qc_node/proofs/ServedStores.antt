@@ -6,17 +6,16 @@ use Rattle.std.proofs.lemmas.List.{append-nil}
 use Rattle.qc_core.specs.Vocabulary.{IsLawfulWithFalls}
 use Rattle.qc_decl.specs.declared.declaration.Declaration.{Declaration}
 use Rattle.qc_msg.specs.declared.step.Input.{Input}
-use Rattle.qc_msg.specs.declared.step.Input.TheVariants as inputs
 use Rattle.qc_msg.specs.declared.step.Step.{Step}
 use Rattle.qc_msg.specs.Vocabulary.{Entry, by, step_of}
 use Rattle.qc_pass.specs.declared.token.Pass.{Pass}
 use Rattle.qc_pass.specs.Vocabulary.{number, seen}
 use Rattle.qc_process.specs.Vocabulary.{Goes, HasFewRecords, IsPlaced, IsStored, OpenJournal, StoreView}
 use Rattle.qc_process.proofs.Going.{plain_on}
-use Rattle.qc_process.proofs.Plain.{ArePlain}
 use Rattle.qc_script.specs.declared.script.Script.{Script}
 use Rattle.qc_fabric.specs.Vocabulary.{Sees, Takes, most_history}
 use Rattle.qc_node.specs.Vocabulary.{fits_of}
+use Rattle.qc_process.proofs.GivenUp.{plain_input}
 
 -- what others did, and then the input
 
@@ -34,11 +33,6 @@ saw_goes p q saw =
       not_own = saw.not_own;
       now_is = saw.seen_is ∙ sym (append-nil (seen p ++ saw.others));
     }
-
-plain_input : (g : Input) → ArePlain (step_of g ∷ [])
-plain_input (inputs.Called command) = (refl, tt)
-plain_input (inputs.Got e) = (refl, tt)
-plain_input (inputs.Lost n) = (refl, tt)
 
 -- so a store stays as it was, but for the spelling
 

@@ -6,7 +6,7 @@ use Rattle.std.proofs.lemmas.Bool.{eqb-false, eqb-true}
 use Rattle.qc_decl.specs.Vocabulary.{controller}
 use Rattle.qc_decl.specs.declared.declaration.Declaration.{Declaration}
 use Rattle.qc_fabric.specs.Vocabulary.{Sees}
-use Rattle.qc_fabric.proofs.Fed.{get_else, get_here, get_within}
+use Rattle.qc_fabric.proofs.Fed.{get_else, get_here}
 use Rattle.qc_msg.specs.Vocabulary.{Entry, own}
 use Rattle.qc_msg.specs.declared.step.Step.{Step}
 use Rattle.qc_outside.specs.Vocabulary.{IsKept, IsPutBack, Places, Told}
@@ -24,6 +24,7 @@ use Rattle.qc_node.specs.Vocabulary.{IsKnown, IsLeft, IsSettling}
 use Rattle.qc_node.proofs.Misfits.{misfits_of}
 use Rattle.qc_node.proofs.ServedStores.{saw_goes}
 use Rattle.qc_node.proofs.Starts.{put_tells}
+use Rattle.qc_list.proofs.Places.{place_within}
 
 nobody_is : (a : ℕ) → nobody a ≡ true → ⊥
 nobody_is a is = cc is
@@ -92,7 +93,7 @@ module _ (tells : Bool) (decl : Declaration) (h : List Entry) where
           → slice_get (slice_set rooms a 1) b ≡ Some 1
       roomed_at b is true this =
           subst (λ (k : ℕ). slice_get (slice_set rooms a 1) k ≡ Some 1) (eqb-true a b this)
-          (get_here rooms a 1 (get_within rooms a 0 none))
+          (get_here rooms a 1 (place_within rooms a 0 none))
       roomed_at b is false other =
           get_else rooms a b 1 (λ e. eqb-false a b other (sym e))
           ∙ s.roomed b (sym (visit_other a b s.visited other) ∙ is)

@@ -1,6 +1,6 @@
 -- A turn in a run: what an actor's calls ask as it takes an input, and what it is once its turn was posted.
-use Rattle.std.proofs.Common.{◌≡◌, ℕ, ◌<◌, ◌≤◌, zero, suc, Bool, true, false, List, [], ◌∷◌, ◌++◌, length, Some, None}
-use Rattle.std.proofs.Common.{refl, sym, ap, ◌∙◌, subst, cond, inl, inr, slice_get, arith, eq-eqb}
+use Rattle.std.proofs.Common.{◌≡◌, ℕ, ◌<◌, Bool, true, false, List, [], ◌++◌, length, Some, None, refl, ap, ◌∙◌, cond}
+use Rattle.std.proofs.Common.{inl, inr, slice_get, arith, eq-eqb}
 use Rattle.std.proofs.lemmas.Bool.{cases_lt}
 use Rattle.laws_bounds.specs.Vocabulary.{AllRiseFit, IsFailedShort, IsTurnShort}
 use Rattle.laws_bounds.proofs.AtOnce.{run_sent}
@@ -14,8 +14,6 @@ use Rattle.qc_decl.specs.Vocabulary.{IsAccepted, actors, administrator, is_admin
 use Rattle.qc_decl.specs.Vocabulary.{most_steps}
 use Rattle.qc_decl.specs.declared.declaration.Declaration.{Declaration}
 use Rattle.qc_mailbox.proofs.FallMail.{ready_messages_were_sent_through_falls}
-use Rattle.qc_list.specs.Vocabulary.{In}
-use Rattle.qc_msg.specs.declared.message.Envelope.{Envelope}
 use Rattle.qc_msg.specs.declared.step.Input.{Input}
 use Rattle.qc_msg.specs.declared.step.Input.TheVariants as given
 use Rattle.qc_msg.specs.declared.turn.Turn.{Turn}
@@ -24,11 +22,7 @@ use Rattle.qc_script.specs.Vocabulary.{RunsWithFalls, ready}
 use Rattle.qc_script.specs.declared.script.Script.{Script}
 use Rattle.qc_process.specs.Vocabulary.{IsReadable}
 use Rattle.qc_node.specs.Vocabulary.{fits_of}
-
-in_mail : (ms : List Envelope) (n : ℕ) (e : Envelope) → slice_get ms n ≡ Some e → In e ms
-in_mail [] n e is = absurd (let no : ⊥ = cc in no)
-in_mail (x ∷ xs) zero e is = inl (let same : e ≡ x = cc in same)
-in_mail (x ∷ xs) (suc n) e is = inr (in_mail xs n e is)
+use Rattle.qc_list.proofs.Members.{In-at}
 
 -- every actor has a turn for its last input, whatever becomes of the turn's record
 
@@ -74,8 +68,8 @@ module _ (decl : Declaration) (script : Script) (accepted : IsAccepted decl) (a 
   readable_if : length h < most_steps → (g : Input) → WasSentTo a (mail h) g → IsReadable g
   readable_if short (given.Called command) is = tt
   readable_if short (given.Got e) is = (
-    promises decl script (fits_of decl) h inputs run e rises_fit short (in_mail (mail h) e.number e is.0),
-    messages_fit decl script (fits_of decl) accepted h inputs run rises_fit e (in_mail (mail h) e.number e is.0),
+    promises decl script (fits_of decl) h inputs run e rises_fit short (In-at (mail h) e.number e is.0),
+    messages_fit decl script (fits_of decl) accepted h inputs run rises_fit e (In-at (mail h) e.number e is.0),
   )
   readable_if short (given.Lost n) is = tt
 

@@ -1,7 +1,6 @@
 -- What the places of a rack in memory hold after a change of one.
-use Rattle.std.proofs.Common.{◌≡◌, ◌≢◌, ℕ, zero, suc, ◌+◌, ◌<◌, Bool, true, false, ◌&&◌, cond, List, [], ◌∷◌, length}
-use Rattle.std.proofs.Common.{take, find, slice_set, slice_index_or, Option, Some, None, refl, sym, ◌∙◌, ap, subst}
-use Rattle.std.proofs.Common.{arith}
+use Rattle.std.proofs.Common.{◌≡◌, ◌≢◌, ℕ, zero, suc, ◌+◌, ◌<◌, Bool, true, false, cond, List, [], ◌∷◌, length, take}
+use Rattle.std.proofs.Common.{find, slice_set, slice_index_or, Option, Some, None, refl, sym, ◌∙◌, ap, subst, arith}
 use Rattle.std.specs.Prelude.{nat_eq, option_map, Vec, vec_len}
 use Rattle.std.specs.declared.alloc.Global.{Global}
 use Rattle.std.specs.Option.{option_or}
@@ -12,12 +11,7 @@ use Rattle.std.proofs.lemmas.Slice.Eq.{bytes_eq-Decides}
 use Rattle.qc_outside.specs.Vocabulary.{HoldsNoByte, IsAdded, IsFirstAt, IsSameElsewhere, Place, held, held_after}
 use Rattle.qc_outside.specs.Vocabulary.{is_at, is_folder, name_of}
 use Rattle.qc_outside.specs.declared.mem_rack.Kept.{Kept}
-
-both : (a b : Bool) → (a && b) ≡ true → (a ≡ true) × (b ≡ true)
-both true true e = (refl, refl)
-both true false e = absurd (cc e)
-both false true e = absurd (cc e)
-both false false e = absurd (cc e)
+use Rattle.qc_list.proofs.Booleans.{and_parts}
 
 same_folder : (a b : Option (List ℕ)) → is_folder a b ≡ true → a ≡ b
 same_folder None None e = refl
@@ -28,8 +22,8 @@ same_folder (Some a) (Some b) e = ap Some ((bytes_eq-Decides a b).0 e)
 -- what is kept is at one place
 one_place : (p q : Place) (k : Kept) → is_at p k ≡ true → is_at q k ≡ true → q ≡ p
 one_place p q k at_p at_q =
-    let of_p = both (is_folder p.folder (name_of k.folder)) (nat_eq p.actor k.actor) at_p in
-    let of_q = both (is_folder q.folder (name_of k.folder)) (nat_eq q.actor k.actor) at_q in
+    let of_p = and_parts (is_folder p.folder (name_of k.folder)) (nat_eq p.actor k.actor) at_p in
+    let of_q = and_parts (is_folder q.folder (name_of k.folder)) (nat_eq q.actor k.actor) at_q in
     let folder : q.folder ≡ p.folder = same_folder q.folder (name_of k.folder) of_q.0
     ∙ sym (same_folder p.folder (name_of k.folder) of_p.0) in
     let actor : q.actor ≡ p.actor = eqb-true q.actor k.actor of_q.1 ∙ sym (eqb-true p.actor k.actor of_p.1) in

@@ -3,7 +3,7 @@ use Rattle.std.proofs.Common.{[], ◌≡◌, ℕ, zero, suc, ◌+◌, ◌-◌, m
 use Rattle.std.proofs.Common.{nat_lt, Bool, true, false, cond, List, ◌∷◌, ◌++◌, Some, unwrap_or, length, take, drop}
 use Rattle.std.proofs.Common.{set, refl, sym, ◌∙◌, ap, subst, arith}
 use Rattle.std.specs.List.{range_with_len}
-use Rattle.std.proofs.lemmas.List.{drop-set-lt, set_past, map-append}
+use Rattle.std.proofs.lemmas.List.{drop-set-lt, set_past, map-append, length-append}
 use Rattle.std.proofs.Math.Seq.{take-set-lt}
 use Rattle.std.proofs.lemmas.Bool.Decides.{nat_tests}
 use Rattle.qc_plan.specs.Vocabulary.{RoundState, all_noted, asking_all, asking_in_turn, cyclic, has_granted, is_waiting}
@@ -11,9 +11,10 @@ use Rattle.qc_plan.specs.Vocabulary.{note_in, place_in, prefix, refusal, settled
 use Rattle.qc_plan.specs.Vocabulary.{weight}
 use Rattle.qc_plan.specs.declared.standing.Asked.{Asked}
 use Rattle.qc_plan.specs.declared.standing.Standing.{Standing}
-use Rattle.qc_plan.specs.declared.standing.Verdict.TheVariants as verdicts
 use Rattle.qc_plan.proofs.RoundsMet.{note_put, with_site, stays_heavy, unknown, state, is_light, IsWanted, wanted_by}
 use Rattle.qc_plan.proofs.RoundsMet.{turn_by}
+use Rattle.std.proofs.lemmas.List.FromFn.{length-range_with_len}
+use Rattle.qc_plan.specs.declared.standing.Verdict.TheVariants as verdicts
 
 -- what is wanted while an answer is awaited
 awaited : (weights : List ℕ) (need : ℕ) (asked : List Asked) (rest : List ℕ) → all_noted asked ≡ false
@@ -178,7 +179,7 @@ note_none weights need sites n p site standing rest past place =
 
 -- a round over no site
 
-weighing_none : (sites : List ℕ) → weighing [] sites ≡ []
+pub weighing_none : (sites : List ℕ) → weighing [] sites ≡ []
 weighing_none [] = refl
 weighing_none (site ∷ sites) = weighing_none sites
 
@@ -187,3 +188,11 @@ pub starts_nowhere : (weights : List ℕ) (sites : List Asked) (from need : ℕ)
 starts_nowhere weights sites from need light none =
     (λ i. state (light i) need (take 0 (none i)) (map (λ (a : Asked). a.site) (drop 0 (none i))))
     ∙ ap (λ rest. state [] need [] rest) (sym (weighing_none (cyclic 0 from)))
+
+pub length-cyclic : (sites from : ℕ) → from ≤ sites → length (cyclic sites from) ≡ sites
+length-cyclic sites from low =
+    let whole : length (cyclic sites from) ≡ length (range_with_len from (sites - from)) + length
+    (range_with_len 0 from) = length-append (range_with_len from (sites - from)) (range_with_len 0 from) in
+    let a : length (range_with_len from (sites - from)) ≡ sites - from = length-range_with_len from (sites - from) in
+    let b : length (range_with_len 0 from) ≡ from = length-range_with_len 0 from in
+    omega arith

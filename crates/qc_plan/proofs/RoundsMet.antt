@@ -12,6 +12,7 @@ use Rattle.qc_plan.specs.declared.standing.Standing.{Standing}
 use Rattle.qc_plan.specs.declared.standing.Standing.TheVariants as standings
 use Rattle.qc_plan.specs.declared.standing.Verdict.{Verdict}
 use Rattle.qc_plan.specs.declared.standing.Verdict.TheVariants as verdicts
+use Rattle.qc_list.proofs.Booleans.{and_false, or_first}
 
 -- noting is a write at the site's place
 pub note_put : (site : ℕ) (standing : Standing) (asked : List Asked)
@@ -105,14 +106,10 @@ weight_mono (w ∷ ws) a b more =
 abbrev pub with_site : List Asked → ℕ → List Asked
 with_site asked site = asked ++ record { site = site; standing = None } ∷ []
 
-or_left : (a b : Bool) → a ≡ true → (a || b) ≡ true
-or_left true b h = refl
-or_left false b h = absurd (cc)
-
 asked_more : (asked : List Asked) (site k : ℕ) → is_asked asked k ≡ true → is_asked (with_site asked site) k ≡ true
 asked_more asked site k is =
     list_any-append (λ (a : Asked). a.site == k) asked (record { site = site; standing = None } ∷ [])
-    ∙ or_left (is_asked asked k) (is_asked (record { site = site; standing = None } ∷ []) k) is
+    ∙ or_first (is_asked asked k) (is_asked (record { site = site; standing = None } ∷ []) k) is
 
 heavy_still : (need a b : ℕ) → a ≤ b → nat_lt a need ≡ false → nat_lt b need ≡ false
 heavy_still need a b le is = grind (arith, nat_tests)
@@ -124,12 +121,9 @@ stays_heavy weights need asked site is =
     heavy_still need (weight (is_asked asked) weights) (weight (is_asked (with_site asked site)) weights)
     (weight_mono weights (is_asked asked) (is_asked (with_site asked site)) (asked_more asked site)) is
 
-and_none : (a : Bool) → (a && false) ≡ false
-and_none true = refl
-and_none false = refl
-
 pub unknown : (asked : List Asked) (site : ℕ) → all_noted (with_site asked site) ≡ false
-unknown asked site = list_all-append _ asked (record { site = site; standing = None } ∷ []) ∙ and_none (all_noted asked)
+unknown asked site =
+    list_all-append _ asked (record { site = site; standing = None } ∷ []) ∙ and_false (all_noted asked)
 
 -- one by one
 

@@ -15,19 +15,16 @@ use Rattle.qc_msg.specs.declared.record.Record.TheVariants as records
 use Rattle.qc_record.specs.Vocabulary.{is_legal, spelled}
 use Rattle.qc_process.specs.Vocabulary.{AreLegal, AreUnfit, IsFirstUnfit, all_fit, bodies_of, bytes_of}
 use Rattle.qc_process.proofs.Going.{bodies_more}
-
-both : (b c : Bool) → (b && c) ≡ true → (b ≡ true) × (c ≡ true)
-both true c is = (refl, is)
-both false c is = absurd (cc is)
+use Rattle.qc_list.proofs.Booleans.{and_parts}
 
 pub fits_few : (decl : Declaration) (a n : ℕ) (r : Record) → fits decl a n r ≡ true → n < most_records
-fits_few decl a n r is = ltb-true n most_records (both (nat_lt n most_records) (is_of decl a r) is).0
+fits_few decl a n r is = ltb-true n most_records (and_parts (nat_lt n most_records) (is_of decl a r) is).0
 
 few_from : (decl : Declaration) (a n : ℕ) (rs : List Record) → all_fit decl a n rs ≡ true → n ≤ most_records
     → n + length rs ≤ most_records
 few_from decl a n [] is low = omega arith
 few_from decl a n (r ∷ rs) is low =
-    let parts = both (fits decl a n r) (all_fit decl a (n + 1) rs) is in
+    let parts = and_parts (fits decl a n r) (all_fit decl a (n + 1) rs) is in
     let here : n < most_records = fits_few decl a n r parts.0 in
     let later : (n + 1) + length rs ≤ most_records = few_from decl a (n + 1) rs parts.1 (omega (arith, here)) in
     omega (arith, later)
@@ -39,18 +36,18 @@ few decl a rs is =
 prepare_client : (decl : Declaration) (a n : ℕ) (p : Prepared) → fits decl a n (records.Prepare p) ≡ true
     → p.tx.client < decl.clients
 prepare_client decl a n p is =
-    let of_it = (both (nat_lt n most_records) (is_of decl a (records.Prepare p)) is).1 in
-    let fit = (both (is_site decl a) (is_prepared_fit decl p) of_it).1 in
-    ltb-true p.tx.client decl.clients (both (has_client decl p.tx.client) _ fit).0
+    let of_it = (and_parts (nat_lt n most_records) (is_of decl a (records.Prepare p)) is).1 in
+    let fit = (and_parts (is_site decl a) (is_prepared_fit decl p) of_it).1 in
+    ltb-true p.tx.client decl.clients (and_parts (has_client decl p.tx.client) _ fit).0
 
 clients_from : (decl : Declaration) (a n : ℕ) (rs : List Record) (p : Prepared) → all_fit decl a n rs ≡ true
     → In (records.Prepare p) rs → p.tx.client < decl.clients
 clients_from decl a n [] p is there = absurd there
 clients_from decl a n (r ∷ rs) p is (inl same) =
-    let parts = both (fits decl a n r) (all_fit decl a (n + 1) rs) is in
+    let parts = and_parts (fits decl a n r) (all_fit decl a (n + 1) rs) is in
     prepare_client decl a n p (ap (fits decl a n) same ∙ parts.0)
 clients_from decl a n (r ∷ rs) p is (inr there) =
-    let parts = both (fits decl a n r) (all_fit decl a (n + 1) rs) is in
+    let parts = and_parts (fits decl a n r) (all_fit decl a (n + 1) rs) is in
     clients_from decl a (n + 1) rs p parts.1 there
 
 pub clients : (decl : Declaration) (a : ℕ) (rs : List Record) (p : Prepared) → IsAccepted decl
@@ -72,7 +69,7 @@ fit_more decl a n [] r is fit =
     and_more (fits decl a n r) true (let same : n + 0 ≡ n = omega arith in ap (λ k. fits decl a k r) (sym same) ∙ fit)
     refl
 fit_more decl a n (x ∷ rs) r is fit =
-    let parts = both (fits decl a n x) (all_fit decl a (n + 1) rs) is in
+    let parts = and_parts (fits decl a n x) (all_fit decl a (n + 1) rs) is in
     let same : n + length (x ∷ rs) ≡ (n + 1) + length rs = omega arith in
     and_more (fits decl a n x) (all_fit decl a (n + 1) (rs ++ r ∷ [])) parts.0
     (fit_more decl a (n + 1) rs r parts.1 (ap (λ k. fits decl a k r) (sym same) ∙ fit))
@@ -106,7 +103,7 @@ unfit_at decl a n (f ∷ front) body rest (r ∷ rs) legal same never =
     either true is = is
     either false is = refl
 
-length_bodies : (rs : List Record) → length (bodies_of rs) ≡ length rs
+pub length_bodies : (rs : List Record) → length (bodies_of rs) ≡ length rs
 length_bodies [] = refl
 length_bodies (r ∷ rs) = omega (arith, length_bodies rs)
 

@@ -12,7 +12,7 @@ use Rattle.qc_process.proofs.Going.{plain_on}
 use Rattle.qc_process.proofs.Plain.{ArePlain}
 use Rattle.qc_process.proofs.Told.{told_plain}
 
-plain_input : (input : Input) → ArePlain (step_of input ∷ [])
+pub plain_input : (input : Input) → ArePlain (step_of input ∷ [])
 plain_input (inputs.Called command) = (refl, tt)
 plain_input (inputs.Got envelope) = (refl, tt)
 plain_input (inputs.Lost number) = (refl, tt)

@@ -1,13 +1,13 @@
 -- An actor's own steps in a history that goes on, and the records that they keep.
-use Rattle.std.proofs.Common.{◌≡◌, ℕ, ◌+◌, ◌≤◌, ◌==◌, false, List, [], ◌∷◌, ◌++◌, length, refl, sym, ◌∙◌, ap, subst}
-use Rattle.std.proofs.Common.{append-nil, append_assoc, arith, length-append}
-use Rattle.std.proofs.lemmas.Bool.{eq-eqb}
+use Rattle.std.proofs.Common.{◌≡◌, ℕ, ◌+◌, ◌≤◌, List, [], ◌∷◌, ◌++◌, length, refl, sym, ◌∙◌, ap, subst, append-nil}
+use Rattle.std.proofs.Common.{append_assoc, arith, length-append}
 use Rattle.qc_decl.specs.declared.declaration.Declaration.{Declaration}
 use Rattle.qc_msg.specs.Vocabulary.{Entry, by, own}
 use Rattle.qc_msg.specs.declared.step.Step.{Step}
-use Rattle.qc_msg.proofs.DeedsGrow.{own-append}
+use Rattle.qc_msg.proofs.DeedsGrow.{own-append, own-by_same, length-by}
 use Rattle.qc_promise.specs.Vocabulary.{IsKeptOrUnfit, IsOfOthers, journal_of}
 use Rattle.qc_process.specs.Vocabulary.{AreKeptOrUnfit, Goes, journal_fits}
+use Rattle.qc_promise.proofs.Posts.{own_others as own_none}
 
 -- where a list with one more at its end is cut: at that one, or before it
 
@@ -31,21 +31,9 @@ cut_at {X = X} (y ∷ xs) x (b ∷ before) later s is = by_first (cc is) (cut_at
 
 -- own steps
 
-own_none : (a : ℕ) (h : List Entry) → IsOfOthers a h → own a h ≡ []
-own_none a [] none = refl
-own_none a (e ∷ h) none = rw none.0.0 (own_none a h none.1)
-
-own_by : (a : ℕ) (steps : List Step) → own a (by a steps) ≡ steps
-own_by a [] = refl
-own_by a (s ∷ steps) = rw (eq-eqb a a refl) (ap (λ (l : List Step). s ∷ l) (own_by a steps))
-
 pub own_others : (a : ℕ) (h others : List Entry) → IsOfOthers a others → own a (h ++ others) ≡ own a h
 own_others a h others none =
     own-append a h others ∙ ap (λ (l : List Step). own a h ++ l) (own_none a others none) ∙ append-nil (own a h)
-
-pub own_other : (a : ℕ) (h : List Entry) (e : Entry) → (e.actor == a) ≡ false → own a (h ++ e ∷ []) ≡ own a h
-own_other a h e other =
-    own-append a h (e ∷ []) ∙ ap (λ (l : List Step). own a h ++ l) (rw other refl) ∙ append-nil (own a h)
 
 pub own_goes : (a : ℕ) (h : List Entry) (steps : List Step) (now : List Entry) → Goes a h steps now
     → own a now ≡ own a h ++ steps
@@ -53,11 +41,7 @@ own_goes a h steps now goes =
     ap (own a) goes.now_is
     ∙ own-append a (h ++ goes.others) (by a steps)
     ∙ ap (λ (l : List Step). l ++ own a (by a steps)) (own_others a h goes.others goes.not_own)
-    ∙ ap (λ (l : List Step). own a h ++ l) (own_by a steps)
-
-length_by : (a : ℕ) (steps : List Step) → length (by a steps) ≡ length steps
-length_by a [] = refl
-length_by a (s ∷ steps) = omega (arith, length_by a steps)
+    ∙ ap (λ (l : List Step). own a h ++ l) (own-by_same a steps)
 
 pub longer : (a : ℕ) (h : List Entry) (steps : List Step) (now : List Entry) → Goes a h steps now
     → length h + length steps ≤ length now
@@ -68,7 +52,7 @@ longer a h steps now goes =
       whole,
       length-append (h ++ goes.others) (by a steps),
       length-append h goes.others,
-      length_by a steps,
+      length-by a steps,
     )
 
 -- each of these steps, behind those, leaves its actor's records or finds one that doesn't fit

@@ -19,8 +19,9 @@ use Rattle.qc_msg.proofs.Growth.{deeds-posted_as, same_deeds}
 use Rattle.qc_outside.specs.declared.disk.ArmKind.{ArmKind}
 use Rattle.qc_promise.specs.Vocabulary.{IsOfOthers}
 use Rattle.qc_process.specs.Vocabulary.{Goes, GoesArmed, IsProcess, IsStored, ProcessView}
-use Rattle.qc_process.proofs.Own.{own_other, own_others}
+use Rattle.qc_process.proofs.Own.{own_others}
 use Rattle.qc_process.proofs.GivenUp.{stored_past_others}
+use Rattle.qc_spent.proofs.OwnRecords.{own_other}
 
 others_deeds : (a : ℕ) (h others : List Entry) → IsOfOthers a others → deeds a [] (h ++ others) ≡ deeds a [] h
 others_deeds a h others none = same_deeds a [] h others (own_others a h others none)

@@ -1,7 +1,7 @@
 -- A journal that was opened gives its actor, or is given up.
 use Rattle.std.proofs.Common.{◌≡◌, inl, inr, ℕ, ◌-◌, ◌^◌, ◌≤◌, ◌<◌, Bool, true, false, List, [], ◌∷◌, ◌++◌, Option}
 use Rattle.std.proofs.Common.{Some, None, IsSome, Result, Ok, Err, Vec, IfOk, OnErr, IfSome, length, option_to_list}
-use Rattle.std.proofs.Common.{refl, sym, ◌∙◌, ap, subst, arith, if◌then◌else◌}
+use Rattle.std.proofs.Common.{refl, sym, ◌∙◌, ap, subst, arith}
 use Rattle.std.specs.declared.alloc.AllocError.{AllocError}
 use Rattle.std.specs.declared.alloc.Global.{Global}
 use Rattle.qc_core.proofs.ByNumber.{rises_by}
@@ -36,7 +36,7 @@ use Rattle.qc_process.specs.declared.opened.Opened.{Opened}
 use Rattle.qc_process.specs.declared.opened.Opened.TheVariants as opens
 use Rattle.qc_process.specs.declared.restart.Found.{Found}
 use Rattle.qc_process.specs.declared.restart.Found.TheVariants as found
-use Rattle.qc_process.proofs.Fit.{few}
+use Rattle.qc_process.proofs.Fit.{few, length_bodies}
 use Rattle.qc_process.proofs.Going.{bodies_more, own_account, soon_by}
 use Rattle.qc_process.proofs.Reopened.{length_lists}
 use Rattle.qc_process.proofs.Told.{told_around}
@@ -114,10 +114,6 @@ given_back j rs legal pending legal_rs one = by_pending j.pending refl pending o
 opening_calls : (rs : List Record) → of_bodies (bodies_of rs) ≡ of_opening rs
 opening_calls [] = refl
 opening_calls (r ∷ rs) = refl
-
-length_bodies : (rs : List Record) → length (bodies_of rs) ≡ length rs
-length_bodies [] = refl
-length_bodies (r ∷ rs) = omega (arith, length_bodies rs)
 
 pub few_bodies : (decl : Declaration) (a : ℕ) (bodies : List (Vec ℕ Global)) (rs : List Record)
     → ReadsFit decl a (lists bodies) rs → length bodies ≤ most_records

@@ -1,15 +1,15 @@
 -- Posts in parts; how many records a store has, and that they are kept.
-use Rattle.std.proofs.Common.{◌≡◌, ℕ, ◌+◌, ◌^◌, ◌<◌, ◌≤◌, ◌==◌, Bool, true, List, [], ◌∷◌, ◌++◌, Option, Some, None}
-use Rattle.std.proofs.Common.{IfSome, length, refl, sym, ◌∙◌, ap, arith, append_assoc, append-nil}
+use Rattle.std.proofs.Common.{◌≡◌, ℕ, ◌+◌, ◌^◌, ◌<◌, ◌≤◌, Bool, List, [], ◌∷◌, ◌++◌, Option, Some, None, IfSome, length}
+use Rattle.std.proofs.Common.{refl, sym, ◌∙◌, ap, arith, append_assoc, append-nil}
 use Rattle.std.proofs.lemmas.Bool.{eq-eqb}
 use Rattle.qc_decl.specs.declared.declaration.Declaration.{Declaration}
 use Rattle.qc_msg.specs.Vocabulary.{Entry, by, own}
 use Rattle.qc_msg.specs.declared.step.Step.{Step}
 use Rattle.qc_msg.proofs.GrownMail.{by-append}
-use Rattle.qc_msg.proofs.DeedsGrow.{own-append}
 use Rattle.qc_promise.specs.Vocabulary.{IsKeptOrUnfit, Journal, journal_of}
 use Rattle.qc_process.specs.Vocabulary.{AreKeptOrUnfit, Goes, HasFewRecords, IsPlaced, IsStored, OpenJournal, StoreView}
 use Rattle.qc_process.specs.Vocabulary.{journal_fits}
+use Rattle.qc_spent.proofs.OwnRecords.{own_cut}
 
 pub posts_may_be_seen_in_parts : (a : ℕ) (h now : List Entry) (xs ys : List Step) → Goes a h (xs ++ ys) now
     → (mid : List Entry) × Goes a h xs mid × Goes a mid ys now
@@ -41,11 +41,6 @@ stores_take_one_record_more tells decl a h s short is =
     few_placed s s.journal is.records (length h) is.placed is.told_by.few short
 
 -- from each actor's own steps to the history
-
-own_cut : (a : ℕ) (before later : List Entry) (e : Entry) → (e.actor == a) ≡ true
-    → own a (before ++ e ∷ later) ≡ own a before ++ e.step ∷ own a later
-own_cut a before later e this =
-    own-append a before (e ∷ later) ∙ ap (λ (l : List Step). own a before ++ l) (rw this refl)
 
 pub kept_at : (decl : Declaration) (h : List Entry) → ((a : ℕ) → AreKeptOrUnfit decl a (own a h))
     → (before later : List Entry) (e : Entry) → before ++ e ∷ later ≡ h

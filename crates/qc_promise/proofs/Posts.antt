@@ -1,11 +1,13 @@
 -- The post of an input or of a rise ends where the next input is taken, at a line's fall, and at a rise.
-use Rattle.std.proofs.Common.{◌≡◌, ℕ, ◌+◌, List, [], ◌∷◌, ◌++◌, None, refl, sym, ap, subst}
+use Rattle.std.proofs.Common.{◌≡◌, ℕ, ◌+◌, List, [], ◌∷◌, ◌++◌, None, refl, sym, ap, subst, ◌∙◌, append_assoc}
 use Rattle.std.specs.Prelude.{map}
 use Rattle.std.specs.List.{filter_map}
 use Rattle.qc_msg.specs.declared.turn.Posting.{Posting}
-use Rattle.qc_msg.specs.Vocabulary.{Deed, Falls, Rises, Sends, Takes, Tells, Writes, sends_of}
+use Rattle.qc_msg.specs.Vocabulary.{Deed, Falls, Rises, Sends, Takes, Tells, Writes, sends_of, Entry, own}
 use Rattle.qc_promise.specs.Vocabulary.{Act, IsPostOf, Sent, Told, TurnDue, Wrote, fallen_in, posted_due, posted_next}
-use Rattle.qc_promise.specs.Vocabulary.{sent_by}
+use Rattle.qc_promise.specs.Vocabulary.{sent_by, Lines, learning, IsOfOthers, Kept}
+use Rattle.qc_entry.specs.declared.line.Line.{Line}
+use Rattle.qc_entry.proofs.Union.{union-nil}
 
 -- what comes after the post doesn't change it
 pub posted-more : (ys : List Deed) → posted_next ys ≡ [] → (xs : List Deed) → posted_next (xs ++ ys) ≡ posted_next xs
@@ -46,3 +48,15 @@ fallen_none (p ∷ ps) = fallen_none ps
 pub fallen_sent : (ps : List Posting) (acts : List Act) → fallen_in (map Sent ps ++ acts) ≡ fallen_in acts
 fallen_sent [] acts = refl
 fallen_sent (p ∷ ps) acts = fallen_sent ps acts
+
+pub learning-nil : (l : Lines) → learning l [] ≡ l
+learning-nil l = ap (λ (v : List Line). record l { since = v }) (union-nil l.since)
+
+pub own_others : (a : ℕ) (more : List Entry) → IsOfOthers a more → own a more ≡ []
+own_others a [] others = refl
+own_others a (e ∷ more) others = rw others.0.0 (own_others a more others.1)
+
+pub kept_part : (h k : List Entry) → Kept (h ++ k) → Kept h
+kept_part h k kept =
+    λ before later e is. kept before (later ++ k) e
+    (sym (append_assoc before (e ∷ later) k) ∙ ap (λ (es : List Entry). es ++ k) is)

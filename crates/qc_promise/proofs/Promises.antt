@@ -1,12 +1,12 @@
 -- The promises among records that no later record redeems are those that are left where each record in turn drops what
 -- it redeems.
 use Rattle.std.proofs.Common.{◌≡◌, Bool, true, false, not, cond, ◌||◌, List, [], ◌∷◌, ◌++◌, filter, fold, refl, ap, sym}
-use Rattle.std.proofs.Common.{subst, ◌∙◌, append_assoc}
+use Rattle.std.proofs.Common.{◌∙◌, append_assoc}
 use Rattle.std.specs.List.{list_any}
 use Rattle.std.proofs.lemmas.List.{append-nil}
 use Rattle.qc_stamp.specs.declared.stamp.TxId.{TxId}
 use Rattle.qc_stamp.specs.Vocabulary.{same_tx}
-use Rattle.qc_stamp.proofs.Orders.{other_tx_sym, same_tx_is, same_tx_itself}
+use Rattle.qc_stamp.proofs.Orders.{same_tx_turned}
 use Rattle.qc_entry.specs.declared.record.Prepared.{Prepared}
 use Rattle.qc_msg.specs.declared.record.Record.{Record}
 use Rattle.qc_msg.specs.declared.record.Record.TheVariants as journals
@@ -69,14 +69,6 @@ redeems_all r rs all (p ∷ ps) =
     ap (λ (b : Bool). cond (b || list_any (redeems p.tx) rs) [] (p ∷ []) ++ still (r ∷ rs) ps) (all p.tx)
     ∙ redeems_all r rs all ps
 
--- names are of one transaction either way round
-pub either_way : (a b : TxId) → same_tx a b ≡ same_tx b a
-either_way a b = by (same_tx a b) refl
-  where
-    by : (t : Bool) → same_tx a b ≡ t → t ≡ same_tx b a
-    by true is = sym (subst (λ (c : TxId). same_tx c a ≡ true) (same_tx_is a b is) (same_tx_itself a))
-    by false is = sym (other_tx_sym a b is)
-
 pub promises_left : (ps : List Prepared) (rs : List Record) → still rs ps ++ promises_of rs ≡ fold promises_with ps rs
 promises_left ps [] = append-nil (still [] ps) ∙ still_all ps
 promises_left ps (journals.Life ∷ rs) =
@@ -84,7 +76,7 @@ promises_left ps (journals.Life ∷ rs) =
     ∙ promises_left ps rs
 promises_left ps (journals.Prepare p ∷ rs) =
     ap (λ (l : List Prepared). l ++ (unless_redeemed rs p ++ promises_of rs))
-    (redeems_one (journals.Prepare p) rs p.tx (λ tx. either_way p.tx tx) ps)
+    (redeems_one (journals.Prepare p) rs p.tx (λ tx. same_tx_turned p.tx tx) ps)
     ∙ sym (append_assoc (still rs (other_promises ps p.tx)) (unless_redeemed rs p) (promises_of rs))
     ∙ ap (λ (l : List Prepared). (still rs (other_promises ps p.tx) ++ l) ++ promises_of rs)
     (sym (append-nil (unless_redeemed rs p)))
@@ -92,7 +84,7 @@ promises_left ps (journals.Prepare p ∷ rs) =
     ∙ promises_left (promises_with ps (journals.Prepare p)) rs
 promises_left ps (journals.Done tx clock ∷ rs) =
     ap (λ (l : List Prepared). l ++ promises_of rs)
-    (redeems_one (journals.Done tx clock) rs tx (λ t. either_way tx t) ps)
+    (redeems_one (journals.Done tx clock) rs tx (λ t. same_tx_turned tx t) ps)
     ∙ promises_left (promises_with ps (journals.Done tx clock)) rs
 promises_left ps (journals.Close epoch ∷ rs) =
     ap (λ (l : List Prepared). l ++ promises_of rs) (redeems_none (journals.Close epoch) rs (λ tx. refl) ps)

@@ -1,7 +1,7 @@
 -- The reply that is due to a command of the administrator: that of the first row that applies. And the decision that he
 -- is to write, once all that the command asked for is answered or lost.
-use Rattle.std.specs.Prelude.{ℕ, ◌+◌, ◌==◌, ◌&&◌, ◌^◌, nat_le, if◌then◌else◌, Bool, true, false, List, [], filter}
-use Rattle.std.specs.Prelude.{length, map, sum_by, Option, Some, None, is_some, option_and_then}
+use Rattle.std.specs.Prelude.{ℕ, ◌+◌, ◌==◌, ◌&&◌, nat_le, if◌then◌else◌, Bool, true, false, List, [], filter}
+use Rattle.std.specs.Prelude.{length, map, Option, Some, None, is_some, option_and_then}
 use Rattle.std.specs.List.{list_all}
 use Rattle.std.specs.Option.{option_map_or}
 use Rattle.qc_plan.specs.Vocabulary.{verdict}
@@ -14,14 +14,11 @@ use Rattle.qc_msg.specs.declared.reply.Reply.{Reply}
 use Rattle.qc_msg.specs.declared.reply.Reply.TheVariants as replies
 use Rattle.qc_msg.specs.declared.step.Command.{Command}
 use Rattle.qc_msg.specs.Vocabulary.{epoch_in, epoch_length, has_installed}
+pub use Rattle.qc_msg.specs.Vocabulary.{site_set}
 use Rattle.qc_msg.specs.declared.payload.EpochStart.{EpochStart}
 use Rattle.qc_promise.specs.AdminAccount.{AdminAccount, AdminRequest, answer_to, decided_epoch, installs}
 use Rattle.qc_promise.specs.AdminRounds.{Promised, ToldShut, all_answered, close_round, decision_due, first_doubt}
 use Rattle.qc_promise.specs.AdminRounds.{shuts_told}
-
--- sites as a set: site k is bit k
-abbrev pub site_set : List ℕ → ℕ
-site_set sites = sum_by (λ (site : ℕ). 2 ^ site) sites
 
 -- Installs went to all sites, and each is answered or lost: the sites that closed, and those that installed
 

@@ -1,6 +1,6 @@
 -- Bytes that end within a spelling are refused at their end.
-use Rattle.std.proofs.Common.{◌≡◌, ◌⊎◌, inl, inr, ℕ, ◌+◌, ◌-◌, ◌<◌, ◌≤◌, Bool, true, false, ◌&&◌, nat_lt, List, [], ◌∷◌}
-use Rattle.std.proofs.Common.{◌++◌, length, take, Option, Some, None, Result, Ok, Err, refl, ap, ◌∙◌, arith}
+use Rattle.std.proofs.Common.{◌≡◌, ◌⊎◌, inl, inr, ℕ, ◌+◌, ◌-◌, ◌<◌, ◌≤◌, Bool, true, false, nat_lt, List, [], ◌∷◌, ◌++◌}
+use Rattle.std.proofs.Common.{length, take, Option, Some, None, Result, Ok, Err, refl, ap, ◌∙◌, arith}
 use Rattle.std.proofs.Math.Seq.{take-append-add}
 use Rattle.std.proofs.lemmas.List.{take-append-le, length-append, length-take-le}
 use Rattle.std.proofs.lemmas.Bool.Decides.{nat_tests}
@@ -8,11 +8,7 @@ use Rattle.byteorder.specs.Endian.{big_bytes}
 use Rattle.byteorder.specs.Numbers.{length-bytes_high_first}
 use Rattle.qc_record.specs.Vocabulary.{Form, both, counted, field, items_are_legal, items_at, items_spelled, number_at}
 use Rattle.qc_record.specs.Vocabulary.{shaped, ◌>>=◌}
-
-pub both_true : (a b : Bool) → (a && b) ≡ true → (a ≡ true) × (b ≡ true)
-both_true true true e = (refl, refl)
-both_true true false e = absurd cc
-both_true false b e = absurd cc
+use Rattle.qc_list.proofs.Booleans.{and_parts}
 
 -- what is spelled is read
 abbrev pub Again : {A : Type 0} → Form A → Type 0
@@ -63,7 +59,7 @@ field_cut width legal x n lawful inside =
 pub both_cut : {A B : Type 0} (first : Form A) (second : A → Form B) → Again first → Cut first
     → ((x : A) → Cut (second x)) → Cut (both first second)
 both_cut first second again one two x n legal inside =
-    let l = both_true _ _ legal in
+    let l = and_parts _ _ legal in
     let a = first.spelled x.0 in
     let b = (second x.0).spelled x.1 in
     elim (side a b n inside) [
@@ -76,7 +72,7 @@ both_cut first second again one two x n legal inside =
 pub shaped_cut : {A B : Type 0} (shape : A → B) (parts : B → A) (has_parts : B → Bool) (form : Form A) → Cut form
     → Cut (shaped shape parts has_parts form)
 shaped_cut shape parts has_parts form cut x n legal inside =
-    let l = both_true _ _ legal in
+    let l = and_parts _ _ legal in
     ends_first (form.read (take n (form.spelled (parts x)))) _ (cut (parts x) n l.1 inside)
 
 items_cut : {A : Type 0} (item : Option A → Form A) → ((before : Option A) → Again (item before))
@@ -87,7 +83,7 @@ items_cut : {A : Type 0} (item : Option A → Form A) → ((before : Option A) �
 unfolding items_at
 items_cut item again cut before [] n legal inside = absurd (omega (arith, inside))
 items_cut item again cut before (x ∷ xs) n legal inside =
-    let l = both_true _ _ legal in
+    let l = and_parts _ _ legal in
     let a = (item before).spelled x in
     let b = items_spelled item (Some x) xs in
     elim (side a b n inside) [
@@ -103,7 +99,7 @@ pub counted_cut : {A : Type 0} (width : ℕ) (is_count : ℕ → Bool) (item : O
     → Again (field width is_count) → ((before : Option A) → Again (item before))
     → ((before : Option A) → Cut (item before)) → Cut (counted width is_count item)
 counted_cut width is_count item counts again cut xs n legal inside =
-    let l = both_true _ _ legal in
+    let l = and_parts _ _ legal in
     let a = big_bytes width (length xs) in
     let b = items_spelled item None xs in
     elim (side a b n inside) [

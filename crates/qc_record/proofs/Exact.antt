@@ -18,11 +18,12 @@ use Rattle.qc_record.specs.Vocabulary.{prepared_of, prepared_parts, response_for
 use Rattle.qc_record.specs.Vocabulary.{stamp_clock_form, start_clock_form, start_form, tied, top, tops, tx_form, tx_of}
 use Rattle.qc_record.specs.Vocabulary.{tx_parts, within}
 use Rattle.qc_record.proofs.Numbers.{IsWidth}
-use Rattle.qc_record.proofs.Cuts.{both_true}
 use Rattle.qc_record.proofs.Exactness.{IsExact, IsShape, field_exact, both_exact, shaped_exact, counted_exact}
+use Rattle.qc_list.proofs.Booleans.{and_parts}
+use Rattle.qc_list.proofs.Numbers.{number_same}
 
 pub at_most : (low high n : ℕ) → within low high n ≡ true → n ≤ high
-at_most low high n e = let high_is : nat_le n high ≡ true = (both_true (nat_le low n) (nat_le n high) e).1 in
+at_most low high n e = let high_is : nat_le n high ≡ true = (and_parts (nat_le low n) (nat_le n high) e).1 in
     grind (arith, nat_tests, high_is)
 
 within_exact : (width low high : ℕ) → IsWidth width → high < 256 ^ width → IsExact (field width (within low high))
@@ -33,13 +34,13 @@ climbs_exact : (width low high : ℕ) (floor : List ℕ) → IsWidth width → h
     → IsExact (field width (climbs low high floor))
 climbs_exact width low high floor wide small =
     field_exact width (climbs low high floor) wide
-    (λ n e. let most = at_most low high n (both_true _ _ e).0 in omega (arith, most, small))
+    (λ n e. let most = at_most low high n (and_parts _ _ e).0 in omega (arith, most, small))
 
 tops_exact : (width low high : ℕ) (floor : List ℕ) → IsWidth width → high < 256 ^ width
     → IsExact (top width low high floor)
 tops_exact width low high floor wide small =
     field_exact width (tops low high floor) wide
-    (λ n e. let most = at_most low high n (both_true _ _ e).0 in omega (arith, most, small))
+    (λ n e. let most = at_most low high n (and_parts _ _ e).0 in omega (arith, most, small))
 
 climb_exact : {B : Type 0} (width low high : ℕ) (floor : List ℕ) (next : List ℕ → Form B) → IsWidth width
     → high < 256 ^ width → ((rest : List ℕ) → IsExact (next rest)) → IsExact (climb width low high floor next)
@@ -136,9 +137,6 @@ op_exact before = shaped_exact op_of op_parts always _
 
 pub same_number : (a b : ℕ) → (a == b) ≡ true → a ≡ b
 same_number a b e = grind (arith, nat_tests, e)
-
-number_same : (a : ℕ) → (a == a) ≡ true
-number_same a = grind (arith, nat_tests)
 
 line_back : (l : Line) → is_own_stamp l ≡ true → line_of (line_parts l) ≡ l
 line_back l e = let same : l.stamp.client ≡ l.tx.client = same_number _ _ e in

@@ -1,7 +1,7 @@
 -- Each form reads exactly what it spells.
-use Rattle.std.proofs.Common.{◌≡◌, ◌⊎◌, inl, inr, ℕ, zero, suc, ◌+◌, ◌^◌, ◌<◌, ◌≤◌, Bool, true, false, cond, ◌&&◌}
-use Rattle.std.proofs.Common.{nat_lt, nat_eq, List, [], ◌∷◌, ◌++◌, length, take, drop, Option, Some, None, Result, Ok}
-use Rattle.std.proofs.Common.{Err, refl, sym, ap, subst, ◌∙◌, append_assoc, arith}
+use Rattle.std.proofs.Common.{◌≡◌, ◌⊎◌, inl, inr, ℕ, zero, suc, ◌+◌, ◌^◌, ◌<◌, ◌≤◌, Bool, true, false, cond, nat_lt}
+use Rattle.std.proofs.Common.{nat_eq, List, [], ◌∷◌, ◌++◌, length, take, drop, Option, Some, None, Result, Ok, Err}
+use Rattle.std.proofs.Common.{refl, sym, ap, subst, ◌∙◌, append_assoc, arith}
 use Rattle.std.proofs.lemmas.List.{drop_at, take-append-drop, length-append, get_or-drop, append-nil}
 use Rattle.std.proofs.lemmas.Bool.Decides.{nat_tests}
 use Rattle.std.proofs.Math.Nat.{mod-eq_of_lt}
@@ -9,8 +9,10 @@ use Rattle.byteorder.specs.Endian.{big_number, big_bytes}
 use Rattle.byteorder.specs.Numbers.{big_from-bytes, length-bytes_high_first}
 use Rattle.qc_record.specs.Vocabulary.{Form, IsBytes, all_of, both, counted, field, items_are_legal, items_at}
 use Rattle.qc_record.specs.Vocabulary.{items_spelled, nothing, number_at, shaped, ◌>>=◌}
-use Rattle.qc_record.proofs.Cuts.{both_cut, both_true, counted_cut, field_cut, shaped_cut}
+use Rattle.qc_record.proofs.Cuts.{both_cut, counted_cut, field_cut, shaped_cut}
 use Rattle.qc_record.proofs.Numbers.{IsWidth, back}
+use Rattle.qc_list.proofs.Booleans.{and_parts}
+use Rattle.std.proofs.lemmas.Bool.{and_from}
 
 IsBytes-drop : (n : ℕ) (bytes : List ℕ) → IsBytes bytes → IsBytes (drop n bytes)
 IsBytes-drop n bytes h i = rw get_or-drop (h (n + i))
@@ -26,9 +28,6 @@ done x = Ok x
 
 pub ok_is : {A : Type 0} (x y : A) → done x ≡ done y → x ≡ y
 ok_is x y e = cc
-
-pub true_both : (a b : Bool) → a ≡ true → b ≡ true → (a && b) ≡ true
-true_both a b p q = rw (p, q) refl
 
 -- what a reader took from the front
 pub record Takes (bytes text rest : List ℕ) : Type 0 where
@@ -55,7 +54,7 @@ pub record IsExact {A : Type 0} (form : Form A) : Type 0 where
 
 -- a number
 
-chosen : {X : Type 0} (b : Bool) (x y z : X) → cond b x y ≡ z → ((b ≡ true) × (x ≡ z)) ⊎ ((b ≡ false) × (y ≡ z))
+pub chosen : {X : Type 0} (b : Bool) (x y z : X) → cond b x y ≡ z → ((b ≡ true) × (x ≡ z)) ⊎ ((b ≡ false) × (y ≡ z))
 chosen true x y z e = inl (refl, e)
 chosen false x y z e = inr (refl, e)
 
@@ -117,14 +116,14 @@ both_taken {A = A} {B = B} first second one two bytes x fits e =
     subst (λ (y : (A × B) × List ℕ). IsTaken (both first second) bytes y.0 y.1) (ok_is made x b.2)
     (record {
       takes = then_takes bytes (first.spelled a.0.0) a.0.1 ((second a.0.0).spelled b.0.0) b.0.1 t.takes u.takes;
-      legal = true_both _ _ t.legal u.legal;
+      legal = and_from _ _ t.legal u.legal;
     })
 
 both_again : {A B : Type 0} (first : Form A) (second : A → Form B) → IsExact first → ((x : A) → IsExact (second x))
     → (x : A × B) (rest : List ℕ) → (both first second).is_legal x ≡ true
     → (both first second).read ((both first second).spelled x ++ rest) ≡ Ok (x, rest)
 both_again first second one two x rest legal =
-    let l = both_true _ _ legal in
+    let l = and_parts _ _ legal in
     let p : first.read ((first.spelled x.0 ++ (second x.0).spelled x.1) ++ rest) ≡ Ok
     (x.0, (second x.0).spelled x.1 ++ rest) =
     ap first.read (append_assoc (first.spelled x.0) ((second x.0).spelled x.1) rest)
@@ -164,10 +163,10 @@ shaped_exact {A = A} {B = B} shape parts has_parts form same exact = record {
               ∙ ap (λ (l : List ℕ). l ++ a.0.1) (sym spelling);
           rest_fits = t.takes.rest_fits;
         };
-        legal = true_both _ _ (same.has a.0.0) lawful;
+        legal = and_from _ _ (same.has a.0.0) lawful;
       });
   again = λ x rest legal.
-      let l = both_true _ _ legal in
+      let l = and_parts _ _ legal in
       ap (λ r. r >>= λ p. Ok (shape p.0, p.1)) (exact.again (parts x) rest l.1)
       ∙ ap (λ (b : B). Ok (b, rest)) (same.back x l.0);
   cut = shaped_cut shape parts has_parts form exact.cut;
@@ -196,7 +195,7 @@ items_taken {A = A} item exact before (suc count) bytes x fits e =
       then_takes bytes ((item before).spelled a.0.0) a.0.1
           (items_spelled item (Some a.0.0) b.0.0) b.0.1 first.takes second.0,
       ap suc second.1,
-      true_both _ _ first.legal second.2,
+      and_from _ _ first.legal second.2,
     )
 
 items_again : {A : Type 0} (item : Option A → Form A) → ((before : Option A) → IsExact (item before))
@@ -205,7 +204,7 @@ items_again : {A : Type 0} (item : Option A → Form A) → ((before : Option A)
 unfolding items_at
 items_again item exact before [] rest legal = refl
 items_again item exact before (x ∷ xs) rest legal =
-    let l = both_true _ _ legal in
+    let l = and_parts _ _ legal in
     let behind = items_spelled item (Some x) xs ++ rest in
     let p : (item before).read (((item before).spelled x ++ items_spelled item (Some x) xs) ++ rest) ≡ Ok (x, behind) =
     ap (item before).read (append_assoc ((item before).spelled x) (items_spelled item (Some x) xs) rest)
@@ -227,10 +226,10 @@ counted_exact {A = A} width is_count item numbers exact = record {
       record {
         takes = then_takes bytes (big_bytes width (length x.0)) a.0.1
             (items_spelled item None x.0) x.1 first u.0;
-        legal = true_both _ _ (ap is_count u.1 ∙ t.legal) u.2;
+        legal = and_from _ _ (ap is_count u.1 ∙ t.legal) u.2;
       };
   again = λ xs rest legal.
-      let l = both_true _ _ legal in
+      let l = and_parts _ _ legal in
       let behind = items_spelled item None xs ++ rest in
       let p : number_at width is_count ((big_bytes width (length xs) ++ items_spelled item None xs) ++ rest) ≡ Ok
       (length xs, behind) = ap (number_at width is_count)

@@ -5,7 +5,6 @@ use Rattle.std.proofs.Common.{ap, ◌∙◌, arith}
 use Rattle.std.proofs.lemmas.List.{take_more}
 use Rattle.std.proofs.lemmas.Bool.Decides.{nat_tests}
 use Rattle.std.specs.List.{AllByRecursion as Every}
-use Rattle.std.specs.Cmp.{nat_cmp_is}
 use Rattle.std.specs.Ordering.{nat_cmp, ordering_then}
 use Rattle.std.specs.declared.cmp.Ordering.{Ordering}
 use Rattle.std.specs.declared.cmp.Ordering.TheVariants.{Less, Equal, Greater}
@@ -18,15 +17,16 @@ use Rattle.qc_list.proofs.Order.{below_trans}
 use Rattle.qc_record.specs.Vocabulary.{IsBytes, climbs, from_client, from_event, from_life, from_number, from_object}
 use Rattle.qc_record.specs.Vocabulary.{from_op, is_own_stamp, items_are_legal, line_floor, line_form, line_numbers}
 use Rattle.qc_record.specs.Vocabulary.{line_parts, lines_form, tied, within}
-use Rattle.qc_record.proofs.Cuts.{both_true}
 use Rattle.qc_record.proofs.Exact.{same_number, lines_exact}
+use Rattle.qc_list.proofs.Booleans.{and_parts}
+use Rattle.qc_list.proofs.Numbers.{cmp_below, cmp_same}
 
 -- the first number is below, or they tie and the rest holds
 abbrev pub Rise : ℕ → ℕ → Type 0 → Type 0
 Rise a b P = (a < b) ⊎ ((a ≡ b) × P)
 
 climbs_least : (low high a b : ℕ) (floor : List ℕ) → climbs low high (a ∷ floor) b ≡ true → a ≤ b
-climbs_least low high a b floor e = let at : nat_le a b ≡ true = (both_true (within low high b) (nat_le a b) e).1 in
+climbs_least low high a b floor e = let at : nat_le a b ≡ true = (and_parts (within low high b) (nat_le a b) e).1 in
     grind (arith, nat_tests, at)
 
 rise_by : {P : Type 0} (a b : ℕ) (floor : List ℕ) (test : List ℕ → Bool) (t : Bool) → a ≤ b → nat_eq a b ≡ t
@@ -37,18 +37,12 @@ rise_by a b floor test false least e rest goes = let apart : a < b = grind (arit
 pub rise : {P : Type 0} (low high a b : ℕ) (floor : List ℕ) (test : List ℕ → Bool)
     → (climbs low high (a ∷ floor) b && test (tied (a ∷ floor) b)) ≡ true → (test floor ≡ true → P) → Rise a b P
 rise low high a b floor test legal goes =
-    let l = both_true (climbs low high (a ∷ floor) b) (test (tied (a ∷ floor) b)) legal in
+    let l = and_parts (climbs low high (a ∷ floor) b) (test (tied (a ∷ floor) b)) legal in
     rise_by a b floor test (nat_eq a b) (climbs_least low high a b floor l.0) refl l.1 goes
 
-pub less : (a b : ℕ) → a < b → nat_cmp a b ≡ Less
-less a b h = sym (nat_cmp_is a b Less h)
-
-pub equal : (a b : ℕ) → a ≡ b → nat_cmp a b ≡ Equal
-equal a b h = sym (nat_cmp_is a b Equal h)
-
 then_less : (a b : ℕ) (o : Ordering) → Rise a b (o ≡ Less) → ordering_then (nat_cmp a b) o ≡ Less
-then_less a b o (inl h) = ap (λ x. ordering_then x o) (less a b h)
-then_less a b o (inr h) = ap (λ x. ordering_then x o) (equal a b h.0) ∙ h.1
+then_less a b o (inl h) = ap (λ x. ordering_then x o) (cmp_below a b h)
+then_less a b o (inr h) = ap (λ x. ordering_then x o) (cmp_same a b h.0) ∙ h.1
 
 assoc : (x y z : Ordering) → ordering_then (ordering_then x y) z ≡ ordering_then x (ordering_then y z)
 assoc Less y z = refl
@@ -63,8 +57,8 @@ rise_map a b f (inr h) = inr (h.0, f h.1)
 twice : (s t a b : ℕ) (o : Ordering) → s ≡ a → t ≡ b → Rise a b (o ≡ Less)
     → ordering_then (nat_cmp s t) (ordering_then (nat_cmp a b) o) ≡ Less
 twice s t a b o p q (inl h) = ap (λ x. ordering_then x (ordering_then (nat_cmp a b) o))
-    (less s t (omega (arith, p, q, h)))
-twice s t a b o p q (inr h) = ap (λ x. ordering_then x (ordering_then (nat_cmp a b) o)) (equal s t (p ∙ h.0 ∙ sym q))
+    (cmp_below s t (omega (arith, p, q, h)))
+twice s t a b o p q (inr h) = ap (λ x. ordering_then x (ordering_then (nat_cmp a b) o)) (cmp_same s t (p ∙ h.0 ∙ sym q))
     ∙ then_less a b o (inr h)
 
 -- the order of lines, number by number
@@ -113,21 +107,21 @@ above a l own_a own_l legal =
     (λ h4.
     then_less _ _ _ (rise _ _ a.op l.op j_floor (λ f. (from_object f).is_legal (l.object, l.event)) h4 (λ h5.
     then_less _ _ _ (rise _ _ a.object l.object e_floor (λ f. (from_event f).is_legal l.event) h5 (λ h6.
-    let last : nat_lt a.event l.event ≡ true = (both_true _ _ h6).1 in
-    less a.event l.event (grind (arith, nat_tests, last))))))))))))))
+    let last : nat_lt a.event l.event ≡ true = (and_parts _ _ h6).1 in
+    cmp_below a.event l.event (grind (arith, nat_tests, last))))))))))))))
 
 own_of_legal : (before : Option Line) (l : Line) → (line_form before).is_legal l ≡ true → is_own_stamp l ≡ true
-own_of_legal before l legal = (both_true _ _ legal).0
+own_of_legal before l legal = (and_parts _ _ legal).0
 
 pub ascends : (before : Option Line) (xs : List Line) → items_are_legal line_form before xs ≡ true → IsAscending xs
 ascends before [] legal = tt
 ascends before (x ∷ []) legal = (tt, tt)
 ascends before (x ∷ y ∷ ys) legal =
-    let l = both_true _ _ legal in
-    let m = both_true _ _ l.1 in
+    let l = and_parts _ _ legal in
+    let m = and_parts _ _ l.1 in
     let rest = ascends (Some x) (y ∷ ys) l.1 in
     let first : line_cmp x y ≡ Less = above x y (own_of_legal before x l.0) (own_of_legal (Some x) y m.0)
-    (both_true _ _ m.0).1 in
+    (and_parts _ _ m.0).1 in
     ((first, below_trans line_cmp lines_are_ordered.total x y ys first rest.0), rest)
 
 below_at : (x : Line) (xs : List Line) (i : ℕ) (d : Line) → IsBelowAll line_cmp x xs → i < length xs
@@ -158,4 +152,4 @@ one_more xs i d old new ascending inside so_far add = add ∙ ap (λ t. union t 
 pub read_ascends : (bytes : List ℕ) (lines : List Line) (rest : List ℕ) → IsBytes bytes
     → lines_form.read bytes ≡ Ok (lines, rest) → IsAscending lines
 read_ascends bytes lines rest fits e = ascends None lines
-    (both_true _ _ (lines_exact.taken bytes (lines, rest) fits e).legal).1
+    (and_parts _ _ (lines_exact.taken bytes (lines, rest) fits e).legal).1

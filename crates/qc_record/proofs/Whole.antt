@@ -1,6 +1,6 @@
 -- Bytes are read as a record exactly where they are its spelling.
-use Rattle.std.proofs.Common.{◌≡◌, ◌⊎◌, inl, inr, ℕ, suc, ◌+◌, Bool, true, false, cond, ◌==◌, List, [], ◌∷◌, length}
-use Rattle.std.proofs.Common.{Result, Ok, Err, refl, sym, ap, subst, ◌∙◌, arith}
+use Rattle.std.proofs.Common.{◌≡◌, inl, inr, ℕ, suc, ◌+◌, Bool, true, false, cond, ◌==◌, List, [], ◌∷◌, length, Result}
+use Rattle.std.proofs.Common.{Ok, Err, refl, sym, ap, subst, ◌∙◌, arith}
 use Rattle.std.specs.Prelude.{IfOk}
 use Rattle.std.proofs.lemmas.Bool.Decides.{nat_tests}
 use Rattle.qc_msg.specs.declared.record.Record.{Record}
@@ -10,7 +10,7 @@ use Rattle.qc_record.specs.declared.fault.RecordFault.TheVariants as faults
 use Rattle.qc_record.specs.Vocabulary.{Answers, Form, IsBytes, all_of, commit_form, decide_of, done_form, done_of}
 use Rattle.qc_record.specs.Vocabulary.{epoch_form, install_of, is_legal, nothing, placed, prepared_form, record_at}
 use Rattle.qc_record.specs.Vocabulary.{spelled, start_form, whole_at, ◌>>=◌}
-use Rattle.qc_record.proofs.Exactness.{IsExact, bind_ok, all_taken, all_again, nothing_exact}
+use Rattle.qc_record.proofs.Exactness.{IsExact, bind_ok, all_taken, all_again, nothing_exact, chosen}
 use Rattle.qc_record.proofs.Exact.{epoch_exact, prepared_exact, done_exact, start_exact, commit_exact}
 
 abbrev pub found : Record → Result Record RecordFault
@@ -18,10 +18,6 @@ found rec = Ok rec
 
 pub found_is : (a b : Record) → found a ≡ found b → a ≡ b
 found_is a b e = cc
-
-chosen : {X : Type 0} (b : Bool) (x y z : X) → cond b x y ≡ z → ((b ≡ true) × (x ≡ z)) ⊎ ((b ≡ false) × (y ≡ z))
-chosen true x y z e = inl (refl, e)
-chosen false x y z e = inr (refl, e)
 
 -- the shape is put on last
 shaped_all : {A : Type 0} (shape : A → Record) (read : Result (A × List ℕ) ℕ)

@@ -8,12 +8,13 @@ use Rattle.qc_commit.specs.Vocabulary.{record_of}
 use Rattle.qc_entry.specs.declared.record.Commit.{Commit}
 use Rattle.qc_list.specs.Vocabulary.{In}
 use Rattle.qc_lock.specs.Vocabulary.{same_tx}
-use Rattle.qc_lock.proofs.Entries.{find-none, same_self, tx_apart}
+use Rattle.qc_lock.proofs.Entries.{find-none}
 use Rattle.qc_msg.specs.declared.record.Record.{Record}
 use Rattle.qc_msg.specs.declared.record.Record.TheVariants as records
 use Rattle.qc_stamp.specs.declared.stamp.TxId.{TxId}
 use Rattle.qc_recover.specs.Vocabulary.{is_rise, with_commit}
 use Rattle.qc_recover.specs.Clients.{Kept, keeps, kept_by, nothing_kept}
+use Rattle.qc_stamp.proofs.Orders.{same_tx_itself, same_tx_is}
 
 pub kept_more : (rs more : List Record) → kept_by (rs ++ more) ≡ fold keeps (kept_by rs) more
 kept_more rs more = fold-append keeps nothing_kept rs more
@@ -40,7 +41,7 @@ lives_from k (r ∷ rs) =
 -- the record of a transaction
 
 find_last : (cs : List Commit) (c : Commit) → record_of cs c.tx ≡ None → record_of (cs ++ c ∷ []) c.tx ≡ Some c
-find_last [] c none = ap (λ b. cond b (Some c) None) (same_self c.tx)
+find_last [] c none = ap (λ b. cond b (Some c) None) (same_tx_itself c.tx)
 find_last (d ∷ ds) c none = by (same_tx d.tx c.tx) none (find_last ds c) where
   by : (b : Bool) → cond b (Some d) (record_of ds c.tx) ≡ None
       → (record_of ds c.tx ≡ None → record_of (ds ++ c ∷ []) c.tx ≡ Some c)
@@ -67,7 +68,7 @@ find_filtered (d ∷ ds) of tx other = by (same_tx d.tx of) refl (find_filtered 
   by : (b : Bool) → same_tx d.tx of ≡ b → record_of left tx ≡ record_of ds tx
       → record_of (cond (not b) (d ∷ left) left) tx ≡ record_of (d ∷ ds) tx
   by true same rest =
-      let apart : same_tx d.tx tx ≡ false = subst (λ t. same_tx t tx ≡ false) (sym (tx_apart d.tx of same)) other in
+      let apart : same_tx d.tx tx ≡ false = subst (λ t. same_tx t tx ≡ false) (sym (same_tx_is d.tx of same)) other in
       rest ∙ sym (ap (λ b. cond b (Some d) (record_of ds tx)) apart)
   by false same rest = ap (λ o. cond (same_tx d.tx tx) (Some d) o) rest
 
@@ -107,7 +108,7 @@ clock_grows k (records.Install start) = omega arith
 clock_grows k (records.Commit commit) = omega arith
 clock_grows k (records.Decide start) = omega arith
 
-clocks_grow : (k : Kept) (rs : List Record) → k.clock ≤ (fold keeps k rs).clock
+pub clocks_grow : (k : Kept) (rs : List Record) → k.clock ≤ (fold keeps k rs).clock
 clocks_grow k [] = omega arith
 clocks_grow k (r ∷ rs) = let here = clock_grows k r in let rest = clocks_grow (keeps k r) rs in omega arith
 

@@ -6,7 +6,7 @@ use Rattle.std.proofs.lemmas.List.Sums.{fold-append}
 use Rattle.qc_entry.specs.declared.record.Commit.{Commit}
 use Rattle.qc_stamp.specs.declared.stamp.TxId.{TxId}
 use Rattle.qc_stamp.specs.Vocabulary.{same_tx}
-use Rattle.qc_stamp.proofs.Orders.{same_tx_is, same_tx_itself}
+use Rattle.qc_stamp.proofs.Orders.{same_tx_is}
 use Rattle.qc_recover.specs.Vocabulary.{last_of, with_commit}
 
 -- the records of transactions that weren't seen
@@ -73,17 +73,6 @@ seen_first seen more cs c is grown =
     ∙ ap (λ b. unseen seen (filter (λ (d : Commit). not (same_tx d.tx c.tx)) (last_of cs)) ++ cond (not b) (c ∷ []) [])
     is
     ∙ ap (λ ks. ks ++ c ∷ []) (unseen-more seen more c (last_of cs) grown)
-
--- the test of names is the same in both directions
-pub same_turned : (a b : TxId) → same_tx a b ≡ same_tx b a
-same_turned a b = by (same_tx a b) (same_tx b a) refl refl where
-  turned : (x y : TxId) → same_tx x y ≡ true → same_tx y x ≡ true
-  turned x y same = subst (λ z. same_tx z x ≡ true) (same_tx_is x y same) (same_tx_itself x)
-
-  by : (s t : Bool) → same_tx a b ≡ s → same_tx b a ≡ t → s ≡ t
-  by true t is other = sym (turned a b is) ∙ other
-  by false true is other = sym is ∙ turned b a other
-  by false false is other = refl
 
 -- nothing was seen
 pub seen_none : (seen : TxId → Bool) (cs : List Commit) → ((tx : TxId) → seen tx ≡ false) → unseen seen cs ≡ cs

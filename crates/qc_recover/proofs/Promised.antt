@@ -28,7 +28,7 @@ one_more k (records.Install start) p member = absurd member
 one_more k (records.Commit commit) p member = inl member
 one_more k (records.Decide start) p member = inl member
 
-from_records : (rs : List Record) (k : Kept) (p : Prepared) → In p (fold keeps k rs).promises
+pub from_records : (rs : List Record) (k : Kept) (p : Prepared) → In p (fold keeps k rs).promises
     → In p k.promises ⊎ In (records.Prepare p) rs
 from_records [] k p member = inl member
 from_records (r ∷ rs) k p member = by (from_records rs (keeps k r) p member) where

@@ -9,7 +9,7 @@ use Rattle.qc_list.specs.Vocabulary.{In}
 use Rattle.qc_lock.specs.declared.held.Held.{Held}
 use Rattle.qc_lock.specs.Vocabulary.{AreOfOthers, IsOneForEach, entry_of, held_of, is_held, same_tx, with_locks}
 use Rattle.qc_lock.specs.Vocabulary.{with_owns}
-use Rattle.qc_lock.proofs.Entries.{apart_sym, locks_given, others_stay, own_given, same_self}
+use Rattle.qc_lock.proofs.Entries.{locks_given, others_stay, own_given}
 use Rattle.qc_lock.proofs.Ones.{once-filter, once-put, put_last}
 use Rattle.qc_msg.specs.declared.record.Record.{Record}
 use Rattle.qc_msg.specs.declared.record.Record.TheVariants as records
@@ -19,6 +19,8 @@ use Rattle.qc_stamp.specs.declared.stamp.TxId.{TxId}
 use Rattle.qc_recover.specs.Vocabulary.{Kept, begins_life, clocks_in, clocks_of, keeps, kept_by, nothing_kept, site_by}
 use Rattle.qc_recover.specs.Vocabulary.{site_of, with_promise}
 use Rattle.qc_site.proofs.Promised.{promiser}
+use Rattle.qc_stamp.proofs.Orders.{same_tx_itself, other_tx_sym}
+use Rattle.qc_site.proofs.Clocks.{latest_later}
 
 pub kept_more : (rs more : List Record) → kept_by (rs ++ more) ≡ fold keeps (kept_by rs) more
 kept_more rs more = fold-append keeps nothing_kept rs more
@@ -53,7 +55,7 @@ lives_from k (r ∷ rs) =
 -- promises
 
 find_last : (ps : List Prepared) (p : Prepared) → prepared_of ps p.tx ≡ None → prepared_of (ps ++ p ∷ []) p.tx ≡ Some p
-find_last [] p none = ap (λ b. cond b (Some p) None) (same_self p.tx)
+find_last [] p none = ap (λ b. cond b (Some p) None) (same_tx_itself p.tx)
 find_last (q ∷ qs) p none = by (same_tx q.tx p.tx) none (find_last qs p) where
   by : (b : Bool) → cond b (Some q) (prepared_of qs p.tx) ≡ None
       → (prepared_of qs p.tx ≡ None → prepared_of (qs ++ p ∷ []) p.tx ≡ Some p)
@@ -126,7 +128,7 @@ held_from P held (q ∷ qs) p once (inl same) none here =
     subst (λ (r : Prepared). P (held_of (fold holds (holds held r) qs) p.tx)) same (subst P entry (here held none))
 held_from P held (q ∷ qs) p once (inr later) none here =
     held_from P (holds held q) qs p once.1 later
-    (others_stay held q.tx p.tx q.locks q.own (apart_sym p.tx q.tx (other_In qs q.tx p once.0 later)) ∙ none) here
+    (others_stay held q.tx p.tx q.locks q.own (other_tx_sym p.tx q.tx (other_In qs q.tx p once.0 later)) ∙ none) here
 
 pub locks_held : (rs : List Record) (p : Prepared) → In p (kept_by rs).promises
     → (held_of (held_by (kept_by rs).promises) p.tx).locks ≡ with_locks [] p.locks
@@ -162,21 +164,17 @@ just_held ps tx is = by (just_from [] ps tx is) where
 
 -- clocks
 
-latest_grows : (clock : ℕ) (lines : List Line) → clock ≤ latest clock lines
-latest_grows clock [] = omega arith
-latest_grows clock (l ∷ ls) = let rest = latest_grows (max clock l.stamp.clock) ls in omega arith
-
 latest_passes : (clock : ℕ) (lines : List Line) (c : ℕ) → In c (clocks_of lines) → c ≤ latest clock lines
 latest_passes clock [] c member = absurd member
-latest_passes clock (l ∷ ls) c (inl same) = let rest = latest_grows (max clock l.stamp.clock) ls in omega arith
+latest_passes clock (l ∷ ls) c (inl same) = let rest = latest_later (max clock l.stamp.clock) ls in omega arith
 latest_passes clock (l ∷ ls) c (inr later) = latest_passes (max clock l.stamp.clock) ls c later
 
 clock_grows : (k : Kept) (r : Record) → k.clock ≤ (keeps k r).clock
 clock_grows k records.Life = omega arith
-clock_grows k (records.Prepare p) = latest_grows k.clock p.lines
+clock_grows k (records.Prepare p) = latest_later k.clock p.lines
 clock_grows k (records.Done tx clock) = omega arith
 clock_grows k (records.Close epoch) = omega arith
-clock_grows k (records.Install start) = let rest = latest_grows k.clock start.lines in omega arith
+clock_grows k (records.Install start) = let rest = latest_later k.clock start.lines in omega arith
 clock_grows k (records.Commit commit) = omega arith
 clock_grows k (records.Decide start) = omega arith
 

@@ -9,7 +9,7 @@ use Rattle.qc_plan.specs.declared.fault.PlanFault.{PlanFault}
 use Rattle.qc_plan.specs.declared.fault.PlanFault.TheVariants as plan
 use Rattle.qc_table.specs.declared.fault.TableFault.{TableFault}
 use Rattle.qc_table.specs.declared.fault.TableFault.TheVariants as table
-use Rattle.qc_report.specs.Names.{name_at}
+use Rattle.qc_decl.specs.Vocabulary.{name_at}
 
 -- so many types, objects and epochs
 abbrev pub accepted_line : ℕ → ℕ → ℕ → List ℕ

@@ -1,17 +1,16 @@
 //! What is told of a declaration: what it has, or why it is refused.
 
 ghost use Rattle.std.specs.Prelude.{◌≡◌, ◌++◌, IfOk, OnOk, codes};
-ghost use Rattle.qc_report.specs.Names.{name_at};
+ghost use Rattle.qc_decl.specs.Names.{name_at};
 ghost use Rattle.qc_report.specs.Declarations.{accepted_text_of, accepted_line, refused_text, status_of_refused};
 ghost use Rattle.qc_report.specs.Declarations.{status_of_table, status_of_cert, table_text, cert_text, plan_text};
 ghost use Rattle.qc_report.specs.Declarations.{type_text, row_text, triple_text, uncovered_text, differs_text};
 ghost use Rattle.qc_report.specs.Declarations.{epoch_text, can_miss_text};
 
-use crate::names::name_at;
 use itoa::Buffer;
 use qc_accept::DeclFault;
 use qc_cert::CertFault;
-use qc_decl::{Declaration, Names};
+use qc_decl::{Declaration, Names, name_at};
 use qc_list::{OutOfMemory, Page};
 use qc_plan::PlanFault;
 use qc_table::TableFault;

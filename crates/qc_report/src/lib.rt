@@ -9,7 +9,6 @@
 
 mod cause;
 mod declaration;
-mod names;
 mod script;
 
 pub use cause::{Cause, cause_text};

@@ -10,22 +10,24 @@ use Rattle.qc_link.specs.Vocabulary.{most_actors}
 use Rattle.qc_msg.specs.declared.record.Record.{Record}
 use Rattle.qc_msg.specs.declared.reply.Reply.{Reply}
 use Rattle.qc_msg.specs.declared.step.Control.{Control}
-use Rattle.qc_msg.specs.declared.step.Control.TheVariants as controls
 use Rattle.qc_msg.specs.declared.step.Input.{Input}
-use Rattle.qc_msg.specs.declared.step.Input.TheVariants as given
 use Rattle.qc_msg.specs.declared.step.Step.{Step}
-use Rattle.qc_msg.specs.declared.step.Step.TheVariants as steps
 use Rattle.qc_msg.specs.declared.turn.Posting.{Posting}
 use Rattle.qc_msg.specs.declared.turn.Turn.{Turn}
-use Rattle.qc_msg.specs.Vocabulary.{Deed, Entry, by, mail, marked, posted, sents, step_of, told, wrote}
+use Rattle.qc_msg.specs.Vocabulary.{Deed, Entry, by, mail, marked, posted, sents, step_of, told, wrote, IsByDisk}
 use Rattle.qc_msg.proofs.GrownMail.{by-posted}
 use Rattle.qc_script.specs.Vocabulary.{Inbox, LeavesUp, Runs, acting, command_called, control_acted, copy_taken}
 use Rattle.qc_script.specs.Vocabulary.{everybody, inbox, inbox_at, is_up, loss_taken, opened, phase_begun, reply_told}
-use Rattle.qc_script.specs.Vocabulary.{step_of_control, wrote_record}
+use Rattle.qc_script.specs.Vocabulary.{step_of_control, wrote_record, is_by_line}
 use Rattle.qc_script.specs.Runs.{begins, takes, posts, phase, control}
 use Rattle.qc_script.specs.declared.script.PhaseLines.{PhaseLines}
 use Rattle.qc_script.specs.declared.script.Script.{Script}
 use Rattle.qc_script.proofs.InboxesSend.{opened_keeps, sends_does}
+use Rattle.qc_msg.specs.declared.step.Fall.{Fall}
+use Rattle.qc_msg.specs.declared.step.Control.TheVariants as controls
+use Rattle.qc_msg.specs.declared.step.Input.TheVariants as given
+use Rattle.qc_msg.specs.declared.step.Step.TheVariants as steps
+use Rattle.qc_msg.specs.declared.step.Fall.TheVariants as causes
 
 all_true : (n a : ℕ) → get_or (replicate n true) a true ≡ true
 all_true zero a = refl
@@ -51,7 +53,7 @@ Stays (steps.Fell cause pending) = ⊥
 Stays (steps.Rose records) = Unit {0}
 Stays (steps.Damaged offset) = Unit {0}
 
-opened_up : (a : ℕ) (i : Inbox) → (opened a i).up ≡ i.up
+pub opened_up : (a : ℕ) (i : Inbox) → (opened a i).up ≡ i.up
 opened_up a i = (opened_keeps a (acting i.up i.controls) (record i { controls = acting i.up i.controls })).up
 
 either_up : (t : Bool) (i j : Inbox) → j.up ≡ i.up → (if t then j else i).up ≡ i.up
@@ -163,3 +165,9 @@ acting-steady up (controls.Heal x y ∷ lines) steady = refl
 acting-steady up (controls.Armed actor kind at ∷ lines) steady = refl
 acting-steady up (controls.Crash r ∷ lines) steady = absurd steady.0
 acting-steady up (controls.Restart r ∷ lines) steady = absurd steady.0
+
+pub by_disk_down : (up : Bool) (cause : Fall) → up ≡ false → IsByDisk cause → is_by_line up cause ≡ true
+by_disk_down true cause down disk = absurd (let never : ⊥ = cc in never)
+by_disk_down false causes.Script down disk = refl
+by_disk_down false causes.Stop down disk = refl
+by_disk_down false causes.Disk down disk = refl

@@ -15,7 +15,7 @@ use Rattle.qc_script.specs.Runs.{begins, takes, posts, phase, control}
 use Rattle.qc_script.specs.RunsWithFalls as falling
 use Rattle.qc_script.specs.declared.script.Script.{Script}
 
-same_step : (line : Control) (step : Step) → step_of_control line ≡ Some step → controller_step line ≡ Some step
+pub same_step : (line : Control) (step : Step) → step_of_control line ≡ Some step → controller_step line ≡ Some step
 same_step (controls.Phase k) step is = is
 same_step (controls.Cut x y) step is = is
 same_step (controls.Heal x y) step is = is

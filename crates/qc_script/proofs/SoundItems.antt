@@ -1,9 +1,9 @@
 -- What a line asks for names what is declared, and has its numbers in range, where it is read.
-use Rattle.std.proofs.Common.{◌≡◌, ◌≢◌, ℕ, ◌+◌, ◌<◌, ◌≤◌, Bool, true, false, not, cond, Option, Some, None, refl, subst}
+use Rattle.std.proofs.Common.{◌≡◌, ◌≢◌, ℕ, ◌+◌, ◌<◌, Bool, true, false, not, cond, Option, Some, None, refl, subst}
 use Rattle.std.proofs.Common.{arith}
 use Rattle.std.specs.Prelude.{◌==◌, IsTrue, length, nat_le, nat_lt, option_map}
-use Rattle.std.proofs.lemmas.Bool.{and_from, and_parts, eq-eqb, le-leb, leb-true, lt-ltb, ltb-true}
-use Rattle.qc_decl.specs.Vocabulary.{administrator, client_actor, inv_named, is_between, is_client, object_named}
+use Rattle.std.proofs.lemmas.Bool.{and_from, eq-eqb, le-leb, lt-ltb, ltb-true}
+use Rattle.qc_decl.specs.Vocabulary.{administrator, client_actor, inv_named, is_client, object_named}
 use Rattle.qc_decl.specs.declared.declaration.Declaration.{Declaration}
 use Rattle.qc_link.specs.declared.plan.Link.{Link}
 use Rattle.qc_msg.specs.declared.step.Command.{Command}
@@ -23,6 +23,7 @@ use Rattle.qc_script.specs.declared.line.ScriptLine.TheVariants as lines
 use Rattle.qc_script.specs.declared.line.Verb.{Verb}
 use Rattle.qc_script.specs.declared.line.Verb.TheVariants as verbs
 use Rattle.qc_script.specs.declared.script.CommandLine.{CommandLine}
+use Rattle.qc_decl.proofs.Clients.{between}
 
 -- the names of an item are declared
 
@@ -153,10 +154,6 @@ IsItemFor decl (items.Link link) = IsLinkFor decl link
 IsItemFor decl (items.Control control) = IsControlFor decl control
 IsItemFor decl (items.Command line) = IsCommandFor decl line
 IsItemFor decl (items.Epoch actor number) = IsAskedFor decl actor (commands.Epoch number)
-
-between : (first last n : ℕ) → is_between first last n ≡ true → (first ≤ n) × (n ≤ last)
-between first last n is = let parts = and_parts (nat_le first n) (nat_le n last) is in
-    (leb-true first n parts.0, leb-true n last parts.1)
 
 two_apart : (a b : ℕ) → not (a == b) ≡ true → a ≢ b
 two_apart a b is = λ same. let equal : (a == b) ≡ true = eq-eqb a b same in absurd (let never : ⊥ = cc in never)

@@ -12,7 +12,7 @@ not_both {cmp = cmp} order x y less more =
     let turned : cmp x y ≡ Greater = order.total.antisymm x y ∙ ap ordering_reverse more in
     cc
 
-below_In : {A : Type 0} (cmp : A → A → Ordering) (x y : A) (ys : List A) → IsBelowAll cmp x ys → In y ys
+pub below_In : {A : Type 0} (cmp : A → A → Ordering) (x y : A) (ys : List A) → IsBelowAll cmp x ys → In y ys
     → cmp x y ≡ Less
 below_In cmp x y [] below member = absurd member
 below_In cmp x y (z ∷ zs) below (inl same) = subst (λ w. cmp x w ≡ Less) (sym same) below.0

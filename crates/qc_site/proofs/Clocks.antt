@@ -1,5 +1,5 @@
 -- The clock passes each stamp that comes, and never falls.
-use Rattle.std.proofs.Common.{◌≡◌, ◌⊎◌, inl, inr, ℕ, ◌≤◌, max, List, [], ◌∷◌, ◌++◌, fold, map, ap, arith}
+use Rattle.std.proofs.Common.{◌≡◌, ◌⊎◌, inl, inr, ℕ, ◌≤◌, max, List, [], ◌∷◌, fold, ap, arith}
 use Rattle.qc_list.specs.Vocabulary.{In}
 use Rattle.qc_stamp.specs.declared.stamp.Stamp.{Stamp}
 use Rattle.qc_entry.specs.declared.line.Line.{Line}
@@ -17,6 +17,7 @@ use Rattle.qc_site.specs.Vocabulary.{SiteMove, SiteState, clock_after, clock_ask
 use Rattle.qc_site.specs.Vocabulary.{passed, site_after, site_does, site_on, site_takes, stamps_at, stamps_given}
 use Rattle.qc_site.specs.Vocabulary.{stamps_in, stamps_of, stamps_taken, stamps_told, view_in}
 use Rattle.qc_site.proofs.Cases.{state_cases}
+use Rattle.qc_list.proofs.Members.{In-either}
 
 -- what a message does once the clock has passed leaves it as it is, or lets it rise
 pub clock_on : (decl : Declaration) (s : SiteState) (from number : ℕ) (message : Message)
@@ -30,7 +31,7 @@ clock_on decl s from number message =
 
 -- the latest of a clock and lines
 
-latest_later : (clock : ℕ) (lines : List Line) → clock ≤ latest clock lines
+pub latest_later : (clock : ℕ) (lines : List Line) → clock ≤ latest clock lines
 latest_later clock [] = omega arith
 latest_later clock (l ∷ ls) =
     let later : max clock l.stamp.clock ≤ latest (max clock l.stamp.clock) ls =
@@ -146,20 +147,11 @@ does_passes decl m (Tells reply) stamp member = absurd member
 does_passes decl m (Falls cause pending) stamp member = absurd member
 does_passes decl m (Rises records) stamp member = absurd member
 
-in_parts : {X : Type 0} (x : X) (xs ys : List X) → In x (xs ++ ys) → In x xs ⊎ In x ys
-in_parts x [] ys member = inr member
-in_parts x (z ∷ zs) ys (inl same) = inl (inl same)
-in_parts {X = X} x (z ∷ zs) ys (inr member) = by (in_parts x zs ys member)
-  where
-    by : In x zs ⊎ In x ys → In x (z ∷ zs) ⊎ In x ys
-    by (inl first) = inl (inr first)
-    by (inr second) = inr second
-
 deeds_pass : (decl : Declaration) (m : SiteMove) (ds : List Deed) (stamp : Stamp) → In stamp (stamps_taken ds)
     → stamp.clock ≤ (fold (site_does decl) m ds).site.clock
 deeds_pass decl m [] stamp member = absurd member
 deeds_pass decl m (d ∷ ds) stamp member =
-    by (in_parts stamp (stamps_at d) (stamps_taken ds) member) (deeds_pass decl (site_does decl m d) ds stamp)
+    by (In-either stamp (stamps_at d) (stamps_taken ds) member) (deeds_pass decl (site_does decl m d) ds stamp)
   where
     by : In stamp (stamps_at d) ⊎ In stamp (stamps_taken ds)
         → (In stamp (stamps_taken ds) → stamp.clock ≤ (fold (site_does decl) (site_does decl m d) ds).site.clock)

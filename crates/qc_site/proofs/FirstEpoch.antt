@@ -4,14 +4,11 @@ use Rattle.std.proofs.lemmas.Bool.{eqb-true}
 use Rattle.qc_entry.specs.declared.line.Line.{Line}
 use Rattle.qc_entry.specs.Vocabulary.{union, without}
 use Rattle.qc_site.specs.Vocabulary.{SiteState, learned}
-
-without_none : (lines : List Line) → without lines [] ≡ lines
-without_none [] = refl
-without_none (l ∷ ls) = ap (λ rest. l ∷ rest) (without_none ls)
+use Rattle.qc_entry.proofs.Without.{without-nil}
 
 pub learned_first : (s : SiteState) (lines : List Line) → s.began ≡ [] → union s.log lines ≡ learned s lines
 learned_first s lines none = sym (ap (λ (began : List Line). union s.log (without lines began)) none
-    ∙ ap (λ (ls : List Line). union s.log ls) (without_none lines))
+    ∙ ap (λ (ls : List Line). union s.log ls) (without-nil lines))
 
 pub no_lines : (lines : List Line) → (length lines == 0) ≡ true → lines ≡ []
 no_lines [] none = refl

@@ -7,7 +7,7 @@ use Rattle.std.specs.Ordering.{nat_cmp}
 use Rattle.qc_list.specs.Vocabulary.{In, by_order}
 use Rattle.qc_stamp.specs.declared.stamp.TxId.{TxId}
 use Rattle.qc_stamp.specs.Vocabulary.{same_tx}
-use Rattle.qc_stamp.proofs.Orders.{first_Equal, nat_apart, second_Equal}
+use Rattle.qc_stamp.proofs.Orders.{first_Equal, nat_apart, second_Equal, same_tx_is}
 use Rattle.qc_entry.specs.declared.line.Line.{Line}
 use Rattle.qc_entry.specs.declared.line.OwnLine.{OwnLine}
 use Rattle.qc_entry.specs.declared.line.ReadLock.{ReadLock}
@@ -17,7 +17,7 @@ use Rattle.qc_lock.specs.declared.held.Held.{Held}
 use Rattle.qc_lock.specs.Vocabulary.{entry_of, held_of, lock_cmp, own_cmp, with_held, with_lock, with_locks, with_own}
 use Rattle.qc_lock.specs.Vocabulary.{with_owns, without_held}
 use Rattle.qc_lock.proofs.Entries.{entry-without, entry-without_other, held-without_other, locks_given, others_stay}
-use Rattle.qc_lock.proofs.Entries.{own_given, tx_apart}
+use Rattle.qc_lock.proofs.Entries.{own_given}
 use Rattle.qc_msg.specs.declared.message.Message.{Message}
 use Rattle.qc_msg.specs.declared.message.Message.TheVariants as messages
 use Rattle.qc_msg.specs.declared.message.Outcome.{Outcome}
@@ -32,13 +32,13 @@ use Rattle.qc_site.proofs.Votes.{not_ended, prepared-without, prepared-without_o
 
 -- insertion keeps locks, and operations of own lines
 
-lock_apart : (a b : ReadLock) → lock_cmp a b ≡ Equal → a ≡ b
+pub lock_apart : (a b : ReadLock) → lock_cmp a b ≡ Equal → a ≡ b
 lock_apart a b h =
     let object : a.object ≡ b.object = nat_apart _ _ (first_Equal _ _ h) in
     let inv : a.inv ≡ b.inv = nat_apart _ _ (second_Equal (nat_cmp a.object b.object) _ h) in
     λ i. record { object = object i; inv = inv i }
 
-locked_more : (ls : List ReadLock) (lock x : ReadLock) → In x ls → In x (with_lock ls lock)
+pub locked_more : (ls : List ReadLock) (lock x : ReadLock) → In x ls → In x (with_lock ls lock)
 locked_more [] lock x member = absurd member
 locked_more (l ∷ ls) lock x member = by (lock_cmp lock l) refl (locked_more ls lock x) member
   where
@@ -50,7 +50,7 @@ locked_more (l ∷ ls) lock x member = by (lock_cmp lock l) refl (locked_more ls
     by Greater is rest (inl same) = inl same
     by Greater is rest (inr member) = inr (rest member)
 
-locks_more : (ls others : List ReadLock) (x : ReadLock) → In x ls → In x (with_locks ls others)
+pub locks_more : (ls others : List ReadLock) (x : ReadLock) → In x ls → In x (with_locks ls others)
 locks_more ls [] x member = member
 locks_more ls (o ∷ os) x member = locks_more (with_lock ls o) os x (locked_more ls o x member)
 
@@ -83,7 +83,7 @@ given_locks held tx other locks own x member = by (same_tx other tx) refl
   where
     by : (t : Bool) → same_tx other tx ≡ t → In x (held_of (with_held held other locks own) tx).locks
     by true is =
-        let same : tx ≡ other = sym (tx_apart other tx is) in
+        let same : tx ≡ other = sym (same_tx_is other tx is) in
         subst (λ (ls : List ReadLock). In x ls)
         (sym (subst (λ (t : TxId). (held_of (with_held held t locks own) tx).locks ≡ with_locks
         (held_of held tx).locks locks) same (locks_given held tx locks own)))
@@ -97,7 +97,7 @@ given_own held tx other locks own op has = by (same_tx other tx) refl
   where
     by : (t : Bool) → same_tx other tx ≡ t → HasOperation op (held_of (with_held held other locks own) tx).own
     by true is =
-        let same : tx ≡ other = sym (tx_apart other tx is) in
+        let same : tx ≡ other = sym (same_tx_is other tx is) in
         subst (λ (os : List OwnLine). HasOperation op os)
         (sym (subst (λ (t : TxId). (held_of (with_held held t locks own) tx).own ≡ with_owns (held_of held tx).own own)
         same (own_given held tx locks own)))

@@ -1,6 +1,6 @@
 -- The promised transactions, and the promises, in their order.
-use Rattle.std.proofs.Common.{◌≡◌, ◌⊎◌, ◌↔◌, ℕ, inl, inr, Bool, true, false, cond, Option, Some, List, [], ◌∷◌, fold}
-use Rattle.std.proofs.Common.{map, refl, sym, ◌∙◌, ap, subst}
+use Rattle.std.proofs.Common.{◌≡◌, ◌⊎◌, ◌↔◌, inl, inr, Bool, true, false, cond, Option, Some, List, [], ◌∷◌, fold, map}
+use Rattle.std.proofs.Common.{refl, sym, ◌∙◌, ap, subst}
 use Rattle.std.specs.List.{AllByRecursion as Every, filter_map}
 use Rattle.std.specs.List.Sorted.{IsStrictlySortedBy}
 use Rattle.std.specs.Ordering.{eq_by_cmp, is_eq}
@@ -21,6 +21,7 @@ use Rattle.qc_stamp.specs.Vocabulary.{same_tx, tx_cmp}
 use Rattle.qc_stamp.proofs.Orders.{same_tx_is, same_tx_itself, transactions_are_ordered}
 use Rattle.qc_site.proofs.Ascending.{In_inserted, inserted_In, same_ascending}
 use Rattle.qc_site.proofs.Promised.{promiser}
+use Rattle.qc_list.proofs.Booleans.{or_true}
 
 -- transactions in their order
 
@@ -72,10 +73,6 @@ ascends_sorted (t ∷ ts) sorted = (
 )
 
 -- tests and members
-
-or_true : (b : Bool) → (b || true) ≡ true
-or_true true = refl
-or_true false = refl
 
 member_In : (txs : List TxId) (tx : TxId) → is_member (eq_by_cmp tx_cmp) txs tx ≡ true → In tx txs
 member_In [] tx is = absurd (let never : ⊥ = cc in never)

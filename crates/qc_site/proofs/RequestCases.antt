@@ -1,6 +1,6 @@
 -- A request, a Prepare or a Close to a site: one case for each row.
 use Rattle.std.proofs.Common.{◌≡◌, ℕ, ◌+◌, ◌==◌, nat_lt, nat_le, not, Bool, true, false, cond, List, Option, Some, None}
-use Rattle.std.proofs.Common.{refl, sym, subst}
+use Rattle.std.proofs.Common.{refl, subst}
 use Rattle.qc_stamp.specs.declared.stamp.Stamp.{Stamp}
 use Rattle.qc_stamp.specs.declared.stamp.TxId.{TxId}
 use Rattle.qc_entry.specs.declared.line.Line.{Line}
@@ -17,13 +17,13 @@ use Rattle.qc_msg.specs.declared.message.Outcome.TheVariants.{Committed}
 use Rattle.qc_msg.specs.declared.message.Want.{Want}
 use Rattle.qc_msg.specs.declared.message.Want.TheVariants.{Read, Append}
 use Rattle.qc_msg.specs.declared.record.Record.TheVariants as records
-use Rattle.qc_msg.specs.Vocabulary.{epoch_length, quiet}
-use Rattle.qc_msg.specs.Vocabulary.{read_of, start_with}
+use Rattle.qc_msg.specs.Vocabulary.{epoch_length, quiet, read_of, start_with}
 use Rattle.qc_site.specs.Vocabulary.{SiteMove, SiteState, answers, appends, appends_by, clashing, closed, closed_fault}
 use Rattle.qc_site.specs.Vocabulary.{closes, dropped, fault_of, finishes, grants, installed, installs, is_closed_for}
 use Rattle.qc_site.specs.Vocabulary.{is_grant, is_prepared, joins, moved, names_declared, prepare_length, prepared_of}
 use Rattle.qc_site.specs.Vocabulary.{prepares, promise_of, promised, reads, reads_by, recording, relation_at, requested}
 use Rattle.qc_site.specs.Vocabulary.{shut_answer, site_at, votes}
+use Rattle.qc_list.proofs.Booleans.{not_false}
 
 -- what a test that came out otherwise would show
 pub never : {A : Type 0} → false ≡ true → A
@@ -106,10 +106,6 @@ append_cases P decl s from number tx object view own free clash =
     by None is = free is
     by (Some c) is = clash c is
 
-unrefuted : (t : Bool) → not t ≡ false → t ≡ true
-unrefuted true is = refl
-unrefuted false is = sym is
-
 -- a Prepare: it is refused, a promise stands, or one is made
 pub prepare_cases : (P : SiteMove → Type 0) (s : SiteState) (from number : ℕ) (tx : TxId)
     → P (moved s (answers from number says.Stale))
@@ -120,9 +116,9 @@ pub prepare_cases : (P : SiteMove → Type 0) (s : SiteState) (from number : ℕ
     → P (prepares s from number tx)
 prepare_cases P s from number tx stale stands made =
     choose P (not (is_held s.held tx)) _ _ (λ is. stale)
-    (λ is. choose P (is_prepared s.prepared tx) _ _ (stands (unrefuted (is_held s.held tx) is))
+    (λ is. choose P (is_prepared s.prepared tx) _ _ (stands (not_false (is_held s.held tx) is))
     (λ apart. choose P (nat_le (prepare_length (promise_of s tx)) most_record_bytes) _ _
-    (λ fits. made (unrefuted (is_held s.held tx) is) apart) (λ long. stale)))
+    (λ fits. made (not_false (is_held s.held tx) is) apart) (λ long. stale)))
 
 pub join_cases : (P : SiteMove → Type 0) (s : SiteState) (tx : TxId) (stamp : Stamp)
     → (prepared_of s.prepared tx ≡ None → P (moved (dropped s tx) quiet))

@@ -7,7 +7,7 @@ use Rattle.qc_stamp.specs.declared.stamp.TxId.{TxId}
 use Rattle.qc_stamp.specs.Vocabulary.{same_tx}
 use Rattle.qc_entry.specs.declared.record.Prepared.{Prepared}
 use Rattle.qc_decl.specs.declared.declaration.Declaration.{Declaration}
-use Rattle.qc_lock.proofs.Entries.{find-none, same_self, tx_apart}
+use Rattle.qc_lock.proofs.Entries.{find-none}
 use Rattle.qc_msg.specs.declared.message.Answer.{Answer}
 use Rattle.qc_msg.specs.declared.message.Message.{Message}
 use Rattle.qc_msg.specs.declared.message.Message.TheVariants as messages
@@ -20,6 +20,7 @@ use Rattle.qc_site.specs.Vocabulary.{is_final, is_prepared, is_vote, moved, pass
 use Rattle.qc_site.specs.Vocabulary.{site_at, site_on, votes_in, without_prepared}
 use Rattle.qc_site.proofs.RequestCases.{append_cases, fault_is, never, prepare_cases, read_cases, request_cases}
 use Rattle.qc_site.proofs.Cases.{lasting_cases}
+use Rattle.qc_stamp.proofs.Orders.{same_tx_itself, same_tx_is}
 
 -- promises, one more
 
@@ -28,7 +29,7 @@ none_yet None is = refl
 none_yet (Some p) is = absurd (let none : ⊥ = cc in none)
 
 prepared_here : (p : Prepared) → prepared_of (p ∷ []) p.tx ≡ Some p
-prepared_here p = rw (same_self p.tx) refl
+prepared_here p = rw (same_tx_itself p.tx) refl
 
 prepared_last : (ps : List Prepared) (p : Prepared) (tx : TxId) → p.tx ≡ tx → is_prepared ps tx ≡ false
     → prepared_of (ps ++ p ∷ []) tx ≡ Some p
@@ -54,7 +55,7 @@ prepared-without_other (p ∷ ps) tx other apart = by (same_tx p.tx tx) refl (pr
         (p ∷ ps) other
     by true is rest =
         let same : same_tx p.tx other ≡ false = subst (λ u. same_tx u other ≡ false)
-        (sym (tx_apart p.tx tx is)) apart in
+        (sym (same_tx_is p.tx tx is)) apart in
         rw same rest
     by false is rest = ap (λ (o : Option Prepared). cond (same_tx p.tx other) (Some p) o) rest
 

@@ -4,7 +4,8 @@ use Rattle.std.proofs.Common.{Some, None, option_map, refl, sym, ◌∙◌, ap, 
 use Rattle.std.proofs.lemmas.Bool.{eqb-true, eqb-false}
 use Rattle.qc_outside.specs.declared.disk.ArmKind.{ArmKind}
 use Rattle.qc_promise.specs.Vocabulary.{Arm, Calls, DiskArm, may_act, may_have_acted, same_kind, without_arm}
-use Rattle.qc_spent.proofs.OwnArms.{arm_of, arms_of, of_actor, same_actor}
+use Rattle.qc_spent.proofs.OwnArms.{arm_of, arms_of, of_actor}
+use Rattle.qc_list.proofs.Numbers.{number_same}
 
 abbrev pub IsUnused : ArmKind → Calls → Option DiskArm → Type 0
 IsUnused kind calls None = Unit {0}
@@ -61,7 +62,7 @@ none_of e (Some w) is = absurd (cc is)
 may_of : (e : ℕ) (kind : ArmKind) (calls : Calls) (w : DiskArm)
     → may_act e kind calls (arm_of e w) ≡ may_have_acted kind calls w
 may_of e kind calls w =
-    ap (λ (b : Bool). b && (same_kind w.kind kind && nat_le w.at (w.calls.most + calls.most))) (same_actor e)
+    ap (λ (b : Bool). b && (same_kind w.kind kind && nat_le w.at (w.calls.most + calls.most))) (number_same e)
 
 pub finds : (e : ℕ) (kind : ArmKind) (calls : Calls) (xs : List Arm) (w : Option DiskArm)
     → filter (of_actor e) xs ≡ arms_of e w → Finds e kind calls xs w (without_arm e kind calls xs)

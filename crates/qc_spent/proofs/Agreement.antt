@@ -14,9 +14,10 @@ use Rattle.qc_promise.specs.Vocabulary.{disk_account_with, disk_armed, disk_call
 use Rattle.qc_promise.specs.Vocabulary.{disk_fell_with, fell, more_calls, no_calls, of_fall, of_opening, of_reading}
 use Rattle.qc_promise.specs.Vocabulary.{of_record, tally_with, total_below, used, waiting_after, with_calls}
 use Rattle.qc_promise.specs.Vocabulary.{without_arm}
-use Rattle.qc_spent.proofs.OwnArms.{arms_of, called_arms, called_parts, of_actor, others, same_actor}
+use Rattle.qc_spent.proofs.OwnArms.{arms_of, called_arms, called_parts, of_actor, others}
 use Rattle.qc_spent.proofs.Sums.{total_more, total_same}
 use Rattle.qc_spent.proofs.ActingArms.{Finds, IsUnused, IsUsed, finds}
+use Rattle.qc_list.proofs.Numbers.{number_same}
 
 pub record Agrees (n : ℕ) (t : Tally) (accounts : ℕ → DiskAccount) : Type 0 where
   pub arms : (a : ℕ) → filter (of_actor a) t.left ≡ arms_of a (accounts a).waiting
@@ -124,7 +125,7 @@ module _ (n : ℕ) (t : Tally) (accounts : ℕ → DiskAccount) (e : ℕ) (kind 
 
   at_one : IsUnused kind calls (accounts e).waiting → (after e).unarmed ≡ (accounts e).unarmed + 1
   at_one un =
-      ap (λ (c : Bool). (if c then disk_fell (accounts e) kind calls else accounts e).unarmed) (same_actor e)
+      ap (λ (c : Bool). (if c then disk_fell (accounts e) kind calls else accounts e).unarmed) (number_same e)
       ∙ ap (λ (s : DiskAccount). s.unarmed) (unused_account (accounts e).waiting (accounts e).unarmed kind calls un)
 
   elsewhere : (a : ℕ) → (e == a) ≡ false → (after a).unarmed ≡ (accounts a).unarmed

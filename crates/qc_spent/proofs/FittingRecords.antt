@@ -21,7 +21,7 @@ fit_kept fit before (steps.Fell cause pending) is fits = tt
 fit_kept fit before (steps.Rose records) is fits = is
 fit_kept fit before (steps.Damaged offset) is fits = absurd (cc (sym is ∙ fits))
 
-kept_more : (h : List Entry) (e : Entry) → Kept h → IsKeptAt (own e.actor h) e.step → Kept (h ++ e ∷ [])
+pub kept_more : (h : List Entry) (e : Entry) → Kept h → IsKeptAt (own e.actor h) e.step → Kept (h ++ e ∷ [])
 kept_more h e kept now before later x is = by (cut_at h e before later x is)
   where
     by : CutAt h e before x → IsKeptAt (own x.actor before) x.step

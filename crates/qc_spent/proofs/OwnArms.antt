@@ -6,9 +6,6 @@ use Rattle.qc_promise.specs.Vocabulary.{Arm, Calls, DiskArm, waiting_after, with
 
 -- the test on numbers
 
-pub same_actor : (a : ℕ) → (a == a) ≡ true
-same_actor a = eq-eqb a a refl
-
 pub test_sym : (a b : ℕ) → (a == b) ≡ (b == a)
 test_sym a b = by (a == b) refl
   where

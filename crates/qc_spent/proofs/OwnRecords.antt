@@ -33,7 +33,7 @@ kept_more own s each now before later x is = by (cut_at own s before later x is)
 
 -- from each actor's steps to the history
 
-own_cut : (a : ℕ) (before later : List Entry) (e : Entry) → (e.actor == a) ≡ true
+pub own_cut : (a : ℕ) (before later : List Entry) (e : Entry) → (e.actor == a) ≡ true
     → own a (before ++ e ∷ later) ≡ own a before ++ e.step ∷ own a later
 own_cut a before later e this =
     own-append a before (e ∷ later) ∙ ap (λ (l : List Step). own a before ++ l) (rw this refl)

@@ -12,7 +12,7 @@ total_less zero f g less = omega arith
 total_less (suc n) f g less = omega (arith, total_less n f g less, less n)
 
 -- one more at a place
-total_past : (n e : ℕ) (f g : ℕ → ℕ) → n ≤ e → ((a : ℕ) → (e == a) ≡ false → g a ≡ f a)
+pub total_past : (n e : ℕ) (f g : ℕ → ℕ) → n ≤ e → ((a : ℕ) → (e == a) ≡ false → g a ≡ f a)
     → total_below n g ≡ total_below n f
 total_past zero e f g past other = refl
 total_past (suc n) e f g past other =

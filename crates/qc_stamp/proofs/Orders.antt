@@ -71,3 +71,13 @@ other_tx_sym a b h = by (same_tx b a) refl where
       let same : same_tx a b ≡ true = subst (λ u. same_tx a u ≡ true) (sym (same_tx_is b a is)) (same_tx_itself a) in
       absurd (let never : ⊥ = cc in never)
   by false is = refl
+
+pub same_tx_test : (a b : TxId) → a ≡ b → same_tx a b ≡ true
+same_tx_test a b e = subst (λ (x : TxId). same_tx a x ≡ true) e (same_tx_itself a)
+
+pub same_tx_turned : (a b : TxId) → same_tx a b ≡ same_tx b a
+same_tx_turned a b = by (same_tx a b) refl
+  where
+    by : (t : Bool) → same_tx a b ≡ t → t ≡ same_tx b a
+    by true is = sym (subst (λ (u : TxId). same_tx u a ≡ true) (same_tx_is a b is) (same_tx_itself a))
+    by false is = sym (other_tx_sym a b is)

@@ -1,12 +1,12 @@
 -- Disks go back to a rack one by one: the rack's count rises by the sum of theirs, as long as 64 bits hold it.
 use Rattle.std.proofs.Common.{◌≡◌, ℕ, zero, suc, ◌+◌, ◌-◌, ◌^◌, ◌<◌, ◌≤◌, nat_lt, Bool, true, false, List, refl, arith}
 use Rattle.std.proofs.lemmas.Bool.{ltb-true}
-use Rattle.std.proofs.lemmas.Bool.Decides.{nat_tests}
 use Rattle.qc_msg.specs.Vocabulary.{Entry}
 use Rattle.qc_outside.specs.Vocabulary.{IsKept}
 use Rattle.qc_promise.specs.Vocabulary.{AreFallsBelow, IsEverInTime, Spent, disk_account, total_below}
 use Rattle.qc_spent.proofs.Whole.{accounts_make_spent}
 use Rattle.qc_store.specs.Vocabulary.{IsCounted}
+use Rattle.qc_list.proofs.Numbers.{is_last}
 
 settled : (n : ℕ) (disks nows : ℕ → ℕ) → ((k : ℕ) → k < n → IsKept (nows k) (disks k) (nows (suc k)))
     → nows n < 2 ^ 64 - 1 → nows 0 + total_below n disks ≤ nows n
@@ -19,9 +19,6 @@ settled (suc n) disks nows each few =
     omega (arith, last.added, few, before)
 
 -- one of a sum is no more than all
-
-is_last : (k n : ℕ) → nat_lt k n ≡ false → k < suc n → k ≡ n
-is_last k n not_below less = grind (arith, nat_tests)
 
 pub one_of_sum : (n k : ℕ) (f : ℕ → ℕ) → k < n → f k ≤ total_below n f
 one_of_sum zero k f less = absurd (omega (arith, less))

@@ -72,7 +72,7 @@ is_number None k = false
 is_number (Some n) k = n == k
 
 -- events that differ one way differ the other way
-flipped : (a b : Event) → same_event b a ≡ false → same_event a b ≡ false
+pub flipped : (a b : Event) → same_event b a ≡ false → same_event a b ≡ false
 flipped a b differ = by (same_event a b) refl
   where
     by : (t : Bool) → same_event a b ≡ t → t ≡ false

@@ -1,12 +1,14 @@
 -- Events only grow in number as rows are added.
 use Rattle.std.proofs.Common.{◌≡◌, ℕ, ◌≤◌, Bool, false, cond, List, [], ◌∷◌, ◌++◌, ◌<◌, true, drop, drop-cons, get_or}
-use Rattle.std.proofs.Common.{ltb, suc, sym, ap, ◌∙◌, length, length-append, arith}
-use Rattle.std.specs.Prelude.{fold}
+use Rattle.std.proofs.Common.{ltb, suc, sym, ap, ◌∙◌, length, length-append, arith, Option, Some, None, refl, ◌-◌}
+use Rattle.std.proofs.Common.{nat_lt}
+use Rattle.std.specs.Prelude.{fold, position}
 use Rattle.std.specs.List.{list_any}
-use Rattle.std.proofs.lemmas.Bool.{lt-ltb}
+use Rattle.std.proofs.lemmas.Bool.{lt-ltb, leb-false}
 use Rattle.qc_table.specs.declared.row.Row.{Row}
 use Rattle.qc_table.specs.declared.row.Event.{Event}
-use Rattle.qc_table.specs.Vocabulary.{event_of, events_of, same_event, with_event}
+use Rattle.qc_table.specs.Vocabulary.{event_of, events_of, same_event, with_event, ranked, Rules, fault_of}
+use Rattle.qc_table.specs.Vocabulary.{first_repeat, is_unknown, most_events}
 
 longer : (events : List Event) (e : Event) → length events ≤ length (with_event events e)
 longer events e = by (list_any (λ x. same_event x e) events)
@@ -36,3 +38,17 @@ too_many rows events n d l whole many =
     ap (fold (λ es r. with_event es (event_of r)) events) (drop-cons rows n d l) in
     lt-ltb 64 (length (events_of rows)) (omega
     (arith, ap length (sym rest ∙ whole), events_grow (drop (suc n) rows) (with_event events (event_of row))))
+
+pub ranked_none : (unknown repeat : Option ℕ) (many : Bool) → ranked unknown repeat many ≡ None → many ≡ false
+ranked_none (Some row) repeat many is = absurd (let never : ⊥ = cc in never)
+ranked_none None (Some row) many is = absurd (let never : ⊥ = cc in never)
+ranked_none None None true is = absurd (let never : ⊥ = cc in never)
+ranked_none None None false is = refl
+
+pub few_events : (rules : Rules) → fault_of rules ≡ None → length (events_of rules.rows) ≤ most_events
+few_events rules none =
+    let few : length (events_of rules.rows) < 65 =
+    leb-false 65 (length (events_of rules.rows))
+    (ranked_none (position (is_unknown rules.states rules.invs rules.resps) rules.rows) (first_repeat rules.rows)
+    (nat_lt 64 (length (events_of rules.rows))) none) in
+    omega arith

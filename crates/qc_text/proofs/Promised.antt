@@ -18,14 +18,15 @@ use Rattle.qc_msg.specs.declared.message.Want.TheVariants.{Read, Prepare}
 use Rattle.qc_msg.specs.declared.record.Record.{Record}
 use Rattle.qc_msg.specs.declared.record.Record.TheVariants as records
 use Rattle.qc_msg.specs.declared.step.Input.TheVariants as inputs
-use Rattle.qc_msg.specs.Vocabulary.{Deed, Falls, Rises, Sends, Takes, Tells, Writes, prepare_in, written_in}
-use Rattle.qc_msg.specs.Vocabulary.{read_of}
+use Rattle.qc_msg.specs.Vocabulary.{Deed, Falls, Rises, Sends, Takes, Tells, Writes, prepare_in, written_in, read_of}
 use Rattle.qc_promise.specs.Vocabulary.{Grant, Holding, frees, held_of_promises, is_ended, is_over, left_of}
 use Rattle.qc_promise.specs.Vocabulary.{promises_of, promises_since, standing, unless_over, with_promise}
-use Rattle.qc_promise.proofs.Promises.{either_way, other_promises, promises_by_record, promises_with}
+use Rattle.qc_promise.proofs.Promises.{other_promises, promises_by_record, promises_with}
 use Rattle.qc_text.specs.Vocabulary.{held_by, holders_from, holders_with, is_holding, names_some, promised_at}
 use Rattle.qc_text.specs.Vocabulary.{promised_in, with_holder, without_holder}
 use Rattle.qc_text.proofs.Holding.{all_named, append_named, dropped, hold_tx, is_other, name, stays, walks}
+use Rattle.qc_list.proofs.Booleans.{and_false, and_true}
+use Rattle.qc_stamp.proofs.Orders.{same_tx_turned}
 
 -- promises, as if what they name had been granted
 
@@ -59,7 +60,7 @@ others_granted : (tx : TxId) (ps : List Prepared)
 others_granted tx [] = refl
 others_granted tx (p ∷ ps) =
     ap (λ (b : Bool). cond (not b) (as_grant p ∷ filter (is_other tx) (map as_grant ps))
-    (filter (is_other tx) (map as_grant ps))) (either_way tx p.tx)
+    (filter (is_other tx) (map as_grant ps))) (same_tx_turned tx p.tx)
     ∙ by (same_tx p.tx tx) (others_granted tx ps)
   where
     by : (b : Bool) → filter (is_other tx) (map as_grant ps) ≡ map as_grant (other_promises ps tx)
@@ -179,21 +180,13 @@ frees_one : (d : Deed) (tx : TxId) → ((t : TxId) → frees t d ≡ same_tx t t
     → unfreed d ps ≡ other_promises ps tx
 frees_one d tx one ps = kept_as d (λ (p : Prepared). not (same_tx p.tx tx)) (λ p. ap not (one p.tx)) ps
 
-and_true : (b : Bool) → (b && true) ≡ b
-and_true true = refl
-and_true false = refl
-
-and_false : (b : Bool) → (b && false) ≡ false
-and_false true = refl
-and_false false = refl
-
 written_more : (ps : List Prepared) (r : Record) → promises_at ps (Writes r) ≡ promises_with ps r
 written_more ps records.Life = frees_none (Writes records.Life) (λ tx. refl) ps
 written_more ps (records.Prepare p) = ap (λ (v : List Prepared). v ++ p ∷ [])
-    (frees_one (Writes (records.Prepare p)) p.tx (λ t. either_way p.tx t) ps)
+    (frees_one (Writes (records.Prepare p)) p.tx (λ t. same_tx_turned p.tx t) ps)
 written_more ps (records.Done tx clock) =
     append-nil (unfreed (Writes (records.Done tx clock)) ps)
-    ∙ frees_one (Writes (records.Done tx clock)) tx (λ t. either_way tx t) ps
+    ∙ frees_one (Writes (records.Done tx clock)) tx (λ t. same_tx_turned tx t) ps
 written_more ps (records.Close epoch) = frees_none (Writes (records.Close epoch)) (λ tx. refl) ps
 written_more ps (records.Install start) =
     append-nil (unfreed (Writes (records.Install start)) ps)
@@ -226,7 +219,7 @@ message_more ps number from to message = by message
     by (messages.Decision tx Aborted) =
         without_promises ps tx
         ∙ ap granted_by (sym (append-nil (unfreed (got (messages.Decision tx Aborted)) ps)
-        ∙ frees_one (got (messages.Decision tx Aborted)) tx (λ t. and_true (same_tx tx t) ∙ either_way tx t) ps))
+        ∙ frees_one (got (messages.Decision tx Aborted)) tx (λ t. and_true (same_tx tx t) ∙ same_tx_turned tx t) ps))
     by (messages.Decision tx Active) = unchanged ps (got (messages.Decision tx Active)) (λ t. and_false (same_tx tx t))
     by (messages.Inquiry tx) = unchanged ps (got (messages.Inquiry tx)) (λ t. refl)
     by (messages.Ask tx) = unchanged ps (got (messages.Ask tx)) (λ t. refl)

@@ -19,8 +19,9 @@ use Rattle.qc_promise.specs.Vocabulary.{lines_of, prepare_by, recorded_from, wit
 use Rattle.qc_text.specs.Vocabulary.{deed_of, epoch_at, life_at}
 use Rattle.qc_text.specs.declared.deeds.Deed.{Deed as Found}
 use Rattle.qc_text.proofs.Found.{found_rest}
-use Rattle.qc_text.proofs.More.{more, rest}
+use Rattle.qc_text.proofs.More.{more}
 use Rattle.qc_text.proofs.Alike.{same_key}
+use Rattle.qc_list.proofs.Places.{drop_at}
 
 -- life and epoch, by deeds
 
@@ -59,7 +60,7 @@ pub fold_more : {A : Type 0} (f : A → Record → A) (rs : List Record) (i : �
     → i < length rs → r ≡ get_or rs i d → after ≡ f a r → fold f a (drop i rs) ≡ all
     → fold f after (drop (i + 1) rs) ≡ all
 fold_more f rs i r d a after all l e is known =
-    ap (λ v. fold f v (drop (i + 1) rs)) is ∙ ap (fold f a) (sym (rest rs i r d l e)) ∙ known
+    ap (λ v. fold f v (drop (i + 1) rs)) is ∙ ap (fold f a) (sym (drop_at rs i r d l e)) ∙ known
 
 -- the last Prepare, a record more
 
@@ -130,7 +131,7 @@ pub given_more : (rs : List Record) (i : ℕ) (r d : Record) (l after all : Line
 given_more rs i r d l after all within e is known =
     ap (λ (v : Lines). recorded_from v (take (i + 1) rs) (drop (i + 1) rs)) is
     ∙ ap (λ (v : List Record). recorded_from (with_given l (take i rs) r) v (drop (i + 1) rs)) (more rs i r d within e)
-    ∙ ap (λ (v : List Record). recorded_from l (take i rs) v) (sym (rest rs i r d within e))
+    ∙ ap (λ (v : List Record). recorded_from l (take i rs) v) (sym (drop_at rs i r d within e))
     ∙ known
 
 -- by deeds, after these records

@@ -8,7 +8,7 @@ use Rattle.std.proofs.lemmas.List.FromFn.{map-range_with_len_more}
 use Rattle.qc_entry.specs.declared.line.Op.{Op}
 use Rattle.qc_decl.specs.declared.declaration.Declaration.{Declaration}
 use Rattle.qc_text.specs.Vocabulary.{op_text, ops_text}
-use Rattle.qc_text.proofs.More.{rest}
+use Rattle.qc_list.proofs.Places.{drop_at}
 
 -- an operation is written, and the ones after it follow a comma
 pub ops_more : (decl : Declaration) (before : List ℕ) (ops : List Op) (i : ℕ) (op d : Op) (page page' start : List ℕ)
@@ -19,7 +19,7 @@ pub ops_more : (decl : Declaration) (before : List ℕ) (ops : List Op) (i : ℕ
 ops_more decl before ops i op d page page' start l e p t =
     ap (λ k. k ++ ops_text decl (codes ", ") (drop (i + 1) ops)) p
     ∙ append_assoc page (op_text decl before op) (ops_text decl (codes ", ") (drop (i + 1) ops))
-    ∙ ap (λ k. page ++ ops_text decl before k) (sym (rest ops i op d l e))
+    ∙ ap (λ k. page ++ ops_text decl before k) (sym (drop_at ops i op d l e))
     ∙ t
 
 -- the numbers below one more

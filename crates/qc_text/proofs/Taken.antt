@@ -10,8 +10,9 @@ use Rattle.qc_msg.specs.declared.reply.Reply.{Reply}
 use Rattle.qc_msg.specs.Vocabulary.{Entry}
 use Rattle.qc_script.specs.declared.script.CommandLine.{CommandLine}
 use Rattle.qc_text.specs.Vocabulary.{asked, reply_line, reply_lines, told_of}
-use Rattle.qc_text.proofs.More.{more, rest, first_left}
+use Rattle.qc_text.proofs.More.{more, first_left}
 use Rattle.qc_text.proofs.Told.{others}
+use Rattle.qc_list.proofs.Places.{drop_at}
 
 is_asked : (b : Bool) (a : ℕ) (lines : List CommandLine) (i : ℕ) (line d : CommandLine) → i < length lines
     → line ≡ get_or lines i d → (line.actor == a) ≡ b
@@ -73,5 +74,5 @@ text_more decl h lines i line d reply page page' start l e r p t =
     ∙ ap (λ k. page ++ (reply_line decl line k ++ reply_lines decl h (take (i + 1) lines) (drop (i + 1) lines))) r
     ∙ ap (λ k. page ++ (reply_line decl line (slice_get (told_of line.actor h) (asked line.actor (take i lines)))
     ++ reply_lines decl h k (drop (i + 1) lines))) (more lines i line d l e)
-    ∙ ap (λ k. page ++ reply_lines decl h (take i lines) k) (sym (rest lines i line d l e))
+    ∙ ap (λ k. page ++ reply_lines decl h (take i lines) k) (sym (drop_at lines i line d l e))
     ∙ t

@@ -5,7 +5,7 @@ use Rattle.std.specs.Prelude.{◌==◌, fold, option_to_list}
 use Rattle.qc_msg.specs.declared.message.Envelope.{Envelope}
 use Rattle.qc_msg.specs.Vocabulary.{Deed, Entry, deeds, envelope_of, own}
 use Rattle.qc_text.specs.Vocabulary.{deeds_at, down_after, down_by}
-use Rattle.qc_text.proofs.More.{rest}
+use Rattle.qc_list.proofs.Places.{drop_at}
 
 -- falls
 
@@ -20,7 +20,7 @@ pub down_more : (a : ℕ) (h : List Entry) (i : ℕ) (x d : Entry) (down after a
 down_more a h i x d down after all l e is known =
     ap (λ (v : Bool). fold down_after v (own a (drop (i + 1) h))) is
     ∙ sym (down_one (x.actor == a) down a x (drop (i + 1) h) refl)
-    ∙ ap (λ (v : List Entry). fold down_after down (own a v)) (sym (rest h i x d l e))
+    ∙ ap (λ (v : List Entry). fold down_after down (own a v)) (sym (drop_at h i x d l e))
     ∙ known
 
 -- deeds
@@ -35,5 +35,5 @@ deeds_more a h i x d ds ds' all ms ms' l e more_ds more_ms known =
     ap (λ (v : List Deed). v ++ deeds a ms' (drop (i + 1) h)) more_ds
     ∙ append_assoc ds (deeds_at a ms x) (deeds a ms' (drop (i + 1) h))
     ∙ ap (λ (v : List Envelope). ds ++ (deeds_at a ms x ++ deeds a v (drop (i + 1) h))) more_ms
-    ∙ ap (λ (v : List Entry). ds ++ deeds a ms v) (sym (rest h i x d l e))
+    ∙ ap (λ (v : List Entry). ds ++ deeds a ms v) (sym (drop_at h i x d l e))
     ∙ known

@@ -3,10 +3,7 @@ use Rattle.std.specs.Prelude.{ℕ, List, [], Option, slice_get, unwrap_or, optio
 use Rattle.std.specs.Option.{option_map_or}
 use Rattle.qc_decl.specs.declared.declaration.Declaration.{Declaration}
 use Rattle.qc_decl.specs.declared.declaration.KindNames.{KindNames}
-
--- the name with this number; no byte where there is none
-abbrev pub name_at : List (List ℕ) → ℕ → List ℕ
-name_at names k = unwrap_or (slice_get names k) []
+use Rattle.qc_decl.specs.Vocabulary.{name_at}
 
 -- the names of an object's type
 abbrev pub names_of : Declaration → ℕ → Option KindNames

@@ -1,19 +1,9 @@
 //! Names that a declaration gives.
 
 ghost use Rattle.std.specs.Prelude.{◌≡◌, None, Some, MatchOption};
-ghost use Rattle.qc_text.specs.Names.{name_at, names_of, object_name, invocation_name, response_name, state_name};
+ghost use Rattle.qc_text.specs.Names.{names_of, object_name, invocation_name, response_name, state_name};
 
-use qc_decl::{Declaration, KindNames, Names};
-
-/// The name with this number, and no byte where there is none.
-fn name_at(names: &Names, place: usize) -> &str
-    ensures { result.now ≡ name_at names.now place }
-{
-    match names.items().get(place) {
-        Some(name) => name.text(),
-        None => "",
-    }
-}
+use qc_decl::{Declaration, KindNames, name_at};
 
 /// The names of an object's type.
 fn names_of(decl: &Declaration, object: usize) -> Option<&KindNames>

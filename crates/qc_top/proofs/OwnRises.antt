@@ -1,6 +1,6 @@
 -- What rises has a spelling: so clients rise with commit records that name stamps of their transactions' own clients.
-use Rattle.std.proofs.Common.{◌≡◌, ℕ, ◌+◌, ◌==◌, ◌&&◌, Bool, true, false, cond, List, [], ◌∷◌, ◌++◌, length, Option}
-use Rattle.std.proofs.Common.{Some, None, option_to_list, slice_get, refl, subst, eqb-true}
+use Rattle.std.proofs.Common.{◌≡◌, ℕ, ◌+◌, ◌==◌, Bool, true, false, cond, List, [], ◌∷◌, ◌++◌, length, Option, Some}
+use Rattle.std.proofs.Common.{None, option_to_list, slice_get, subst, eqb-true}
 use Rattle.std.specs.List.{AllByRecursion as Every}
 use Rattle.qc_list.proofs.Members.{every-append, every-weaker}
 use Rattle.qc_core.specs.Vocabulary.{IsLawfulWithFalls}
@@ -28,12 +28,9 @@ use Rattle.qc_record.specs.Vocabulary.{has_own_stamp, is_legal}
 use Rattle.qc_script.specs.Vocabulary.{RunsWithFalls, begins, control, controller_step, damaged, falls, phase, posts}
 use Rattle.qc_script.specs.Vocabulary.{rises, takes, unopened}
 use Rattle.qc_script.specs.declared.script.Script.{Script}
+use Rattle.qc_list.proofs.Booleans.{and_first}
 
 -- a record that has a spelling names a stamp of its transaction's own client
-
-first_of : (x y : Bool) → (x && y) ≡ true → x ≡ true
-first_of true y is = refl
-first_of false y is = absurd (let never : ⊥ = cc in never)
 
 legal_own : (r : Record) → is_legal r ≡ true → IsOwnRecord r
 legal_own records.Life is = tt
@@ -41,7 +38,7 @@ legal_own (records.Prepare p) is = tt
 legal_own (records.Done tx clock) is = tt
 legal_own (records.Close epoch) is = tt
 legal_own (records.Install start) is = tt
-legal_own (records.Commit c) is = eqb-true c.stamp.client c.tx.client (first_of (has_own_stamp c) _ is)
+legal_own (records.Commit c) is = eqb-true c.stamp.client c.tx.client (and_first (has_own_stamp c) _ is)
 legal_own (records.Decide start) is = tt
 
 -- steps in which such records alone rise

@@ -1,6 +1,5 @@
 -- What is promised of every run of a script that was read.
-use Rattle.std.proofs.Common.{◌≡◌, ◌≤◌, ℕ, zero, suc, Bool, true, false, List, [], ◌∷◌, length, Some, refl, sym, ap}
-use Rattle.std.proofs.Common.{◌∙◌, subst, arith, slice_get}
+use Rattle.std.proofs.Common.{◌≡◌, ◌≤◌, ℕ, Bool, false, List, [], sym, ap, ◌∙◌, subst, arith}
 use Rattle.std.specs.Prelude.{replicate}
 use Rattle.laws_due.proofs.AccountDeclared.{scripts_ask_what_is_declared, asks_epochs}
 use Rattle.laws_bounds.proofs.FitsNamed.{asks_known}
@@ -26,6 +25,7 @@ use Rattle.qc_script.specs.declared.script.Script.{Script}
 use Rattle.qc_top.proofs.OwnRises.{run_own}
 use Rattle.qc_top.proofs.Planned.{rises_planned}
 use Rattle.qc_top.specs.Vocabulary.{AreStatesKnown, IsEnd, IsRunnable}
+use Rattle.qc_list.proofs.Places.{all_false}
 
 module _ (decl : Declaration) (script : Script) (ready : IsRunnable decl script) (h : List Entry)
     (run : RunWithFalls (IsLawfulWithFalls decl) (fits_of decl) decl script h) where
@@ -50,12 +50,6 @@ module _ (decl : Declaration) (script : Script) (ready : IsRunnable decl script)
   pub run_known : Kept h → AreStatesKnown decl h
   run_known kept = (replays_are_one_copy decl (committed decl h)).1 (run_atomic kept).one_copy
 
--- where no input is open, all bits are clear
-all_clear : (bits : List Bool) → ((a : ℕ) → slice_get bits a ≡ Some true → ⊥) → bits ≡ replicate (length bits) false
-all_clear [] none = refl
-all_clear (true ∷ bits) none = absurd (none zero refl)
-all_clear (false ∷ bits) none = ap (λ (bs : List Bool). false ∷ bs) (all_clear bits (λ a is. none (suc a) is))
-
 module _ (decl : Declaration) (script : Script) (ready : IsRunnable decl script) (h : List Entry) where
   pub ended_run : (end : DriveEnd) → HasEnded decl script h end
       → RunWithFalls (IsLawfulWithFalls decl) (fits_of decl) decl script h
@@ -67,7 +61,7 @@ module _ (decl : Declaration) (script : Script) (ready : IsRunnable decl script)
   ended_whole end ended quiet =
       let over : IsScriptEnd decl script h ended.inputs ends.Quiet =
       subst (λ (e : DriveEnd). IsScriptEnd decl script h ended.inputs e) quiet ended.ended in
-      let clear : ended.inputs ≡ replicate (actors decl) false = all_clear ended.inputs over.1.1.none_open
+      let clear : ended.inputs ≡ replicate (actors decl) false = all_false ended.inputs over.1.1.none_open
       ∙ ap (λ (n : ℕ). replicate n false) ended.opens in
       let closed : IsClosedWithFalls (fits_of decl) decl script h =
       subst (λ (bits : List Bool). RunsWithFalls (IsLawfulWithFalls decl) (fits_of decl) decl script h bits) clear

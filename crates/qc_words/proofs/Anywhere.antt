@@ -14,9 +14,9 @@ use Rattle.qc_words.specs.Vocabulary.{is_whole, nothing_read, option_of, option_
 use Rattle.qc_words.specs.Vocabulary.{with_named, with_part, with_word, with_words}
 use Rattle.qc_words.proofs.Clapped.{option_is_long, values_are_plain}
 use Rattle.qc_words.proofs.Said.{behind_same, then}
-use Rattle.qc_words.proofs.Rows.{or_right}
 use Rattle.qc_words.proofs.Steps.{part, reading}
 use Rattle.qc_words.proofs.Alike.{Alike, AreAlike, alike_then, alike_values, given_more, if_named, or_else, value_more}
+use Rattle.qc_list.proofs.Booleans.{or_second}
 
 -- ---- what a word adds
 
@@ -258,4 +258,4 @@ options_stand_anywhere option word joined whole command before after all =
     behind_same command (before ++ (option ∷ word ∷ after)) (before ++ (word ∷ option ∷ after))
     (λ form. alike_values form (with_words form nothing_read (before ++ (option ∷ word ∷ after)))
     (with_words form nothing_read (before ++ (word ∷ option ∷ after)))
-    (moves form before after option word all joined (or_right (is_value option) (is_joined option) joined) whole [] 0))
+    (moves form before after option word all joined (or_second (is_value option) (is_joined option) joined) whole [] 0))

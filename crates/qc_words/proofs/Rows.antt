@@ -1,6 +1,6 @@
 -- The rows that `clap` holds for parts, in their order.
-use Rattle.std.proofs.Common.{◌≡◌, ◌∙◌, ◌||◌, List, [], ◌∷◌, ◌++◌, Bool, true, false, Some, None, refl, ap, sym, map}
-use Rattle.std.proofs.Common.{append-nil, true≢false}
+use Rattle.std.proofs.Common.{◌≡◌, ◌∙◌, List, [], ◌∷◌, ◌++◌, Bool, true, false, Some, None, refl, ap, sym, map}
+use Rattle.std.proofs.Common.{append-nil}
 use Rattle.std.specs.List.{list_all}
 use Rattle.std.specs.Str.{bytes_eq}
 use Rattle.clap.proofs.WalkLemmas.{list_any-map}
@@ -12,6 +12,7 @@ use Rattle.clap.specs.declared.builder.value_parser.Reading.TheVariants.{AsWritt
 use Rattle.clap.specs.declared.builder.value_parser.ValueParser.TheVariants as parsers
 use Rattle.clap.specs.declared.parser.matches.ValueSource.TheVariants.{CommandLine}
 use Rattle.qc_words.specs.Vocabulary.{Part, Text, are_given, is_given, value_of}
+use Rattle.qc_list.proofs.Booleans.{or_parts}
 
 -- what `clap` holds for a part
 abbrev pub row : Part → Row
@@ -37,20 +38,12 @@ one_not_several a name one = rw one.range refl
 pub one_not_multiple : (a : Rule) (name : Text) → IsOne a name → is_multiple a ≡ false
 one_not_multiple a name one = rw (one.range, one.action) refl
 
-pub or_right : (a b : Bool) → b ≡ true → (a || b) ≡ true
-or_right true b e = refl
-or_right false b e = e
-
-or_false : (a b : Bool) → (a || b) ≡ false → (a ≡ false) × (b ≡ false)
-or_false true b e = absurd (true≢false e)
-or_false false b e = (refl, e)
-
 -- a row joins behind the others where none has its id
 at_no_row : (id : Text) (change : Row → List Row) (missing rows : List Row) → has_row id rows ≡ false
     → at_row id change missing rows ≡ rows ++ missing
 at_no_row id change missing [] none = refl
 at_no_row id change missing (r ∷ rows) none =
-    let parts = or_false (bytes_eq r.id id) (has_row id rows) none in
+    let parts = or_parts (bytes_eq r.id id) (has_row id rows) none in
     rw parts.0 (ap (λ rs. r ∷ rs) (at_no_row id change missing rows parts.1))
 
 pub used_once : (a : Rule) (name value : Text) (rows : List Row) → IsOne a name → has_row name rows ≡ false

@@ -15,8 +15,8 @@ use Rattle.qc_words.specs.Vocabulary.{check_of, ended, is_among, is_given, is_kn
 use Rattle.qc_words.specs.Vocabulary.{nothing_read, option_of, option_or_place, parts_of, placed, run_form, run_of}
 use Rattle.qc_words.specs.Vocabulary.{said_apart, said_joined, values_in, values_of, waiting_for, with_named, with_next}
 use Rattle.qc_words.specs.Vocabulary.{with_part, with_word, with_words}
-use Rattle.qc_words.proofs.Rows.{or_right}
 use Rattle.qc_words.proofs.Steps.{reading}
+use Rattle.qc_list.proofs.Booleans.{or_second}
 
 part_fits : (name text : Text) (r end : Reading) → with_part name text r ≡ Some end → is_value text ≡ true
 part_fits name text r end e = (both (is_value text) (not (is_given name r.parts))
@@ -37,7 +37,7 @@ word_known form None word r end e = by (option_of word) refl e
     by : (o : Option (Text × Option Text)) → option_of word ≡ o → option_or_place form o word r ≡ Some end
         → is_known form word ≡ true
     by None is e = place (slice_get form.places r.taken) e
-    by (Some named) is e = or_right (is_value word) _ (go (is_among form.options named.0) refl e)
+    by (Some named) is e = or_second (is_value word) _ (go (is_among form.options named.0) refl e)
       where
         go : (t : Bool) → is_among form.options named.0 ≡ t → cond t (with_named named.0 named.1 r) None ≡ Some end
             → option_map_or (λ named. is_among form.options named.0) (option_of word) false ≡ true

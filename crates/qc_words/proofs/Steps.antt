@@ -19,8 +19,9 @@ use Rattle.qc_words.specs.Vocabulary.{option_or_place, placed, with_named, with_
 use Rattle.qc_words.proofs.Clapped.{IsPlain, option_is_long, joined_met, option_met, place_met, value_met}
 use Rattle.qc_words.proofs.Clapped.{values_are_plain}
 use Rattle.qc_words.proofs.Fits.{Reads}
-use Rattle.qc_words.proofs.Rows.{IsOne, no_row_of, one_not_multiple, one_not_several, one_takes, one_value, or_right}
-use Rattle.qc_words.proofs.Rows.{row, used_once}
+use Rattle.qc_words.proofs.Rows.{IsOne, no_row_of, one_not_multiple, one_not_several, one_takes, one_value, row}
+use Rattle.qc_words.proofs.Rows.{used_once}
+use Rattle.qc_list.proofs.Booleans.{or_second}
 
 abbrev pub part : Text → Text → Part
 part name text = record { name = name; value = text }
@@ -220,7 +221,7 @@ module _ (form : Form) (s : Shape) (reads : Reads form s.rules) (once : s.args_o
             ∙ walk;
         holds = pending_settles s.rules o.rule name word parts after o.by_id o.one refl holds.0 none;
         passes = turn r h word (h, value) met (plain_passes None word h plain)
-            (rw (o.found, once) (or_right _ _ holds.1));
+            (rw (o.found, once) (or_second _ _ holds.1));
       }
 
   step_named : (parts : List Part) (taken : ℕ) (name : Text) (joined : Option Text) (word : Text) (h : Held)

@@ -1,4 +1,4 @@
--- Words that have a form are taken by `clap`, as the command of that form, with the same values.
+-- Words that some_of a form are taken by `clap`, as the command of that form, with the same values.
 use Rattle.std.proofs.Common.{◌≡◌, ◌∙◌, ◌&&◌, Bool, true, false, cond, List, [], ◌∷◌, Option, Some, None, refl, ap, sym}
 use Rattle.std.proofs.Common.{subst, map, true≢false}
 use Rattle.std.specs.List.{fold, list_all}
@@ -19,6 +19,7 @@ use Rattle.qc_words.specs.Vocabulary.{with_word, with_words}
 use Rattle.qc_words.proofs.Fits.{Fits, Reads, form_fits}
 use Rattle.qc_words.proofs.Rows.{first_is_value, given_rows, row}
 use Rattle.qc_words.proofs.Steps.{Holds, Steps, stands, step}
+use Rattle.qc_list.proofs.Options.{some_of}
 
 module _ (form : Form) (s : Shape) (reads : Reads form s.rules) (once : s.args_override_self ≡ false) where
   -- the walk over words, where the reading comes to `end`
@@ -101,7 +102,7 @@ module _ (form : Form) (a : App) (fits : Fits form a) where
       let at = level words end w idle given in
       (rw (fits.no_subcommands, stopped) at.0, rw fits.no_subcommands at.1)
 
--- words that have a form are taken with just their values
+-- words that some_of a form are taken with just their values
 pub words_of_a_form_are_taken_by_clap : (form : Form) → IsForm form → (words : List Text) (parts : List Part)
     → parts_of form words ≡ Some parts
     → IsTaken form words parts
@@ -117,15 +118,11 @@ words_of_a_form_are_taken_by_clap form is words parts e =
       values = λ name. ap (first_of name) at.1 ∙ first_is_value name end.parts ∙ ap (λ ps. value_of name ps) t.1;
     })
 
-have : {A : Type 0} (o : Option A) → is_some o ≡ true → (x : A) × (o ≡ Some x)
-have None e = absurd (true≢false (sym e))
-have (Some x) e = (x, refl)
-
 -- `clap` fails at them only for want of memory
 pub takes_words : (form : Form) → IsForm form → (words : List Text) → is_some (parts_of form words) ≡ true → (a : App)
     → a ≡ command_for form → takes a words ≡ true
 takes_words form is words has a same =
-    let parts = have (parts_of form words) has in
+    let parts = some_of (parts_of form words) has in
     ap (λ (a : App). takes a words) same ∙ (words_of_a_form_are_taken_by_clap form is words parts.0 parts.1).takes
 
 -- and gives their values
@@ -133,7 +130,7 @@ pub gives_values : (form : Form) → IsForm form → (words : List Text) → is_
     → a ≡ command_for form → (m : ArgMatches) → HasMatchesOf a words m
     → Some (found_in m) ≡ values_of form words
 gives_values form is words has a same m matches =
-    let parts = have (parts_of form words) has in
+    let parts = some_of (parts_of form words) has in
     let as_read = words_of_a_form_are_taken_by_clap form is words parts.0 parts.1 in
     let rows : rows_of (found_of m) ≡ matches_of (command_for form) words =
     (matches (ap is_simple same ∙ (form_fits form is).0)).0 ∙ ap (λ a. matches_of a words) same in

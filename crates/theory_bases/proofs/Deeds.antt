@@ -6,26 +6,16 @@ use Rattle.qc_entry.specs.declared.line.Line.{Line}
 use Rattle.qc_entry.specs.declared.line.OwnLine.{OwnLine}
 use Rattle.qc_decl.specs.declared.declaration.Declaration.{Declaration}
 use Rattle.qc_list.specs.Vocabulary.{In}
-use Rattle.theory_onecopy.proofs.Lists.{in_split}
 use Rattle.theory_onecopy.specs.Vocabulary.{committed_line}
 use Rattle.theory_machine.specs.Vocabulary.{Closes, Decision, Deed, Grants, Installs, Item, LearnsAbort, LearnsCommit}
-use Rattle.theory_machine.specs.Vocabulary.{Lock, Own, Prepares, Promise, Rises, Site, SiteLaws, Status, after_commit}
+use Rattle.theory_machine.specs.Vocabulary.{Own, Prepares, Promise, Rises, Site, SiteLaws, Status, after_commit}
 use Rattle.theory_machine.specs.Vocabulary.{after_deed, after_prepare, each_held, epoch_from, held_by_promises}
 use Rattle.theory_machine.specs.Vocabulary.{items_of, promise_of, stamped_lines}
-use Rattle.theory_machine.proofs.Sound.{IsStamped}
+use Rattle.theory_machine.proofs.Sound.{committed_line_in}
 use Rattle.theory_machine.proofs.SiteLists.{items_of-append, in_dropped, found}
 use Rattle.theory_bases.specs.Vocabulary.{BelongsTo, IsInherited, IsOwnWrittenIn, IsSiteOfEpoch, IsWrittenIn}
 use Rattle.theory_bases.proofs.Items.{left_over, of_each, of_promises}
-
--- which own line a stamped line is
-stamped_in : (tx : TxId) (stamp : Stamp) (items : List Item) (l : Line) → In l (stamped_lines tx stamp items)
-    → IsStamped tx stamp items l
-stamped_in tx stamp [] l h = absurd h
-stamped_in tx stamp (Lock k ∷ xs) l h = let r = stamped_in tx stamp xs l h in
-    record { own = r.own; listed = inr r.listed; is = r.is }
-stamped_in tx stamp (Own o ∷ xs) l (inl same) = record { own = o; listed = inl refl; is = same }
-stamped_in tx stamp (Own o ∷ xs) l (inr h) = let r = stamped_in tx stamp xs l h in
-    record { own = r.own; listed = inr r.listed; is = r.is }
+use Rattle.qc_list.proofs.Members.{In-either}
 
 module _ (decl : Declaration) (status : TxId → Status) (epoch : TxId → ℕ) (decided : List Decision) where
   -- a stamped own line that was written in the epoch is a line that was
@@ -62,8 +52,8 @@ module _ (decl : Declaration) (status : TxId → Status) (epoch : TxId → ℕ) 
   commit_keeps k s tx stamp (Some p) e w h =
       let f = found tx s.prepared p e in
       record {
-        lines = λ l i. elim (in_split l (stamped_lines tx stamp p.items) s.volatile i) [
-          | inl a ↦ let r = stamped_in tx stamp p.items l a in
+        lines = λ l i. elim (In-either l (stamped_lines tx stamp p.items) s.volatile i) [
+          | inl a ↦ let r = committed_line_in tx stamp p.items l a in
               inl (line_of_own k tx stamp r.own l (subst (λ (t : TxId). IsOwnWrittenIn decl status epoch k t r.own) f.1
               (h.promised p r.own (w.prepared p f.0) r.listed)) r.is)
           | inr b ↦ h.lines l b
@@ -86,8 +76,8 @@ module _ (decl : Declaration) (status : TxId → Status) (epoch : TxId → ℕ) 
   pub deed_keeps : (k : ℕ) (s : Site) (d : Deed) → Brings k d → SiteLaws s → IsSiteOfEpoch decl status epoch decided k s
       → IsSiteOfEpoch decl status epoch decided (epoch_from k (d ∷ [])) (after_deed s d)
   deed_keeps k s (Grants tx items view) ok w h = record {
-    lines = λ l i. elim (in_split l view s.volatile i) [ inl a ↦ ok.0 l a | inr b ↦ h.lines l b ];
-    held = λ u o i. elim (in_split (Own o) (items_of u (each_held tx items)) (items_of u s.held)
+    lines = λ l i. elim (In-either l view s.volatile i) [ inl a ↦ ok.0 l a | inr b ↦ h.lines l b ];
+    held = λ u o i. elim (In-either (Own o) (items_of u (each_held tx items)) (items_of u s.held)
         (subst (λ (xs : List Item). In (Own o) xs) (items_of-append u (each_held tx items) s.held) i)) [
           | inl a ↦ let e = of_each tx u (Own o) items a in
               subst (λ (t : TxId). IsOwnWrittenIn decl status epoch k t o) (sym e.0) (ok.1 o e.1)

@@ -1,7 +1,5 @@
 -- Lines above a log stand behind it in the union, so the state after both is reached from the state after the first.
-use Rattle.std.proofs.Common.{◌≡◌, ℕ, ◌<◌, inl, inr, List, [], ◌∷◌, ◌++◌, Option, Some, nat_lt, true, lt-ltb}
-use Rattle.std.proofs.Common.{append-nil, refl, sym, ap, ◌∙◌}
-use Rattle.std.specs.Ordering.{nat_cmp}
+use Rattle.std.proofs.Common.{◌≡◌, ℕ, ◌<◌, inl, inr, List, [], ◌∷◌, ◌++◌, Option, Some, append-nil, refl, sym, ap, ◌∙◌}
 use Rattle.std.specs.declared.cmp.Ordering.TheVariants.{Less}
 use Rattle.qc_entry.specs.declared.line.Line.{Line}
 use Rattle.qc_entry.specs.Vocabulary.{IsAscending, line_cmp, union}
@@ -11,13 +9,11 @@ use Rattle.qc_entry.proofs.Members.{ascending-same}
 use Rattle.qc_table.specs.Vocabulary.{after, reached}
 use Rattle.qc_table.proofs.Runs.{runs_join}
 use Rattle.theory_bases.specs.Vocabulary.{IsAbove, IsUnionOf, events, state_from}
-
-nat_less : (a b : ℕ) → a < b → nat_cmp a b ≡ Less
-nat_less a b l = let t : nat_lt a b ≡ true = lt-ltb a b l in rw t refl
+use Rattle.qc_list.proofs.Numbers.{cmp_below}
 
 -- a later clock comes later
 pub above_is_later : (m l : Line) → m.stamp.clock < l.stamp.clock → line_cmp m l ≡ Less
-above_is_later m l h = rw (nat_less m.stamp.clock l.stamp.clock h) refl
+above_is_later m l h = rw (cmp_below m.stamp.clock l.stamp.clock h) refl
 
 -- lines that are above a log stand behind it
 pub logs_stand_behind : (first second : List Line) → IsAbove first second → union first second ≡ first ++ second

@@ -4,10 +4,10 @@ use Rattle.qc_stamp.specs.declared.stamp.TxId.{TxId}
 use Rattle.qc_stamp.specs.Vocabulary.{same_tx}
 use Rattle.qc_stamp.proofs.Orders.{same_tx_is}
 use Rattle.qc_list.specs.Vocabulary.{In}
-use Rattle.theory_onecopy.proofs.Lists.{in_split}
 use Rattle.theory_machine.specs.Vocabulary.{Held, Item, Promise, each_held, held_by_promises, items_of, without_tx}
 use Rattle.theory_machine.proofs.SiteLists.{items_of-append, items_of-each_held, items_of-other, items_of-dropped}
 use Rattle.theory_machine.proofs.SiteLists.{items_of-kept}
+use Rattle.qc_list.proofs.Members.{In-either}
 
 -- what is still held was held
 pub left_over : (tx u : TxId) (x : Item) (hs : List Held) → In x (items_of u (without_tx tx hs)) → In x (items_of u hs)
@@ -43,7 +43,7 @@ pub record IsPromised (ps : List Promise) (tx : TxId) (x : Item) : Type 0 where
 pub of_promises : (ps : List Promise) (u : TxId) (x : Item) → In x (items_of u (held_by_promises ps))
     → IsPromised ps u x
 of_promises [] u x h = absurd h
-of_promises (p ∷ ps) u x h = elim (in_split x (items_of u (each_held p.tx p.items)) (items_of u (held_by_promises ps))
+of_promises (p ∷ ps) u x h = elim (In-either x (items_of u (each_held p.tx p.items)) (items_of u (held_by_promises ps))
     (subst (λ (xs : List Item). In x xs) (items_of-append u (each_held p.tx p.items) (held_by_promises ps)) h)) [
       | inl a ↦ let e = of_each p.tx u x p.items a in record { by = p; listed = inl refl; its = sym e.0; has = e.1 }
       | inr b ↦ let r = of_promises ps u x b in record { by = r.by; listed = inr r.listed; its = r.its; has = r.has }

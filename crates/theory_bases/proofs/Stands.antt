@@ -4,8 +4,7 @@ use Rattle.qc_stamp.specs.declared.stamp.Stamp.{Stamp}
 use Rattle.qc_stamp.specs.declared.stamp.TxId.{TxId}
 use Rattle.qc_entry.specs.declared.line.Line.{Line}
 use Rattle.qc_list.specs.Vocabulary.{In}
-use Rattle.qc_list.proofs.Members.{In-first, In-second}
-use Rattle.theory_onecopy.proofs.Lists.{in_split}
+use Rattle.qc_list.proofs.Members.{In-first, In-second, In-either}
 use Rattle.theory_machine.specs.Vocabulary.{Closes, Deed, Grants, Held, Installs, LearnsAbort, LearnsCommit, Prepares}
 use Rattle.theory_machine.specs.Vocabulary.{Promise, Rises, Site, after_commit, after_deed, after_prepare, each_held}
 use Rattle.theory_machine.specs.Vocabulary.{empty_site, held_by_promises, items_of, promise_of, site_after, site_from}
@@ -16,12 +15,12 @@ use Rattle.theory_bases.specs.Vocabulary.{base_after, base_from, base_of, short_
 -- the same lines join both
 more : (base short whole new : List Line) → IsUnionOf base short whole → IsUnionOf base (new ++ short) (new ++ whole)
 more base short whole new h = record {
-  only = λ l i. elim (in_split l new whole i) [
+  only = λ l i. elim (In-either l new whole i) [
     | inl a ↦ inl (In-first l new short a)
     | inr b ↦ elim
         (h.only l b) [ inl x ↦ inl (In-second l new short x) | inr y ↦ inr y ]
   ];
-  has_short = λ l i. elim (in_split l new short i)
+  has_short = λ l i. elim (In-either l new short i)
       [ inl a ↦ In-first l new whole a | inr b ↦ In-second l new whole (h.has_short l b) ];
   has_base = λ l i. In-second l new whole (h.has_base l i);
 }
@@ -31,7 +30,7 @@ with_view : (base short whole lines view : List Line) → IsUnionOf base short w
     → ((l : Line) → In l lines → In l view) → ((l : Line) → In l view → In l lines ⊎ (In l short ⊎ In l base))
     → IsUnionOf base (lines ++ short) (view ++ whole)
 with_view base short whole lines view h less whole_of = record {
-  only = λ l i. elim (in_split l view whole i) [
+  only = λ l i. elim (In-either l view whole i) [
     | inl a ↦ elim (whole_of l a) [
       | inl x ↦ inl (In-first l lines short x)
       | inr (inl y) ↦ inl
@@ -40,7 +39,7 @@ with_view base short whole lines view h less whole_of = record {
     ]
     | inr b ↦ elim (h.only l b) [ inl x ↦ inl (In-second l lines short x) | inr y ↦ inr y ]
   ];
-  has_short = λ l i. elim (in_split l lines short i)
+  has_short = λ l i. elim (In-either l lines short i)
       [ inl a ↦ In-first l view whole (less l a) | inr b ↦ In-second l view whole (h.has_short l b) ];
   has_base = λ l i. In-second l view whole (h.has_base l i);
 }

@@ -9,10 +9,10 @@ use Rattle.qc_entry.specs.declared.line.OwnLine.{OwnLine}
 use Rattle.qc_decl.specs.declared.declaration.Declaration.{Declaration}
 use Rattle.qc_list.specs.Vocabulary.{In}
 use Rattle.theory_onecopy.specs.Vocabulary.{Executed, committed_line, own_line}
-use Rattle.theory_onecopy.proofs.Lists.{in_split}
 use Rattle.theory_machine.specs.Vocabulary.{AreInOrder, IsAnsweredFromQuorum, IsClosedAt, IsExecutedFrom}
 use Rattle.theory_machine.specs.Vocabulary.{IsNextOperation, LogLaws, State, StateLaws, own_on, site_after}
 use Rattle.theory_machine.proofs.Grows.{same}
+use Rattle.qc_list.proofs.Members.{In-either}
 
 module _ (decl : Declaration) where
   -- what an operation that was answered is
@@ -88,7 +88,7 @@ module _ (decl : Declaration) where
         where
           on_object : (ds : List Executed) (object : ℕ) → In o (own_on ds object) → o.object ≡ object
           on_object [] object h = absurd h
-          on_object (e ∷ es) object h = elim (in_split o
+          on_object (e ∷ es) object h = elim (In-either o
               (cond ((e.op.object == object) && is_some e.op.resp) (own_line e ∷ []) []) (own_on es object) h) [
                 | inl here ↦ one ((e.op.object == object)) refl (is_some e.op.resp) here
                 | inr there ↦ on_object es object there

@@ -5,21 +5,21 @@ use Rattle.qc_stamp.specs.declared.stamp.Stamp.{Stamp}
 use Rattle.qc_stamp.specs.declared.stamp.TxId.{TxId}
 use Rattle.qc_decl.specs.declared.declaration.Declaration.{Declaration}
 use Rattle.qc_list.specs.Vocabulary.{In}
-use Rattle.theory_onecopy.proofs.Lists.{in_split}
 use Rattle.theory_machine.specs.Vocabulary.{Aborted, AgreesWithStatus, Close, Closes, CountedLaw, Deed, Grant, Granted}
 use Rattle.theory_machine.specs.Vocabulary.{GrantedLaw, Grants, HasDecision, HasRisingEpochs, Installs, IsAllowed}
 use Rattle.theory_machine.specs.Vocabulary.{IsOutcome, KeepsLife, Learn, LearnsAbort, LearnsCommit, MayGrant}
 use Rattle.theory_machine.specs.Vocabulary.{MayPrepare, Prepares, Rise, Rises, State, StateLaws, Verdict, Vote, YesVote}
 use Rattle.theory_machine.specs.Vocabulary.{after_act, deed_of, deed_of_outcome, epoch_from, put}
 use Rattle.qc_stamp.specs.Vocabulary.{same_tx}
-use Rattle.theory_machine.proofs.Names.{put_case, tx_test}
-use Rattle.qc_stamp.proofs.Orders.{same_tx_is}
+use Rattle.theory_machine.proofs.Names.{put_case}
+use Rattle.qc_stamp.proofs.Orders.{same_tx_is, same_tx_test}
 use Rattle.theory_machine.proofs.Deeds.{IsCalm}
 use Rattle.theory_machine.proofs.Counted.{granted_after, granted_rises, granted_closes, counted_calm, counted_borne}
 use Rattle.theory_machine.proofs.Counted.{counted_rises, counted_closes, counted_vote, counted_other}
 use Rattle.theory_machine.proofs.Outcomes.{outcome_commit, outcome_aborted, outcome_agrees, outcome_keeps_life}
 use Rattle.theory_machine.proofs.Outcomes.{committed_record}
 use Rattle.theory_machine.proofs.Installed.{IsNew, one_rising, rising-append, outcome_new, one_installed}
+use Rattle.qc_list.proofs.Members.{In-either}
 
 module _ (decl : Declaration) where
   -- the deeds of all sites after one more
@@ -27,7 +27,7 @@ module _ (decl : Declaration) where
       → In e (put w.deeds site (w.deeds site ++ d ∷ []) s) → AgreesWithStatus w.status e
   deeds_more w site d ok l s e = put_case (λ (ds : List Deed). In e ds → AgreesWithStatus w.status e) w.deeds site
       (w.deeds site ++ d ∷ []) s
-      (λ same h. elim (in_split e (w.deeds site) (d ∷ []) h) [
+      (λ same h. elim (In-either e (w.deeds site) (d ∷ []) h) [
         | inl old ↦ l.deeds site e old
         | inr new ↦ elim new [
           | inl is ↦ subst (λ (x : Deed). AgreesWithStatus w.status x)
@@ -93,7 +93,7 @@ module _ (decl : Declaration) where
     planned = l.planned;
     installed = λ s k k2 log. put_case (λ (ds : List Deed). In (Installs k k2 log) ds → HasDecision w.decided k k2 log)
         w.deeds site (w.deeds site ++ d ∷ []) s
-        (λ e h. elim (in_split (Installs k k2 log) (w.deeds site) (d ∷ []) h) [
+        (λ e h. elim (In-either (Installs k k2 log) (w.deeds site) (d ∷ []) h) [
           | inl old ↦ l.installed site k k2 log old
           | inr last ↦ elim last [
             | inl same ↦ one_installed w.decided
@@ -171,7 +171,7 @@ module _ (decl : Declaration) where
           counted_other (w.deeds g.site ++ Prepares tx ∷ []) (w.life g.site) (w.status g.tx) w.votes g
           (record { tx = tx; site = site })
           (λ is. let its : g.tx ≡ tx = ap (λ (v : YesVote). v.tx) is in
-          let t : same_tx g.tx tx ≡ true = tx_test g.tx tx its in cc) k
+          let t : same_tx g.tx tx ≡ true = same_tx_test g.tx tx its in cc) k
 
       counted : (g : Granted) → In g w.counted
           → CountedLaw (put w.deeds site (w.deeds site ++ Prepares tx ∷ []) g.site) (w.life g.site) (w.status g.tx)
@@ -214,7 +214,8 @@ module _ (decl : Declaration) where
           → CountedLaw (w.deeds g.site ++ deed_of t ∷ []) (w.life g.site) (w.status g.tx) w.votes g
       seen_by g h true e = mine g h (same_tx_is t.tx g.tx e) t.stamp (l.verdicts t ok)
       seen_by g h false e = counted_calm (w.deeds g.site) (w.life g.site) (w.status g.tx) w.votes g (deed_of t)
-          (λ alive. other g t.stamp (λ same. let x : same_tx t.tx g.tx ≡ true = tx_test t.tx g.tx same in absurd (cc)))
+          (λ alive. other g t.stamp
+          (λ same. let x : same_tx t.tx g.tx ≡ true = same_tx_test t.tx g.tx same in absurd (cc)))
           (l.counted g h)
 
   by_site : (w : State) (site : ℕ) (d : Deed) (P : List Deed → ℕ → Type 0) (s : ℕ)

@@ -3,10 +3,10 @@ use Rattle.std.proofs.Common.{◌≡◌, ◌≢◌, Bool, true, false, IsTrue, �
 use Rattle.qc_list.specs.Vocabulary.{In}
 use Rattle.qc_stamp.specs.declared.stamp.TxId.{TxId}
 use Rattle.qc_stamp.specs.Vocabulary.{same_tx}
-use Rattle.theory_machine.proofs.Names.{tx_test}
-use Rattle.qc_stamp.proofs.Orders.{same_tx_is}
+use Rattle.qc_stamp.proofs.Orders.{same_tx_is, same_tx_test}
 use Rattle.theory_machine.specs.Vocabulary.{Closes, Deed, Grants, Installs, IsPreparedOrDone, KeepsLife, LearnsAbort}
 use Rattle.theory_machine.specs.Vocabulary.{LearnsCommit, Prepares, Rises, SparesUntilDone}
+use Rattle.qc_list.proofs.Booleans.{or_second}
 
 -- a deed that harms nobody but whom it names
 abbrev pub IsCalm : TxId → Deed → Type 0
@@ -101,13 +101,9 @@ more_prepared_or_done tx (Closes ∷ ds) is d b = more_prepared_or_done tx ds is
 more_prepared_or_done tx (Installs k c log ∷ ds) is d b = tt
 more_prepared_or_done tx (Rises ∷ ds) is d b = more_prepared_or_done tx ds is d b
 
-or_true : (b c : Bool) → c ≡ true → (b || c) ≡ true
-or_true true c e = refl
-or_true false c e = e
-
 -- a vote bears
 pub vote_prepared_or_done : (tx : TxId) (ds : List Deed) (is : Bool) → IsPreparedOrDone tx is (ds ++ Prepares tx ∷ [])
-vote_prepared_or_done tx [] is = or_true is (same_tx tx tx) (tx_test tx tx refl)
+vote_prepared_or_done tx [] is = or_second is (same_tx tx tx) (same_tx_test tx tx refl)
 vote_prepared_or_done tx (Grants t items view ∷ ds) is = vote_prepared_or_done tx ds is
 vote_prepared_or_done tx (Prepares t ∷ ds) is = vote_prepared_or_done tx ds (is || same_tx tx t)
 vote_prepared_or_done tx (LearnsCommit t stamp ∷ ds) true = λ ne. vote_prepared_or_done tx ds true

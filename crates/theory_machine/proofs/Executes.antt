@@ -7,10 +7,9 @@ use Rattle.qc_decl.specs.declared.declaration.Declaration.{Declaration}
 use Rattle.qc_decl.specs.Vocabulary.{append_need_of}
 use Rattle.qc_list.specs.Vocabulary.{In}
 use Rattle.theory_onecopy.specs.Vocabulary.{Executed, own_line}
-use Rattle.theory_onecopy.proofs.Lists.{in_split}
-use Rattle.qc_list.proofs.Members.{In-first, In-second}
-use Rattle.theory_machine.specs.Vocabulary.{Active, AreInOrder, HasQuorum, IsAnsweredFromQuorum, IsClosedAt}
-use Rattle.theory_machine.specs.Vocabulary.{IsExecutedOrChosen, IsNextOperation, LogLaws, NotBegun, Own, State, put_tx}
+use Rattle.qc_list.proofs.Members.{In-first, In-second, In-either}
+use Rattle.theory_machine.specs.Vocabulary.{AreInOrder, HasQuorum, IsAnsweredFromQuorum, IsClosedAt, IsExecutedOrChosen}
+use Rattle.theory_machine.specs.Vocabulary.{IsNextOperation, LogLaws, NotBegun, Own, State, put_tx}
 use Rattle.theory_machine.proofs.Names.{put_tx_case, put_tx_here}
 use Rattle.theory_machine.proofs.Places.{order_more}
 use Rattle.theory_machine.proofs.Grows.{Grows, closed_at_more, carry}
@@ -77,7 +76,7 @@ module _ (decl : Declaration) where
       was t d (inl h) = put_tx_case (λ (ds : List Executed). In d ds
           → IsExecutedOrChosen (w.executed t) (w.chosen t) d ⊎ ((t ≡ tx) × (d ≡ operation))) w.executed tx
           (w.executed tx ++ operation ∷ []) t
-          (λ e i. elim (in_split d (w.executed tx) (operation ∷ []) i) [
+          (λ e i. elim (In-either d (w.executed tx) (operation ∷ []) i) [
             | inl old ↦ inl (inl (subst (λ (x : TxId). In d (w.executed x)) (sym e) old))
             | inr new ↦ elim new [ inl is ↦ inr (e, is) | inr never ↦ absurd never ]
           ])
@@ -119,7 +118,7 @@ module _ (decl : Declaration) where
       written t d h s = put_tx_case (λ (ds : List Executed). In d ds
           → HasQuorum decl (w.epoch t) w.counted t (Own (own_line d))
           (append_need_of decl (w.epoch t) d.op.object d.event)) w.executed tx (w.executed tx ++ operation ∷ []) t
-          (λ e i. elim (in_split d (w.executed tx) (operation ∷ []) i) [
+          (λ e i. elim (In-either d (w.executed tx) (operation ∷ []) i) [
             | inl old ↦ l.written t d (subst (λ (x : TxId). In d (w.executed x)) (sym e) old) s
             | inr new ↦ elim new [
               | inl is ↦ subst (λ (x : TxId). HasQuorum decl (w.epoch x) w.counted x (Own (own_line d))

@@ -11,8 +11,7 @@ use Rattle.theory_machine.specs.Vocabulary.{Installs, Item, LearnsAbort, LearnsC
 use Rattle.theory_machine.specs.Vocabulary.{SiteLaws, SparesUntilDone, after_commit, after_deed, after_prepare}
 use Rattle.theory_machine.specs.Vocabulary.{done_record, done_records, each_held, empty_site, epoch_from, items_of}
 use Rattle.theory_machine.specs.Vocabulary.{promise_of, site_after, site_from}
-use Rattle.theory_machine.proofs.Names.{tx_test}
-use Rattle.qc_stamp.proofs.Orders.{same_tx_is}
+use Rattle.qc_stamp.proofs.Orders.{same_tx_is, same_tx_test}
 use Rattle.theory_machine.proofs.SiteLists.{items_of-append, items_of-each_held, in_dropped, not_found}
 use Rattle.theory_machine.proofs.SiteOrder.{laws_after}
 use Rattle.theory_machine.proofs.Epochs.{epoch-append, none_between, rising-right}
@@ -158,5 +157,5 @@ pub found_some : (tx : TxId) (ps : List Promise) (p : Promise) → In p ps → p
 found_some tx ps p h e = by (promise_of tx ps) refl
   where
     by : (o : Option Promise) → promise_of tx ps ≡ o → IsSome o
-    by None n = absurd (true≢false (sym (tx_test tx p.tx (sym e)) ∙ not_found tx ps n p h))
+    by None n = absurd (true≢false (sym (same_tx_test tx p.tx (sym e)) ∙ not_found tx ps n p h))
     by (Some q) n = refl

@@ -8,8 +8,7 @@ use Rattle.qc_decl.specs.declared.declaration.Declaration.{Declaration}
 use Rattle.qc_decl.specs.Vocabulary.{IsAccepted}
 use Rattle.qc_list.specs.Vocabulary.{In}
 use Rattle.theory_onecopy.specs.Vocabulary.{Executed, own_line}
-use Rattle.theory_onecopy.proofs.Lists.{in_split}
-use Rattle.qc_list.proofs.Members.{In-second}
+use Rattle.qc_list.proofs.Members.{In-second, In-either}
 use Rattle.theory_machine.specs.Vocabulary.{Aborted, Act, AreInOrder, Deed, Granted, Grants, HasRisingEpochs}
 use Rattle.theory_machine.specs.Vocabulary.{HaveNoInstall, IsExecutedOrChosen, IsOutcome, IsRun, Item, LearnsCommit}
 use Rattle.theory_machine.specs.Vocabulary.{LogLaws, Own, Site, StateLaws, Status, Voting, after_deed, empty_site}
@@ -39,7 +38,7 @@ module _ (decl : Declaration) (accepted : IsAccepted decl) (acts : List Act) (ru
       omega arith
   low (e ∷ es) earlier o small a (inr there) =
       subst (λ (l : List Executed). a.number ≤ length l) (append_assoc earlier (e ∷ []) es)
-      (low es (earlier ++ e ∷ []) o.1 (λ b i. elim (in_split b earlier (e ∷ []) i) [
+      (low es (earlier ++ e ∷ []) o.1 (λ b i. elim (In-either b earlier (e ∷ []) i) [
         | inl old ↦ let x : b.number ≤ length earlier = small b old in let y = length-append earlier (e ∷ []) in
             omega arith
         | inr new ↦ elim new [

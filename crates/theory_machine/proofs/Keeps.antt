@@ -1,11 +1,10 @@
 -- Each act keeps the laws of the state, so every run does.
-use Rattle.std.proofs.Common.{◌≡◌, ◌≢◌, ℕ, ◌≤◌, inl, inr, List, [], ◌∷◌, ◌++◌, Some, None, refl, sym, ap, ◌∙◌, subst}
+use Rattle.std.proofs.Common.{◌≡◌, ◌≢◌, ℕ, ◌≤◌, inl, inr, List, [], ◌∷◌, ◌++◌, Some, None, refl, sym, ◌∙◌, subst}
 use Rattle.std.proofs.Common.{append-nil}
 use Rattle.qc_stamp.specs.declared.stamp.TxId.{TxId}
 use Rattle.qc_decl.specs.declared.declaration.Declaration.{Declaration}
 use Rattle.qc_list.specs.Vocabulary.{In}
-use Rattle.theory_onecopy.proofs.Lists.{in_split}
-use Rattle.qc_list.proofs.Members.{In-second}
+use Rattle.qc_list.proofs.Members.{In-second, In-either}
 use Rattle.theory_machine.specs.Vocabulary.{Abort, Aborted, Act, Active, Announce, Begin, Choose, Close, Commit}
 use Rattle.theory_machine.specs.Vocabulary.{CommitUnknown, Committed, Count, Decide, Decision, Deed, Execute}
 use Rattle.theory_machine.specs.Vocabulary.{ExecuteAbsent, Grant, Granted, Install, Installs, IsAllowed, IsDecisionFrom}
@@ -118,7 +117,7 @@ module _ (decl : Declaration) where
     made = l.made;
   }
   keeps w (Announce tx) ok l = record {
-    verdicts = λ t h. elim (in_split t (verdict_of tx (w.status tx)) w.verdicts h) [
+    verdicts = λ t h. elim (In-either t (verdict_of tx (w.status tx)) w.verdicts h) [
       | inl new ↦ let i = verdict_is tx (w.status tx) t new in
           subst (λ (x : TxId). IsOutcome (w.status x) t.stamp) (sym i.0) i.1
       | inr old ↦ l.verdicts t old

@@ -6,8 +6,7 @@ use Rattle.qc_entry.specs.declared.line.OwnLine.{OwnLine}
 use Rattle.qc_decl.specs.declared.declaration.Declaration.{Declaration}
 use Rattle.qc_list.specs.Vocabulary.{In}
 use Rattle.theory_onecopy.specs.Vocabulary.{Executed, own_line}
-use Rattle.theory_onecopy.proofs.Lists.{in_split}
-use Rattle.qc_list.proofs.Members.{In-first}
+use Rattle.qc_list.proofs.Members.{In-first, In-either}
 use Rattle.theory_machine.specs.Vocabulary.{AreInOrder, own_on}
 
 module _ (decl : Declaration) where
@@ -25,7 +24,7 @@ module _ (decl : Declaration) where
 
   pub own_of : (ds : List Executed) (object : ℕ) (o : OwnLine) → In o (own_on ds object) → IsOwnOf ds object o
   own_of [] object o h = absurd h
-  own_of (e ∷ es) object o h = elim (in_split o
+  own_of (e ∷ es) object o h = elim (In-either o
       (cond ((e.op.object == object) && is_some e.op.resp) (own_line e ∷ []) []) (own_on es object) h) [
         | inl here ↦ one (e.op.object == object) refl (is_some e.op.resp) refl here
         | inr there ↦ let r = own_of es object o there in

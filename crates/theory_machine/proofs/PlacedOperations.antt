@@ -14,8 +14,8 @@ use Rattle.qc_decl.specs.declared.declaration.Declaration.{Declaration}
 use Rattle.theory_onecopy.specs.Vocabulary.{Executed, IsEarlier, IsOrdered, IsOwnBefore, IsStampedBefore, Placed}
 use Rattle.theory_onecopy.specs.Vocabulary.{own_line}
 use Rattle.qc_list.specs.Vocabulary.{In}
-use Rattle.theory_onecopy.proofs.Lists.{in_map, in_split, map_in, ordered-append}
-use Rattle.qc_list.proofs.Members.{In-first, In-second}
+use Rattle.theory_onecopy.proofs.Lists.{map_in, ordered-append}
+use Rattle.qc_list.proofs.Members.{In-first, In-second, In-either, In-map}
 use Rattle.theory_machine.specs.Vocabulary.{AreInOrder, own_on, place, placed}
 use Rattle.theory_machine.proofs.OwnLines.{own_of}
 use Rattle.theory_machine.proofs.Places.{above}
@@ -31,7 +31,7 @@ pub record IsOf (executed : TxId → List Executed) (L : List CommitRecord) (p :
 pub of_placed : (executed : TxId → List Executed) (L : List CommitRecord) (p : Placed) → In p (placed executed L)
     → IsOf executed L p
 of_placed executed [] p h = absurd h
-of_placed executed (c ∷ cs) p h = elim (in_split p (map (λ (d : Executed). place c d) (executed c.tx))
+of_placed executed (c ∷ cs) p h = elim (In-either p (map (λ (d : Executed). place c d) (executed c.tx))
     (placed executed cs) h) [
       | inl here ↦
           let m = map_in (λ (d : Executed). place c d) p (executed c.tx) here in
@@ -48,7 +48,7 @@ placed_of executed (e ∷ es) c d (inl same) i =
     subst (λ (x : CommitRecord). In (place c d)
     (map (λ (y : Executed). place x y) (executed x.tx) ++ placed executed es)) same
     (In-first (place c d) (map (λ (y : Executed). place c y) (executed c.tx)) (placed executed es)
-    (in_map (λ (y : Executed). place c y) d (executed c.tx) i))
+    (In-map (λ (y : Executed). place c y) d (executed c.tx) i))
 placed_of executed (e ∷ es) c d (inr h) i =
     In-second (place c d) (map (λ (y : Executed). place e y) (executed e.tx)) (placed executed es)
     (placed_of executed es c d h i)

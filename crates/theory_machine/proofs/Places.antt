@@ -5,8 +5,7 @@ use Rattle.std.specs.Prelude.{◌&&◌, is_some}
 use Rattle.std.proofs.lemmas.List.{length-append}
 use Rattle.qc_list.specs.Vocabulary.{In}
 use Rattle.theory_onecopy.specs.Vocabulary.{Executed, own_line}
-use Rattle.theory_onecopy.proofs.Lists.{in_split}
-use Rattle.qc_list.proofs.Members.{In-first, In-second}
+use Rattle.qc_list.proofs.Members.{In-first, In-second, In-either}
 use Rattle.theory_machine.specs.Vocabulary.{AreInOrder, IsNextOperation, own_on}
 
 one_more : (earlier : List Executed) (d : Executed) → length (earlier ++ d ∷ []) ≡ suc (length earlier)
@@ -52,7 +51,7 @@ at_from (e ∷ es) earlier o front small d (inl same) =
         (let x : a.number ≤ length earlier = small a h in let y : e.number ≡ suc (length earlier) = o.0.numbered in
             omega arith),
       );
-      all = λ a h l. elim (in_split a earlier (e ∷ es) h) [
+      all = λ a h l. elim (In-either a earlier (e ∷ es) h) [
         | inl there ↦ there
         | inr here ↦ elim here [
           | inl is ↦ let x : a.number ≡ e.number = ap (λ (y : Executed). y.number) is in absurd (omega arith)
@@ -61,7 +60,7 @@ at_from (e ∷ es) earlier o front small d (inl same) =
               let z : e.number ≡ suc (length earlier) = o.0.numbered in absurd (omega arith)
         ]
       ];
-      one = λ a h l. elim (in_split a earlier (e ∷ es) h) [
+      one = λ a h l. elim (In-either a earlier (e ∷ es) h) [
         | inl there ↦ let x : a.number ≤ length earlier = small a there in
             let y : e.number ≡ suc (length earlier) = o.0.numbered in absurd (omega arith)
         | inr here ↦ elim here [
@@ -75,7 +74,7 @@ at_from (e ∷ es) earlier o front small d (inl same) =
 at_from (e ∷ es) earlier o front small d (inr h) =
     subst (λ (ds : List Executed). IsAt ds d) (append_assoc earlier (e ∷ []) es)
     (at_from es (earlier ++ e ∷ []) o.1 (order_more [] earlier e front o.0)
-    (λ a i. elim (in_split a earlier (e ∷ []) i) [
+    (λ a i. elim (In-either a earlier (e ∷ []) i) [
       | inl there ↦ let x : a.number ≤ length earlier = small a there in let y = one_more earlier e in omega arith
       | inr here ↦ elim here [
         | inl is ↦ let x : a.number ≡ e.number = ap (λ (z : Executed). z.number) is in let y = one_more earlier e in

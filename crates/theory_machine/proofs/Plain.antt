@@ -4,7 +4,6 @@ use Rattle.qc_stamp.specs.declared.stamp.Stamp.{Stamp}
 use Rattle.qc_stamp.specs.declared.stamp.TxId.{TxId}
 use Rattle.qc_decl.specs.declared.declaration.Declaration.{Declaration}
 use Rattle.qc_list.specs.Vocabulary.{In}
-use Rattle.theory_onecopy.proofs.Lists.{in_split}
 use Rattle.theory_machine.specs.Vocabulary.{Abort, Act, Announce, ArePlain, Begin, Choose, Close, Closes, Commit}
 use Rattle.theory_machine.specs.Vocabulary.{CommitUnknown, Count, Decide, Deed, Execute, ExecuteAbsent, Grant, Granted}
 use Rattle.theory_machine.specs.Vocabulary.{Grants, Install, Installs, IsAllowed, IsFirst, IsPlain, IsPlainDeed, IsRun}
@@ -12,12 +11,13 @@ use Rattle.theory_machine.specs.Vocabulary.{Learn, LearnsAbort, LearnsCommit, Pr
 use Rattle.theory_machine.specs.Vocabulary.{Rise, RiseClient, Rises, SendAppend, State, TakeSnapshot, Vote, after_act}
 use Rattle.theory_machine.specs.Vocabulary.{deed_of, deed_of_outcome, epoch_from, put, shut_from, state}
 use Rattle.theory_machine.proofs.Names.{put_case, put_tx_case}
+use Rattle.qc_list.proofs.Members.{In-either}
 
 deeds_more : (w : State) (site : ℕ) (d : Deed) → IsPlainDeed d → IsFirst w → (s : ℕ) (e : Deed)
     → In e (put w.deeds site (w.deeds site ++ d ∷ []) s) → IsPlainDeed e
 deeds_more w site d ok f s e = put_case (λ (ds : List Deed). In e ds → IsPlainDeed e) w.deeds site
     (w.deeds site ++ d ∷ []) s
-    (λ same h. elim (in_split e (w.deeds site) (d ∷ []) h) [
+    (λ same h. elim (In-either e (w.deeds site) (d ∷ []) h) [
       | inl old ↦ f.deeds site e old
       | inr new ↦ elim new [ inl is ↦ subst (λ (x : Deed). IsPlainDeed x) (sym is) ok | inr never ↦ absurd never ]
     ])

@@ -6,8 +6,7 @@ use Rattle.qc_stamp.specs.declared.stamp.Stamp.{Stamp}
 use Rattle.qc_stamp.specs.declared.stamp.TxId.{TxId}
 use Rattle.qc_list.proofs.Members.{In-first, In-second}
 use Rattle.qc_stamp.specs.Vocabulary.{same_tx}
-use Rattle.theory_machine.proofs.Names.{tx_test}
-use Rattle.qc_stamp.proofs.Orders.{same_tx_is}
+use Rattle.qc_stamp.proofs.Orders.{same_tx_is, same_tx_test}
 use Rattle.theory_machine.specs.Vocabulary.{Closes, Deed, Grants, Held, Holds, Installs, IsPromiseWith, Item}
 use Rattle.theory_machine.specs.Vocabulary.{LearnsAbort, LearnsCommit, Phase, Prepares, Promise, Rises, Site, Spares}
 use Rattle.theory_machine.specs.Vocabulary.{after_commit, after_deed, after_prepare, each_held, held_by_promises}
@@ -102,7 +101,7 @@ phase_new : (is b : Bool) (tx u : TxId) (item : Item) (items : List Item) (prepa
     (record { tx = u; items = items } ∷ without_promise u promises)
 phase_new true true tx u item items prepared promises e none its w =
     let same : w.by.tx ≡ u = w.its ∙ same_tx_is tx u e in
-    absurd (true≢false (sym (tx_test u w.by.tx (sym same)) ∙ not_found u prepared none w.by w.stands))
+    absurd (true≢false (sym (same_tx_test u w.by.tx (sym same)) ∙ not_found u prepared none w.by w.stands))
 phase_new true false tx u item items prepared promises e none its w =
     let other : same_tx u w.by.tx ≡ false = not_found u prepared none w.by w.stands in
     record {
@@ -112,7 +111,7 @@ phase_new true false tx u item items prepared promises e none its w =
       on_record = inr (dropped_in w.by u promises w.on_record other);
       each = λ p h t. elim h [
         | inl same ↦ let ut : u ≡ tx = subst (λ (x : Promise). x.tx ≡ tx) same t in
-            absurd (true≢false (sym (tx_test tx u (sym ut)) ∙ e))
+            absurd (true≢false (sym (same_tx_test tx u (sym ut)) ∙ e))
         | inr old ↦ w.each p (in_dropped p u promises old).0 t
       ];
     }
@@ -125,7 +124,7 @@ phase_new false true tx u item items prepared promises e none its w =
       on_record = inl refl;
       each = λ p h t. elim h [
         | inl is ↦ subst (λ (x : Promise). In item x.items) (sym is) (its same)
-        | inr old ↦ absurd (true≢false (sym (tx_test u p.tx (sym (t ∙ same))) ∙ (in_dropped p u promises old).1))
+        | inr old ↦ absurd (true≢false (sym (same_tx_test u p.tx (sym (t ∙ same))) ∙ (in_dropped p u promises old).1))
       ];
     }
 phase_new false false tx u item items prepared promises e none its w = rw e w

@@ -4,8 +4,7 @@ use Rattle.std.proofs.Common.{ap, ◌∙◌, subst, true≢false}
 use Rattle.qc_list.specs.Vocabulary.{In}
 use Rattle.qc_stamp.specs.declared.stamp.TxId.{TxId}
 use Rattle.qc_stamp.specs.Vocabulary.{same_tx}
-use Rattle.theory_machine.proofs.Names.{tx_test}
-use Rattle.qc_stamp.proofs.Orders.{same_tx_is}
+use Rattle.qc_stamp.proofs.Orders.{same_tx_is, same_tx_test}
 use Rattle.theory_machine.specs.Vocabulary.{Held, Item, Promise, each_held, items_of, promise_of, without_promise}
 use Rattle.theory_machine.specs.Vocabulary.{without_tx}
 
@@ -21,7 +20,7 @@ items_of-append tx (h ∷ hs) ys = by (same_tx tx h.tx) (items_of-append tx hs y
 
 pub items_of-each_held : (tx : TxId) (xs : List Item) → items_of tx (each_held tx xs) ≡ xs
 items_of-each_held tx [] = refl
-items_of-each_held tx (x ∷ xs) = rw (tx_test tx tx refl) (ap (λ (l : List Item). x ∷ l) (items_of-each_held tx xs))
+items_of-each_held tx (x ∷ xs) = rw (same_tx_test tx tx refl) (ap (λ (l : List Item). x ∷ l) (items_of-each_held tx xs))
 
 pub items_of-other : (tx u : TxId) (xs : List Item) → same_tx tx u ≡ false → items_of tx (each_held u xs) ≡ []
 items_of-other tx u [] ne = refl
@@ -47,7 +46,7 @@ items_of-kept tx u (h ∷ hs) ne = by (same_tx tx h.tx) (same_tx u h.tx) refl re
     by true true p q ih =
         let x : tx ≡ h.tx = same_tx_is tx h.tx p in
         let y : u ≡ h.tx = same_tx_is u h.tx q in
-        absurd (true≢false (sym (tx_test u tx (y ∙ sym x)) ∙ ne))
+        absurd (true≢false (sym (same_tx_test u tx (y ∙ sym x)) ∙ ne))
     by true false p q ih = ih
     by false true p q ih = rw q (ap (λ (l : List Item). h.item ∷ l) ih)
     by false false p q ih = rw q ih

@@ -8,10 +8,9 @@ use Rattle.qc_stamp.specs.declared.stamp.TxId.{TxId}
 use Rattle.qc_entry.specs.declared.line.Line.{Line}
 use Rattle.qc_entry.specs.declared.line.OwnLine.{OwnLine}
 use Rattle.theory_onecopy.specs.Vocabulary.{committed_line}
-use Rattle.theory_onecopy.proofs.Lists.{in_split}
-use Rattle.qc_list.proofs.Members.{In-first, In-second}
+use Rattle.qc_list.proofs.Members.{In-first, In-second, In-either}
 use Rattle.qc_stamp.specs.Vocabulary.{same_tx}
-use Rattle.theory_machine.proofs.Names.{tx_test, tx_cases}
+use Rattle.theory_machine.proofs.Names.{tx_cases}
 use Rattle.theory_machine.specs.Vocabulary.{Closes, Deed, Grants, HasDone, HaveNoInstall, Holds, Installs}
 use Rattle.theory_machine.specs.Vocabulary.{IsLoggedAtDone, Item, LearnsAbort, LearnsCommit, Lock, Own, Prepares}
 use Rattle.theory_machine.specs.Vocabulary.{Promise, Rises, Site, SiteLaws, Spares, SparesUntilDone, after_commit}
@@ -19,6 +18,7 @@ use Rattle.theory_machine.specs.Vocabulary.{after_deed, after_prepare, is_prepar
 use Rattle.theory_machine.specs.Vocabulary.{site_from, stamped_lines, without_promise}
 use Rattle.theory_machine.proofs.SiteLists.{dropped_in, in_dropped, found, not_found}
 use Rattle.theory_machine.proofs.SiteHolds.{held_law, held_after}
+use Rattle.qc_stamp.proofs.Orders.{same_tx_test}
 
 later : (tx : TxId) (is now : Bool) (d : Deed) (ds : List Deed) → (h : HasDone tx now ds) → Spares tx is (d ∷ h.before)
     → is_prepared_after tx is (d ∷ h.before) ≡ true → HasDone tx is (d ∷ ds)
@@ -112,7 +112,7 @@ commit_keeps_line : (s : Site) (tx : TxId) (stamp : Stamp) (o : Option Promise) 
     → SiteLaws (after_commit tx stamp o s)
 commit_keeps_line s tx stamp None w = record { less = w.less; prepared = w.prepared }
 commit_keeps_line s tx stamp (Some p) w = record {
-  less = λ l h. elim (in_split l (stamped_lines tx stamp p.items) s.stable h) [
+  less = λ l h. elim (In-either l (stamped_lines tx stamp p.items) s.stable h) [
     | inl a ↦ In-first l (stamped_lines tx stamp p.items) s.volatile a
     | inr b ↦ In-second l
         (stamped_lines tx stamp p.items) s.volatile (w.less l b)
@@ -167,7 +167,7 @@ logged tx stamp own s w h = by (promise_of tx s.prepared) refl
   where
     by : (o : Option Promise) → promise_of tx s.prepared ≡ o
         → In (committed_line stamp tx own) (after_commit tx stamp o s).stable
-    by None e = absurd (true≢false (sym (tx_test tx h.phase.by.tx (sym h.phase.its))
+    by None e = absurd (true≢false (sym (same_tx_test tx h.phase.by.tx (sym h.phase.its))
         ∙ not_found tx s.prepared e h.phase.by h.phase.stands))
     by (Some p) e =
         let f = found tx s.prepared p e in

@@ -9,8 +9,7 @@ use Rattle.qc_entry.specs.declared.record.Commit.{Commit as CommitRecord}
 use Rattle.qc_decl.specs.declared.declaration.Declaration.{Declaration}
 use Rattle.qc_list.specs.Vocabulary.{In}
 use Rattle.theory_onecopy.specs.Vocabulary.{Executed, committed_line, own_line}
-use Rattle.theory_onecopy.proofs.Lists.{in_split}
-use Rattle.qc_list.proofs.Members.{In-first, In-second}
+use Rattle.qc_list.proofs.Members.{In-first, In-second, In-either}
 use Rattle.qc_stamp.specs.Vocabulary.{same_tx}
 use Rattle.theory_machine.specs.Vocabulary.{Closes, Committed, Deed, Grants, Installs, IsAppendClosed, IsClosedAt}
 use Rattle.theory_machine.specs.Vocabulary.{IsExecutedOrChosen, IsOwnClosedAt, IsSiteClosed, Item, LearnsAbort}
@@ -28,7 +27,7 @@ pub record IsStamped (tx : TxId) (stamp : Stamp) (items : List Item) (l : Line) 
   pub listed : In (Own own) items
   pub is : l ≡ committed_line stamp tx own
 
-committed_line_in : (tx : TxId) (stamp : Stamp) (items : List Item) (l : Line) → In l (stamped_lines tx stamp items)
+pub committed_line_in : (tx : TxId) (stamp : Stamp) (items : List Item) (l : Line) → In l (stamped_lines tx stamp items)
     → IsStamped tx stamp items l
 committed_line_in tx stamp [] l h = absurd h
 committed_line_in tx stamp (Lock k ∷ xs) l h = let r = committed_line_in tx stamp xs l h in
@@ -72,7 +71,7 @@ module _ (decl : Declaration) (status : TxId → Status) (executed : TxId → Li
       → (l : Line) → In l (stamped_lines tx stamp items ++ log)
       → IsClosedAt decl status executed (stamped_lines tx stamp items ++ log) l
   joins tx c stamp items log committed same none_chosen own_closed closed_at l h =
-      elim (in_split l (stamped_lines tx stamp items) log h) [
+      elim (In-either l (stamped_lines tx stamp items) log h) [
         | inl new ↦ let s = committed_line_in tx stamp items l new in
             subst (λ (x : Line). IsClosedAt decl status executed (stamped_lines tx stamp items ++ log) x) (sym s.is)
             (one s.own s.listed)
@@ -110,7 +109,7 @@ module _ (decl : Declaration) (status : TxId → Status) (executed : TxId → Li
       → ((o : OwnLine) → In (Own o) xs → IsOwnClosedAt decl executed chosen tx log xs o)
       → ((o : OwnLine) → In (Own o) ys → IsOwnClosedAt decl executed chosen tx log ys o)
       → (o : OwnLine) → In (Own o) (xs ++ ys) → IsOwnClosedAt decl executed chosen tx log (xs ++ ys) o
-  both_own_closed tx log xs ys a b o h = elim (in_split (Own o) xs ys h) [
+  both_own_closed tx log xs ys a b o h = elim (In-either (Own o) xs ys h) [
     | inl x ↦ wider_own tx log log xs (xs ++ ys) o (λ m k. k) (λ i k. In-first i xs ys k) (a o x)
     | inr y ↦ wider_own tx log log ys (xs ++ ys) o (λ m k. k) (λ i k. In-second i xs ys k) (b o y)
   ]
@@ -163,7 +162,7 @@ module _ (decl : Declaration) (status : TxId → Status) (executed : TxId → Li
       → IsSiteClosed decl status executed chosen (after_deed s (Grants tx items view))
   grants_keep s tx items view ok w = record {
     less = λ l h. In-second l view s.volatile (w.less l h);
-    volatile = λ l h. elim (in_split l view s.volatile h) [
+    volatile = λ l h. elim (In-either l view s.volatile h) [
       | inl new ↦ wider view (view ++ s.volatile) l (λ m k. In-first m view s.volatile k) (ok.closed_at l new)
       | inr old ↦ wider s.volatile (view ++ s.volatile) l (λ m k. In-second m view s.volatile k) (w.volatile l old)
     ];
@@ -227,7 +226,7 @@ module _ (decl : Declaration) (status : TxId → Status) (executed : TxId → Li
       (w.promised p o (w.prepared p f.0) h) in
       let new : List Line = stamped_lines tx stamp p.items in
       record {
-        less = λ l h. elim (in_split l (stamped_lines tx stamp p.items) s.stable h) [
+        less = λ l h. elim (In-either l (stamped_lines tx stamp p.items) s.stable h) [
           | inl a ↦ In-first l (stamped_lines tx stamp p.items) s.volatile a
           | inr b ↦ In-second l
               (stamped_lines tx stamp p.items) s.volatile (w.less l b)

@@ -1,16 +1,14 @@
 -- What counted grants show of the sites' logs, and where they are of sites that weigh enough (weighted voting, Gifford
 -- 1979).
 use Rattle.std.specs.Prelude.{◌≡◌, ℕ, ◌≤◌, Bool, IsTrue, ◌==◌, ◌&&◌, if◌then◌else◌, List, [], ◌∷◌, ◌++◌, is_some}
-use Rattle.std.specs.Option.{option_map_or}
 use Rattle.qc_stamp.specs.declared.stamp.TxId.{TxId}
 use Rattle.qc_entry.specs.declared.line.Line.{Line}
 use Rattle.qc_entry.specs.declared.line.Op.{Op}
 use Rattle.qc_entry.specs.declared.line.OwnLine.{OwnLine}
 use Rattle.qc_entry.specs.declared.line.ReadLock.{ReadLock}
-use Rattle.qc_plan.specs.declared.plan.Plan.{Plan}
 use Rattle.qc_plan.specs.Vocabulary.{weight}
 use Rattle.qc_decl.specs.declared.declaration.Declaration.{Declaration}
-use Rattle.qc_decl.specs.Vocabulary.{plan_in}
+pub use Rattle.qc_decl.specs.Vocabulary.{weights_of}
 use Rattle.qc_list.specs.Vocabulary.{In}
 use Rattle.theory_onecopy.specs.Vocabulary.{Executed, own_line}
 use Rattle.theory_machine.specs.Site.{Item, Lock, site_after}
@@ -37,10 +35,6 @@ pub record HasGranted (counted : List Granted) (tx : TxId) (site : ℕ) (item : 
   pub its : grant.tx ≡ tx
   pub from : grant.site ≡ site
   pub has : In item grant.items
-
--- the votes of the sites in an epoch
-abbrev pub weights_of : Declaration → ℕ → List ℕ
-weights_of decl epoch = option_map_or (λ (p : Plan). p.weights) (plan_in decl epoch) []
 
 -- sites that weigh enough granted the item to tx, and were counted
 pub record HasQuorum (decl : Declaration) (epoch : ℕ) (counted : List Granted) (tx : TxId) (item : Item)

@@ -3,11 +3,10 @@ use Rattle.std.proofs.Common.{◌≡◌, ℕ, ◌+◌, ◌==◌, inl, inr, Bool,
 use Rattle.std.proofs.Common.{Some, None, refl, sym, ◌∙◌, subst, eqb-true}
 use Rattle.qc_entry.specs.declared.line.Line.{Line}
 use Rattle.qc_list.specs.Vocabulary.{In}
-use Rattle.qc_list.proofs.Members.{In-first, In-second}
+use Rattle.qc_list.proofs.Members.{In-first, In-second, In-either}
 use Rattle.theory_marks.specs.Acts.{Allowed, CountAppend, counts_append, first_life}
 use Rattle.theory_marks.proofs.Clients.{first_other, first_same, had_with, other_waits, put_other}
 use Rattle.theory_machine.specs.Vocabulary.{put}
-use Rattle.theory_marks.proofs.Lists.{in_split}
 use Rattle.theory_marks.specs.Laws.{ClientLaws, ExchangeLaws, HadLine, IsWaiting}
 use Rattle.theory_marks.specs.Exchange.{AppendGrant, Client, Exchange, Request, had}
 use Rattle.theory_marks.proofs.Now.{counted_append}
@@ -51,10 +50,10 @@ module _ (w : Exchange) (g : AppendGrant) (l : ExchangeLaws w) (ok : Allowed w (
       → HadLine w.periods (w.sites na) na (first_life (ka.lives na) g.by.life) ka.epoch line
   given_object o line false e i = lives_kept o line i
   given_object o line true e i =
-      elim (in_split line (if ka.read na o then (ka.known na o).log else [])
+      elim (In-either line (if ka.read na o then (ka.known na o).log else [])
       (g.request.lines ++ ka.given na g.request.object) i) [
         | inl a ↦ lives_kept o line (In-first line (if ka.read na o then (ka.known na o).log else []) (ka.given na o) a)
-        | inr b ↦ elim (in_split line g.request.lines (ka.given na g.request.object) b) [
+        | inr b ↦ elim (In-either line g.request.lines (ka.given na g.request.object) b) [
           | inl a ↦ lines_had line a
           | inr c ↦
               lives_kept g.request.object line

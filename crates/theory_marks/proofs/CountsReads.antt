@@ -4,7 +4,7 @@ use Rattle.std.proofs.Common.{Option, Some, None, refl, sym, ap, ◌∙◌, subs
 use Rattle.qc_entry.specs.declared.line.Line.{Line}
 use Rattle.qc_entry.specs.Vocabulary.{IsAscending, of_object, union}
 use Rattle.qc_list.specs.Vocabulary.{In}
-use Rattle.qc_list.proofs.Members.{In-second, In-unfiltered}
+use Rattle.qc_list.proofs.Members.{In-second, In-unfiltered, In-either}
 use Rattle.qc_entry.proofs.Union.{ascending-union}
 use Rattle.theory_marks.specs.Laws.{ClientLaws, ExchangeLaws, HadLine, IsTrueLog, IsWaiting}
 use Rattle.theory_marks.proofs.Logs.{ascending-log, of_log}
@@ -13,7 +13,6 @@ use Rattle.theory_marks.specs.Exchange.{Client, Exchange, ReadGrant, Request, co
 use Rattle.theory_marks.proofs.Clients.{first_other, first_same, had_with, other_waits, put_other}
 use Rattle.theory_machine.specs.Vocabulary.{put}
 use Rattle.theory_marks.specs.Marks.{KnownLog}
-use Rattle.theory_marks.proofs.Lists.{in_split}
 use Rattle.theory_marks.proofs.Now.{counted, knows_all}
 use Rattle.theory_machine.proofs.Names.{put_case}
 
@@ -70,7 +69,7 @@ module _ (w : Exchange) (g : ReadGrant) (l : ExchangeLaws w) (ok : Allowed w (Co
       → In line ((if cond b true (k.read n o) then (cond b (known_after k g) (k.known n o)).log else []) ++ k.given n o)
       → HadLine w.periods (w.sites n) n (first_life (k.lives n) g.by.life) k.epoch line
   had_object o line false e i = kept_had o line i
-  had_object o line true e i = elim (in_split line (known_after k g).log (k.given n o) i) [
+  had_object o line true e i = elim (In-either line (known_after k g).log (k.given n o) i) [
     | inl a ↦ fresh_had line a
     | inr b ↦ kept_had o line (In-second line (if k.read n o then (k.known n o).log else []) (k.given n o) b)
   ]

@@ -4,11 +4,11 @@ use Rattle.std.proofs.Common.{length, drop, refl, sym, ap, ◌∙◌, subst, eqb
 use Rattle.qc_entry.specs.declared.line.Line.{Line}
 use Rattle.qc_entry.specs.Vocabulary.{IsAscending, of_object, union}
 use Rattle.qc_list.specs.Vocabulary.{In}
-use Rattle.qc_list.proofs.Members.{In-first, In-second}
+use Rattle.qc_list.proofs.Members.{In-first, In-second, In-either}
 use Rattle.qc_entry.proofs.Union.{ascending-union, in_either, in_first, in_second}
 use Rattle.qc_entry.proofs.Members.{ascending-same}
 use Rattle.theory_marks.specs.Marks.{Arrivals, KnownLog, Mark, learned, lines_told, log_of, mark_of, told}
-use Rattle.theory_marks.proofs.Lists.{fronts, in_split, of-append}
+use Rattle.theory_marks.proofs.Lists.{fronts, of-append}
 
 pub ascending-log : (xs : List Line) → IsAscending (log_of xs)
 ascending-log [] = tt
@@ -32,7 +32,7 @@ log-append xs ys =
     (λ l h. in_log l (xs ++ ys)
     (elim (in_either l (log_of xs) (log_of ys) h)
     [ inl a ↦ In-first l xs ys (of_log l xs a) | inr b ↦ In-second l xs ys (of_log l ys b) ]))
-    (λ l h. elim (in_split l xs ys (of_log l (xs ++ ys) h)) [
+    (λ l h. elim (In-either l xs ys (of_log l (xs ++ ys) h)) [
       | inl a ↦ in_first l (log_of xs) (log_of ys) (in_log l xs a)
       | inr b ↦ in_second l (log_of xs) (log_of ys)
           (in_log l ys b)

@@ -6,7 +6,6 @@ use Rattle.std.specs.Option.{option_map_or}
 use Rattle.std.proofs.lemmas.Bool.{eqb-true, eq-eqb}
 use Rattle.std.proofs.lemmas.List.Sums.{fold-append}
 use Rattle.std.proofs.lemmas.Option.{slice_get-map}
-use Rattle.theory_onecopy.proofs.Places.{slice_get-set_other, slice_get-set_same}
 use Rattle.theory_onecopy.specs.Vocabulary.{Goes, OneCopy, Walks, kept, operations, replay, replay_commit, replayed}
 use Rattle.theory_onecopy.specs.Vocabulary.{start_at, start_of, starts, state_after, states_after, states_by, step_at}
 use Rattle.theory_onecopy.specs.Vocabulary.{unlisted, updated}
@@ -20,6 +19,7 @@ use Rattle.qc_table.proofs.Numbered.{first_lowest, first_some, legal_numbered, n
 use Rattle.qc_table.specs.Vocabulary.{IsLowest, Rules, event, event_number, events_of, first_of, lowest_in, next_in}
 use Rattle.qc_table.specs.Vocabulary.{step_of}
 use Rattle.theory_onecopy.proofs.Missing.{no_ops}
+use Rattle.qc_list.proofs.Places.{slice_get-set_other, slice_get-set_same}
 
 -- the replay's states of declared objects are the copies'
 abbrev pub Alike : Declaration → List ℕ → (ℕ → ℕ) → Type 0

@@ -10,8 +10,8 @@ use Rattle.qc_decl.specs.declared.declaration.Declaration.{Declaration}
 use Rattle.theory_onecopy.specs.Vocabulary.{IsEarlier, IsLineBefore, IsOrdered, Placed, depends_at, kind_at, line_of}
 use Rattle.theory_onecopy.specs.Vocabulary.{lines_of, lines_on}
 use Rattle.qc_list.specs.Vocabulary.{In}
-use Rattle.theory_onecopy.proofs.Lists.{in_split, ordered-append}
-use Rattle.qc_list.proofs.Members.{In-first, In-second}
+use Rattle.theory_onecopy.proofs.Lists.{ordered-append}
+use Rattle.qc_list.proofs.Members.{In-first, In-second, In-either}
 use Rattle.theory_onecopy.proofs.Orders.{earlier_line}
 use Rattle.theory_onecopy.proofs.Runs.{inv_is}
 
@@ -35,7 +35,7 @@ from_one o b l true e h = by b.operation.op.resp h
 
 pub line_from : (o : ℕ) (bs : List Placed) (l : Line) → In l (lines_on o bs) → IsFrom o bs l
 line_from o [] l h = absurd h
-line_from o (b ∷ bs) l h = elim (in_split l
+line_from o (b ∷ bs) l h = elim (In-either l
     (cond (b.operation.op.object == o) (lines_of b.operation.op.resp (line_of b)) []) (lines_on o bs) h) [
       | inl here ↦ let f = from_one o b l (b.operation.op.object == o) refl here in
           record { by = b; listed = inl refl; object = f.0; some = f.1; is = f.2 }

@@ -1,18 +1,8 @@
 -- Members of joined lists, and ordered lists.
-use Rattle.std.proofs.Common.{◌≡◌, ◌⊎◌, inl, inr, List, [], ◌∷◌, ◌++◌, map, refl, sym, ap, ◌∙◌, subst}
-use Rattle.qc_list.proofs.Members.{In-first, In-second}
+use Rattle.std.proofs.Common.{◌≡◌, ◌⊎◌, inl, inr, List, [], ◌∷◌, ◌++◌, map, refl, sym, ◌∙◌, subst}
+use Rattle.qc_list.proofs.Members.{In-first, In-second, In-either}
 use Rattle.theory_onecopy.specs.Vocabulary.{IsOrdered}
 use Rattle.qc_list.specs.Vocabulary.{In}
-
-pub in_split : {A : Type 0} (x : A) (xs ys : List A) → In x (xs ++ ys) → In x xs ⊎ In x ys
-in_split x [] ys h = inr h
-in_split x (z ∷ zs) ys (inl same) = inl (inl same)
-in_split x (z ∷ zs) ys (inr h) = elim (in_split x zs ys h) [ inl a ↦ inl (inr a) | inr b ↦ inr b ]
-
-pub in_map : {A B : Type 0} (f : A → B) (x : A) (xs : List A) → In x xs → In (f x) (map f xs)
-in_map f x [] h = absurd h
-in_map f x (y ∷ ys) (inl same) = inl (ap f same)
-in_map f x (y ∷ ys) (inr h) = inr (in_map f x ys h)
 
 -- where a member of a mapped list comes from
 pub record Mapped {A B : Type 0} (f : A → B) (y : B) (xs : List A) : Type 0 where
@@ -29,7 +19,7 @@ pub ordered-append : {A : Type 0} (before : A → A → Type 0) (xs ys : List A)
     → ((x y : A) → In x xs → In y ys → before x y) → IsOrdered before (xs ++ ys)
 ordered-append before [] ys ox oy all = oy
 ordered-append before (x ∷ xs) ys ox oy all = (
-  λ z h. elim (in_split z xs ys h) [ inl a ↦ ox.0 z a | inr b ↦ all x z (inl refl) b ],
+  λ z h. elim (In-either z xs ys h) [ inl a ↦ ox.0 z a | inr b ↦ all x z (inl refl) b ],
   ordered-append before xs ys ox.1 oy (λ a b ha hb. all a b (inr ha) hb),
 )
 

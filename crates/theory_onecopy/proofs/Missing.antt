@@ -1,16 +1,11 @@
 -- A step that is missing stays missing.
-use Rattle.std.proofs.Common.{◌≡◌, ℕ, ◌+◌, ◌<◌, List, [], ◌∷◌, Some, None, length, get_or, drop, ap, refl, sym, ◌∙◌}
+use Rattle.std.proofs.Common.{◌≡◌, ℕ, ◌+◌, ◌<◌, List, [], ◌∷◌, Some, None, length, get_or, drop, ap, refl, ◌∙◌}
 use Rattle.std.specs.Prelude.{Option, fold}
 use Rattle.qc_entry.specs.declared.line.Op.{Op}
 use Rattle.qc_entry.specs.declared.record.Commit.{Commit}
 use Rattle.qc_decl.specs.declared.declaration.Declaration.{Declaration}
 use Rattle.theory_onecopy.specs.Vocabulary.{replay_commit, replayed, states_after}
-use Rattle.std.proofs.lemmas.List.{drop_more}
-
--- one element more of a list, as a loop takes it
-rest : {A : Type 0} (xs : List A) (i : ℕ) (x d : A) → i < length xs → x ≡ get_or xs i d
-    → drop i xs ≡ x ∷ drop (i + 1) xs
-rest xs i x d l e = drop_more xs i d l ∙ ap (λ y. y ∷ drop (i + 1) xs) (sym e)
+use Rattle.qc_list.proofs.Places.{drop_at}
 
 pub no_ops : (decl : Declaration) (ops : List Op) → fold (replayed decl) None ops ≡ None
 no_ops decl [] = refl
@@ -26,7 +21,7 @@ pub op_missing : (decl : Declaration) (states : List ℕ) (ops : List Op) (i : �
     → op ≡ get_or ops i d → states_after decl states op ≡ None
     → fold (replayed decl) (Some states) (drop i ops) ≡ None
 op_missing decl states ops i op d l e m =
-    ap (fold (replayed decl) (Some states)) (rest ops i op d l e)
+    ap (fold (replayed decl) (Some states)) (drop_at ops i op d l e)
     ∙ ap (λ (s : Option (List ℕ)). fold (replayed decl) s (drop (i + 1) ops)) m
     ∙ no_ops decl (drop (i + 1) ops)
 
@@ -36,6 +31,6 @@ pub commit_missing : (decl : Declaration) (states : List ℕ) (commits : List Co
     → fold (replayed decl) (Some states) c.ops ≡ None
     → fold (replay_commit decl) (Some states) (drop i commits) ≡ None
 commit_missing decl states commits i c d l e m =
-    ap (fold (replay_commit decl) (Some states)) (rest commits i c d l e)
+    ap (fold (replay_commit decl) (Some states)) (drop_at commits i c d l e)
     ∙ ap (λ (s : Option (List ℕ)). fold (replay_commit decl) s (drop (i + 1) commits)) m
     ∙ no_commits decl (drop (i + 1) commits)

@@ -1,6 +1,5 @@
 -- The order of lines, by clocks, stamps and operations.
-use Rattle.std.proofs.Common.{◌≡◌, ℕ, ◌<◌, ◌≤◌, ◌⊎◌, inl, inr, refl, ap, subst, arith}
-use Rattle.std.proofs.lemmas.Bool.Decides.{nat_tests}
+use Rattle.std.proofs.Common.{◌≡◌, ◌<◌, ◌≤◌, ◌⊎◌, inl, inr, refl, ap, subst, arith}
 use Rattle.std.proofs.lemmas.Cmp.{tied_itself}
 use Rattle.std.specs.Ordering.{nat_cmp, ordering_then}
 use Rattle.std.specs.declared.cmp.Ordering.{Ordering}
@@ -12,12 +11,7 @@ use Rattle.qc_stamp.proofs.Orders.{nat_apart, stamps_are_ordered, transactions_a
 use Rattle.qc_entry.specs.declared.line.Line.{Line}
 use Rattle.qc_entry.proofs.Orders.{lines_are_ordered}
 use Rattle.theory_onecopy.specs.Vocabulary.{IsEarlier, IsLineBefore, Placed, line_of}
-
-nat_less : (a b : ℕ) → a < b → nat_cmp a b ≡ Less
-nat_less a b l = grind (arith, nat_tests)
-
-less_nat : (a b : ℕ) → nat_cmp a b ≡ Less → a < b
-less_nat a b h = grind (arith, nat_tests)
+use Rattle.qc_list.proofs.Numbers.{below_from_cmp, cmp_below}
 
 first_less : (a b : Ordering) → a ≡ Less → ordering_then a b ≡ Less
 first_less a b h = rw h refl
@@ -26,20 +20,20 @@ second_less : (a b : Ordering) → a ≡ Equal → b ≡ Less → ordering_then 
 second_less a b h k = rw h k
 
 -- the first is less, or it ties and the second is
-then_less : (a b : Ordering) → ordering_then a b ≡ Less → (a ≡ Less) ⊎ ((a ≡ Equal) × (b ≡ Less))
+pub then_less : (a b : Ordering) → ordering_then a b ≡ Less → (a ≡ Less) ⊎ ((a ≡ Equal) × (b ≡ Less))
 then_less Less b h = inl refl
 then_less Equal b h = inr (refl, h)
 then_less Greater b h = absurd (let never : ⊥ = cc in never)
 
 pub clock_less : (a b : Stamp) → a.clock < b.clock → stamp_cmp a b ≡ Less
-clock_less a b l = first_less (nat_cmp a.clock b.clock) (nat_cmp a.client b.client) (nat_less a.clock b.clock l)
+clock_less a b l = first_less (nat_cmp a.clock b.clock) (nat_cmp a.client b.client) (cmp_below a.clock b.clock l)
 
 pub stamp_clocks : (a b : Stamp) → stamp_cmp a b ≡ Less → a.clock ≤ b.clock
 stamp_clocks a b h = by (then_less (nat_cmp a.clock b.clock) (nat_cmp a.client b.client) h)
   where
     by : ((nat_cmp a.clock b.clock ≡ Less) ⊎ ((nat_cmp a.clock b.clock ≡ Equal) × (nat_cmp a.client b.client ≡ Less)))
         → a.clock ≤ b.clock
-    by (inl l) = let x : a.clock < b.clock = less_nat a.clock b.clock l in omega arith
+    by (inl l) = let x : a.clock < b.clock = below_from_cmp a.clock b.clock l in omega arith
     by (inr e) = let x : a.clock ≡ b.clock = nat_apart a.clock b.clock e.0 in omega arith
 
 pub not_stamp_less : (a : Stamp) → stamp_cmp a a ≡ Less → ⊥
@@ -70,7 +64,7 @@ op_first l m s t o =
     (subst (λ (x : Stamp). stamp_cmp l.stamp x ≡ Equal) s (tied_itself stamps_are_ordered.total l.stamp))
     (second_less (tx_cmp l.tx m.tx) _
     (subst (λ (x : TxId). tx_cmp l.tx x ≡ Equal) t (tied_itself transactions_are_ordered.total l.tx))
-    (first_less (nat_cmp l.op m.op) _ (nat_less l.op m.op o)))
+    (first_less (nat_cmp l.op m.op) _ (cmp_below l.op m.op o)))
 
 pub earlier_line : (a b : Placed) → IsEarlier a b → IsLineBefore (line_of a) (line_of b)
 earlier_line a b (inl s) = stamp_first (line_of a) (line_of b) s

@@ -1,5 +1,5 @@
 -- One event more of a history, and one operation more on one copy.
-use Rattle.std.proofs.Common.{◌≡◌, ℕ, true, false, List, [], ◌∷◌, ◌++◌, Option, Some, None, refl, ap, ◌∙◌, slice_get}
+use Rattle.std.proofs.Common.{◌≡◌, ℕ, List, [], ◌∷◌, ◌++◌, Option, Some, None, refl, ap, ◌∙◌, slice_get}
 use Rattle.std.specs.Prelude.{option_and_then, option_map, is_some}
 use Rattle.qc_table.specs.declared.kind.Kind.{Kind}
 use Rattle.qc_table.specs.declared.row.Event.{Event}
@@ -31,14 +31,6 @@ pub allows_step : (kind : Kind) (history : List ℕ) (state inv resp : ℕ) → 
     → allows kind history inv resp ≡ is_some (next_in kind.table.rows state (event inv resp))
 allows_step kind history state inv resp run =
     ap (λ (o : Option ℕ). is_some (option_and_then (λ s. next_in kind.table.rows s (event inv resp)) o)) run
-
-pub some_of : {X : Type 0} (o : Option X) → is_some o ≡ true → (x : X) × (o ≡ Some x)
-some_of None h = absurd (let never : ⊥ = cc in never)
-some_of (Some x) h = (x, refl)
-
-pub none_of : {X : Type 0} (o : Option X) → is_some o ≡ false → o ≡ None
-none_of None h = refl
-none_of (Some x) h = absurd (let never : ⊥ = cc in never)
 
 -- the state after one event more
 pub state_more : (kind : Kind) (history : List ℕ) (state inv resp number next : ℕ)

@@ -15,13 +15,12 @@ use Rattle.theory_onecopy.specs.Vocabulary.{AreFromViews, IsAnswered, IsEarlier,
 use Rattle.theory_onecopy.specs.Vocabulary.{IsOrdered, IsOwnBefore, Placed, committed_line, depends_at, events_seen}
 use Rattle.theory_onecopy.specs.Vocabulary.{kind_at, line_of, lines_on, own_line}
 use Rattle.qc_list.specs.Vocabulary.{In}
-use Rattle.theory_onecopy.proofs.Lists.{compared, in_map, in_split, map_in, ordered-append, ordered_across}
-use Rattle.theory_onecopy.proofs.Lists.{ordered_left}
-use Rattle.qc_list.proofs.Members.{In-first, In-second}
+use Rattle.theory_onecopy.proofs.Lists.{compared, map_in, ordered-append, ordered_across, ordered_left}
+use Rattle.qc_list.proofs.Members.{In-first, In-second, In-either, In-at, In-map}
 use Rattle.theory_onecopy.proofs.Orders.{clock_less, earlier_clocks, earlier_line, line_trans, not_stamp_less, op_first}
 use Rattle.theory_onecopy.proofs.Orders.{stamp_first}
 use Rattle.qc_entry.proofs.Members.{not_below}
-use Rattle.theory_onecopy.proofs.Sorted.{Picks, in_at, ordered_at, picked-map, picks}
+use Rattle.theory_onecopy.proofs.Sorted.{Picks, ordered_at, picked-map, picks}
 use Rattle.theory_onecopy.proofs.Lines.{line_from, line_in, lines_ordered, number_of_line, depends_is, from_map}
 
 module _ (decl : Declaration) (all : List Placed) (v : AreFromViews decl all) where
@@ -41,7 +40,7 @@ module _ (decl : Declaration) (all : List Placed) (v : AreFromViews decl all) wh
 
     -- what comes before it stands in front of it
     in_front : (c : Placed) → In c all → IsLineBefore (line_of c) (line_of b) → In c pre
-    in_front c h l = elim (in_split c pre (b ∷ post) (subst (λ (x : List Placed). In c x) (sym split) h)) [
+    in_front c h l = elim (In-either c pre (b ∷ post) (subst (λ (x : List Placed). In c x) (sym split) h)) [
       | inl here ↦ here
       | inr there ↦ elim there [
         | inl same ↦ absurd (not_below (line_of b)
@@ -78,7 +77,7 @@ module _ (decl : Declaration) (all : List Placed) (v : AreFromViews decl all) wh
 
     origin : (l : Line) → In l (b.operation.view ++ map
         (λ (x : OwnLine). committed_line b.stamp b.tx x) b.operation.own) → Origin l
-    origin l h = elim (in_split l b.operation.view
+    origin l h = elim (In-either l b.operation.view
         (map (λ (x : OwnLine). committed_line b.stamp b.tx x) b.operation.own) h) [
           | inl seen ↦
               let s = v.smaller b l listed seen in
@@ -112,7 +111,7 @@ module _ (decl : Declaration) (all : List Placed) (v : AreFromViews decl all) wh
     own_in : (c : Placed) → In c pre → IsNext c b → IsSome c.operation.op.resp
         → In (line_of c) (b.operation.view ++ map (λ (x : OwnLine). committed_line b.stamp b.tx x) b.operation.own)
     own_in c h n s =
-        let there = in_map (λ (x : OwnLine). committed_line b.stamp b.tx x) (own_line c.operation) b.operation.own
+        let there = In-map (λ (x : OwnLine). committed_line b.stamp b.tx x) (own_line c.operation) b.operation.own
         (v.own_all c b (earlier c h).0 listed n s) in
         let is : committed_line b.stamp b.tx (own_line c.operation) ≡ line_of c =
         ap (λ x. committed_line x b.tx (own_line c.operation)) (sym n.stamp)
@@ -231,7 +230,7 @@ module _ (decl : Declaration) (all : List Placed) (v : AreFromViews decl all) wh
           let y = from_map (lines_on b.operation.op.object pre) p e pe in
           let x = from_map (lines_on b.operation.op.object pre) q f qf in
           let ry = origin y.0 (chosen.holds p y.0 y.1 here) in
-          let rx = line_from b.operation.op.object pre x.0 (in_at (lines_on b.operation.op.object pre) q x.0 x.1) in
+          let rx = line_from b.operation.op.object pre x.0 (In-at (lines_on b.operation.op.object pre) q x.0 x.1) in
           let before : IsLineBefore x.0 y.0 = ordered_at IsLineBefore not_below line_trans
           (lines_on b.operation.op.object pre) (lines_ordered b.operation.op.object pre front) q p x.0 y.0 x.1 y.1 l
           in
@@ -260,7 +259,7 @@ module _ (decl : Declaration) (all : List Placed) (v : AreFromViews decl all) wh
           (in_order rx.by ry.by rx.listed ry.listed here_before) dep'));
       complete = λ q f qf d.
           let x = from_map (lines_on b.operation.op.object pre) q f qf in
-          let rx = line_from b.operation.op.object pre x.0 (in_at (lines_on b.operation.op.object pre) q x.0 x.1) in
+          let rx = line_from b.operation.op.object pre x.0 (In-at (lines_on b.operation.op.object pre) q x.0 x.1) in
           let other : f ≡ rx.by.operation.event = sym x.2 ∙ ap (λ (z : Line). z.event) rx.is in
           let dep : IsTrue (depends_at decl b.operation.op.object b.operation.op.inv rx.by.operation.event) =
           subst (λ (t : Bool). IsTrue t) (sym (depends_is decl b.operation.op.object a.kind b.operation.op.inv

@@ -4,11 +4,7 @@ use Rattle.std.proofs.Common.{Some, refl, arith, ◌<◌, le_of_suc-le-suc, sym,
 use Rattle.qc_cert.specs.Vocabulary.{picked}
 use Rattle.theory_onecopy.specs.Vocabulary.{IsBeforeAll, IsOrdered}
 use Rattle.qc_list.specs.Vocabulary.{In}
-
-pub in_at : {A : Type 0} (xs : List A) (q : ℕ) (x : A) → slice_get xs q ≡ Some x → In x xs
-in_at [] q x is = absurd (cc)
-in_at (y ∷ ys) zero x is = inl cc
-in_at (y ∷ ys) (suc q) x is = inr (in_at ys q x is)
+use Rattle.qc_list.proofs.Members.{In-at}
 
 -- a set with its answer at 0
 abbrev pub shifted : Bool → (ℕ → Bool) → ℕ → Bool
@@ -57,7 +53,7 @@ module _ {A : Type 0} (before : A → A → Type 0) (strict : (x : A) → before
 
       back : (p : ℕ) (z : A) → slice_get (x ∷ xs) p ≡ Some z → In z (x ∷ ys) → IsTrue (shifted true m.set p)
       back zero z at h = refl
-      back (suc p) z at (inl same) = absurd (strict x (subst (λ (w : A). before x w) same (first z (in_at xs p z at))))
+      back (suc p) z at (inl same) = absurd (strict x (subst (λ (w : A). before x w) same (first z (In-at xs p z at))))
       back (suc p) z at (inr h) = m.back p z at h
 
   pub leaves : (x : A) (xs ys : List A) → (In x ys → ⊥) → Picks xs ys → Picks (x ∷ xs) ys
@@ -102,6 +98,6 @@ module _ {A : Type 0} (before : A → A → Type 0) (strict : (x : A) → before
   ordered_at [] o q p x y qx py l = absurd (cc)
   ordered_at (z ∷ zs) o zero zero x y qx py l = absurd (omega arith)
   ordered_at (z ∷ zs) o zero (suc p) x y qx py l = let same : z ≡ x = cc in
-      subst (λ (w : A). before w y) same (o.0 y (in_at zs p y py))
+      subst (λ (w : A). before w y) same (o.0 y (In-at zs p y py))
   ordered_at (z ∷ zs) o (suc q) zero x y qx py l = absurd (omega arith)
   ordered_at (z ∷ zs) o (suc q) (suc p) x y qx py l = ordered_at zs o.1 q p x y qx py (le_of_suc-le-suc l)

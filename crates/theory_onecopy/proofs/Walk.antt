@@ -13,8 +13,9 @@ use Rattle.std.specs.Prelude.{IsSome, is_some}
 use Rattle.theory_onecopy.specs.Vocabulary.{AreFromViews, Goes, IsAnswered, Placed, Replies, Walks, events_seen}
 use Rattle.theory_onecopy.specs.Vocabulary.{kind_at, line_of, lines_of, lines_on, start_at, updated}
 use Rattle.theory_onecopy.proofs.Seen.{answers_are_from_views, listed}
-use Rattle.theory_onecopy.proofs.Runs.{allows_step, none_of, some_of, state_more, step_is, table_is}
+use Rattle.theory_onecopy.proofs.Runs.{allows_step, state_more, step_is, table_is}
 use Rattle.theory_onecopy.proofs.Lines.{lines_on-append}
+use Rattle.qc_list.proofs.Options.{none_of, some_of}
 
 module _ (decl : Declaration) (exact : (object : ℕ) (kind : Kind) → kind_at decl object ≡ Some kind → IsExact kind)
     (all : List Placed) (v : AreFromViews decl all) where

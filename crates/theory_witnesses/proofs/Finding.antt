@@ -3,10 +3,10 @@ use Rattle.std.proofs.Common.{◌≡◌, ℕ, ◌≤◌, ◌<◌, suc, ◌==◌,
 use Rattle.std.proofs.Common.{is_some, inl, inr, refl, sym, ◌∙◌, subst, eqb-true, leb-true, true≢false}
 use Rattle.std.proofs.lemmas.Bool.{eqb-false}
 use Rattle.qc_list.specs.Vocabulary.{In}
-use Rattle.theory_machine.proofs.Names.{tx_test}
 use Rattle.theory_machine.specs.Vocabulary.{Asked}
 use Rattle.qc_stamp.specs.Vocabulary.{same_tx}
 use Rattle.qc_stamp.specs.declared.stamp.TxId.{TxId}
+use Rattle.qc_stamp.proofs.Orders.{same_tx_test}
 
 -- a fact that was found
 pub proof_of : {P : Type 0} (o : Option P) → is_some o ≡ true → P
@@ -63,7 +63,7 @@ where_same_tx {P = P} a b o = by (same_tx a b) refl o
     by : (t : Bool) → same_tx a b ≡ t → Option P → Option (a ≡ b → P)
     by true e (Some p) = Some (λ same. p)
     by true e None = None
-    by false e o = Some (λ same. absurd (true≢false (sym (tx_test a b same) ∙ e)))
+    by false e o = Some (λ same. absurd (true≢false (sym (same_tx_test a b same) ∙ e)))
 
 -- the member and the rest
 abbrev also : {A : Type 0} (P : A → Type 0) (y : A) (ys : List A) → Option (P y) → Option ((x : A) → In x ys → P x)

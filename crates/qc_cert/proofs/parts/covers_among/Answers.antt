@@ -1,7 +1,8 @@
 use Rattle.std.proofs.Common.{◌<◌, ◌≤◌, ◌^◌, sym, ◌∙◌, arith, w64}
 use Rattle.std.specs.Int.{trailing_zeros}
-use Rattle.qc_cert.proofs.Shared.{left_more, looked_more, none_past, without_small}
+use Rattle.qc_cert.proofs.Shared.{left_more, looked_more, without_small}
 use Rattle.qc_cert.proofs.parts.covers_among.Goals as goal
+use Rattle.qc_table.proofs.Sets.{none_past}
 
 pub turns-preserved : goal.turns-preserved
 turns-preserved c =

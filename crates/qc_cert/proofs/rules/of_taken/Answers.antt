@@ -1,11 +1,12 @@
 use Rattle.std.proofs.Common.{◌≡◌, ◌<◌, ◌≤◌, ◌^◌, None, length, sym, ◌∙◌, rules, arith, w64}
 use Rattle.std.specs.Int.{trailing_zeros}
-use Rattle.qc_cert.proofs.Shared.{left_more, none_left, none_past, without_small}
+use Rattle.qc_cert.proofs.Shared.{left_more, without_small}
 use Rattle.qc_cert.proofs.Told.{less_within, lowest_found, none_more}
 use Rattle.qc_cert.specs.Vocabulary.{taken_fault}
 use Rattle.qc_list.proofs.Search.{below_none}
 use Rattle.qc_table.specs.Vocabulary.{events_of}
 use Rattle.qc_cert.proofs.rules.of_taken.Goals as goal
+use Rattle.qc_table.proofs.Sets.{none_left, none_past}
 
 pub returns-then-rest-eq0 : goal.returns-then-rest-eq0
 returns-then-rest-eq0 c =

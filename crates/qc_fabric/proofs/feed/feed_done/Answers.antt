@@ -2,8 +2,9 @@ use Rattle.std.proofs.Common.{◌≡◌, ◌+◌, length, sym, ap, ◌∙◌, ar
 use Rattle.qc_msg.specs.Vocabulary.{sents, told, wrote}
 use Rattle.qc_pass.specs.Vocabulary.{number}
 use Rattle.qc_fabric.specs.Vocabulary.{CanFeed}
-use Rattle.qc_fabric.proofs.Fed.{can_rest, can_start, fed_join, grown_join, length-by, length-done, length-sents}
+use Rattle.qc_fabric.proofs.Fed.{can_rest, can_start, fed_join, grown_join, length-done, length-sents}
 use Rattle.qc_fabric.proofs.feed.feed_done.Goals as goal
+use Rattle.qc_msg.proofs.DeedsGrow.{length-by}
 
 pub feed_sents-right-requires-clause-room : goal.feed_sents-right-requires-clause-room
 feed_sents-right-requires-clause-room c =

@@ -1,8 +1,9 @@
 use Rattle.std.proofs.Common.{◌≡◌, ◌+◌, length, sym, ap, arith}
 use Rattle.qc_msg.specs.Vocabulary.{sents, told}
 use Rattle.qc_pass.specs.Vocabulary.{number}
-use Rattle.qc_fabric.proofs.Fed.{can_rest, can_start, fed_join, grown_join, length-by, length-failed, length-sents}
+use Rattle.qc_fabric.proofs.Fed.{can_rest, can_start, fed_join, grown_join, length-failed, length-sents}
 use Rattle.qc_fabric.proofs.feed.feed_failed.Goals as goal
+use Rattle.qc_msg.proofs.DeedsGrow.{length-by}
 
 pub feed_sents-right-requires-clause-room : goal.feed_sents-right-requires-clause-room
 feed_sents-right-requires-clause-room c =

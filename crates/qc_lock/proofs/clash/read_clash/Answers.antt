@@ -3,10 +3,10 @@ use Rattle.std.specs.Int.{trailing_zeros}
 use Rattle.std.proofs.lemmas.Nat.Bits.{bit_at-trailing_zeros}
 use Rattle.qc_lock.specs.declared.clash.Clash.{Clash}
 use Rattle.qc_lock.specs.Vocabulary.{IsPlaced, IsSmallest}
-use Rattle.qc_lock.proofs.Lowest.{Passed, left_more, none_left, none_passed, none_past, passed_all, passed_more}
-use Rattle.qc_lock.proofs.Lowest.{without, without_small}
+use Rattle.qc_lock.proofs.Lowest.{Passed, left_more, none_passed, passed_all, passed_more, without, without_small}
 use Rattle.qc_table.specs.Vocabulary.{has}
 use Rattle.qc_lock.proofs.clash.read_clash.Goals as goal
+use Rattle.qc_table.proofs.Sets.{none_left, none_past}
 
 pub turns-init : goal.turns-init
 turns-init c =

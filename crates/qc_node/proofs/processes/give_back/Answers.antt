@@ -7,9 +7,9 @@ use Rattle.qc_process.specs.Vocabulary.{IsOnDisk, IsProcess}
 use Rattle.laws_bounds.specs.Vocabulary.{place_of}
 use Rattle.qc_store.specs.Vocabulary.{DiskHasJournal}
 use Rattle.qc_node.specs.Vocabulary.{IsGivenBack}
-use Rattle.qc_node.proofs.News.{at_place}
 use Rattle.qc_node.proofs.Unstarted.{handed_at, none_back, one_more_back}
 use Rattle.qc_node.proofs.processes.give_back.Goals as goal
+use Rattle.qc_list.proofs.Places.{slice_get-seam}
 
 pub loop-process-init : goal.loop-process-init
 loop-process-init g c = record {
@@ -38,7 +38,7 @@ loop-process-preserved g c =
     let low : n < vec_len c.args.each =
     omega (arith, all, ap (λ l. length l) split, length-append c.loop-process.yielded (p ∷ rest)) in
     let at : slice_get c.args.each.items n ≡ Some p =
-    ap (λ l. slice_get l n) (sym split) ∙ at_place c.loop-process.yielded rest p in
+    ap (λ l. slice_get l n) (sym split) ∙ slice_get-seam c.loop-process.yielded rest p in
     let decl = c.requires.processes.0 in
     let tells = is_some (places c.args.rack.now) in
     let is : IsProcess tells decl n [] p = c.requires.processes.1 n p at in

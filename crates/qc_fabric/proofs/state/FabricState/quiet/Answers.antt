@@ -3,9 +3,10 @@ use Rattle.std.specs.Prelude.{is_some}
 use Rattle.qc_decl.specs.Vocabulary.{actors}
 use Rattle.qc_mailbox.specs.Vocabulary.{picked_in, either}
 use Rattle.qc_fabric.specs.Vocabulary.{IsStopped, Shown, has_any}
-use Rattle.qc_fabric.proofs.Stopped.{is_nothing, not_some, stopped_inputs, stopped_picks, stops, was_nothing}
+use Rattle.qc_fabric.proofs.Stopped.{is_nothing, stopped_inputs, stopped_picks, stops, was_nothing}
 use Rattle.qc_fabric.proofs.state.FabricState.quiet.Goals as goal
 use Rattle.qc_link.specs.Vocabulary.{most_actors}
+use Rattle.qc_list.proofs.Options.{none_of}
 
 pub returns-then-any-clause-all : goal.returns-then-any-clause-all
 returns-then-any-clause-all g c = λ s.
@@ -25,7 +26,7 @@ returns-clause-only g c = λ is.
     subst (λ (v : Shown). IsStopped g.N.RunName.declaration g.N.RunName.script v.history v.open_inputs) c.self.view_is
     (stops g.N.RunName.declaration g.N.RunName.script c.self.inside.log.history c.self.inside.inputs.items
     c.self.inside.mailboxes.inboxes c.self.invariant.kept few none
-    (not_some (slice_get c.self.inside.mailboxes.inboxes.controls 0) left) picks))
+    (none_of (slice_get c.self.inside.mailboxes.inboxes.controls 0) left) picks))
 
 pub returns-clause-all : goal.returns-clause-all
 returns-clause-all g c = λ s.

@@ -8,9 +8,10 @@ use Rattle.qc_process.specs.Vocabulary.{IsProcess, OpensAs, ProcessView, StaysOn
 use Rattle.qc_fabric.specs.Vocabulary.{MayDo, RisesAs}
 use Rattle.qc_node.specs.Vocabulary.{IsCell, fits_of, opened_of}
 use Rattle.qc_node.proofs.Kept.{cell_over_others}
-use Rattle.qc_node.proofs.Ordered.{few_actors, is_down, opened_cell, risen_cell}
+use Rattle.qc_node.proofs.Ordered.{is_down, opened_cell, risen_cell}
 use Rattle.qc_node.proofs.Rises.{risen_asks, risen_lawful, risen_numbers, risen_process}
 use Rattle.qc_node.proofs.cell.Cell.restart.Goals as goal
+use Rattle.qc_decl.proofs.Clients.{few_actors}
 
 pub invariant_of-self : goal.invariant_of-self
 invariant_of-self g c =

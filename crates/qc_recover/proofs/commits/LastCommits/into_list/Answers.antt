@@ -9,8 +9,9 @@ use Rattle.qc_lock.proofs.NumberedEntries.{tx_same}
 use Rattle.qc_stamp.specs.declared.stamp.TxId.{TxId}
 use Rattle.qc_stamp.specs.Vocabulary.{same_tx, tx_cmp}
 use Rattle.qc_recover.specs.Vocabulary.{last_of}
-use Rattle.qc_recover.proofs.Last.{same_turned, seen_again, seen_first, seen_none, unseen}
+use Rattle.qc_recover.proofs.Last.{seen_again, seen_first, seen_none, unseen}
 use Rattle.qc_recover.proofs.commits.LastCommits.into_list.Goals as goal
+use Rattle.qc_stamp.proofs.Orders.{same_tx_turned}
 
 told_new : (b : Bool) → true ≡ not b → b ≡ false
 told_new true is = absurd (let never : ⊥ = cc in never)
@@ -43,7 +44,7 @@ commits-preserved-in-Continue-branch-2 c =
     (sym c.if-branch.true ∙ c.in_ok-insert.ensures.added) in
     let grown : (tx : TxId) → more tx ≡ cond (same_tx tx commit.tx) true (seen tx) =
     (λ tx. c.in_ok-insert.ensures.updates.0 tx
-    ∙ ap (λ b. cond b true (seen tx)) (tx_same commit.tx tx ∙ same_turned commit.tx tx)) in
+    ∙ ap (λ b. cond b true (seen tx)) (tx_same commit.tx tx ∙ same_tx_turned commit.tx tx)) in
     let first : unseen seen (last_of c.commits.commits.items) ≡ unseen more (last_of left) ++ commit ∷ [] =
     ap (λ cs. unseen seen (last_of cs)) split ∙ seen_first seen more left commit new grown in
     ap (λ cs. unseen more (last_of left) ++ reverse cs) c.in_ok-push.ensures.items

@@ -1,12 +1,12 @@
-//! Names that a declaration gives.
+//! Names by their numbers.
 
 ghost use Rattle.std.specs.Prelude.{◌≡◌};
-ghost use Rattle.qc_report.specs.Names.{name_at};
+ghost use Rattle.qc_decl.specs.Names.{name_at};
 
-use qc_decl::Names;
+use crate::declaration::Names;
 
 /// The name with this number, and no byte where there is none.
-pub(crate) fn name_at(names: &Names, place: usize) -> &str
+pub fn name_at(names: &Names, place: usize) -> &str
     ensures { result.now ≡ name_at names.now place }
 {
     match names.items().get(place) {
