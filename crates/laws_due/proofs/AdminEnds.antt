@@ -49,7 +49,7 @@ use Rattle.laws_due.proofs.Ordered.{run_in_order}
 use Rattle.laws_due.proofs.AdminOrders.{no_command, done_ordered, broken_ordered, due_second, command_of, asked_phases}
 use Rattle.qc_list.proofs.Numbers.{numbers_apart}
 use Rattle.qc_list.proofs.Members.{every-front, In-none}
-use Rattle.qc_decl.proofs.Clients.{few_actors}
+use Rattle.qc_script.proofs.Actors.{few_actors}
 
 module _ (decl : Declaration) (script : Script) (accepted : IsAccepted decl) (asks : AsksDeclared decl script)
     (fits : ℕ → List Record → Type 0) (known : AsksKnown fits decl script) (epochs : AsksEpochs decl script) where

@@ -39,7 +39,7 @@ use Rattle.laws_due.proofs.SiteTurns.{IsSomeClient, IsSomeSite, client_up, site_
 use Rattle.laws_due.proofs.Somewhere.{AreToOthers, IsOther}
 use Rattle.laws_due.proofs.AskingCases.{asking_cases}
 use Rattle.qc_list.proofs.Numbers.{numbers_apart}
-use Rattle.qc_decl.proofs.Clients.{few_actors}
+use Rattle.qc_script.proofs.Actors.{few_actors}
 
 known_posts : (decl : Declaration) (b n : ℕ) (ps : List Posting)
     → Every (λ (e : Envelope). IsKnown decl e.message) (envelopes b n ps)

@@ -29,7 +29,7 @@ use Rattle.laws_due.proofs.PlainSteps.{ArePlain, line_plain, opened_left, post_p
 use Rattle.laws_due.proofs.Plain.{entries_calls, entries_left, entries_phase, phase_then}
 use Rattle.qc_mailbox.proofs.Keeping.{inbox_after}
 use Rattle.laws_turns.proofs.Calling.{ready_command}
-use Rattle.qc_script.proofs.Lasts.{phase_taken}
+use Rattle.qc_script.proofs.Phases.{phase_taken}
 
 -- the command that is ready is the next one
 

@@ -31,7 +31,7 @@ use Rattle.laws_due.proofs.Taken.{AreReplied, IsReplied, RepliesTo}
 use Rattle.laws_due.proofs.Reached.{unanswered_at_receiver}
 use Rattle.laws_due.proofs.AskingCases.{asking_cases}
 use Rattle.qc_list.proofs.Numbers.{numbers_apart}
-use Rattle.qc_decl.proofs.Clients.{few_actors}
+use Rattle.qc_script.proofs.Actors.{few_actors}
 
 module _ (decl : Declaration) (script : Script) (accepted : IsAccepted decl) (asks : AsksDeclared decl script)
     (fits : ℕ → List Record → Type 0) (a : ℕ) (client : is_client decl a ≡ true) where

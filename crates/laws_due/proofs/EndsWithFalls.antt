@@ -40,7 +40,7 @@ use Rattle.qc_mailbox.proofs.Keeping.{inbox_after}
 use Rattle.laws_turns.proofs.Ends.{no_copies, no_losts}
 use Rattle.qc_list.proofs.Places.{place_within, some_at}
 use Rattle.qc_list.proofs.Members.{In-none}
-use Rattle.qc_decl.proofs.Clients.{few_actors}
+use Rattle.qc_script.proofs.Actors.{few_actors}
 
 module _ (decl : Declaration) (script : Script) (accepted : IsAccepted decl) (asks : AsksDeclared decl script)
     (fits : ℕ → List Record → Type 0) where

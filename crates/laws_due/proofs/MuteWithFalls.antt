@@ -37,7 +37,7 @@ use Rattle.laws_due.proofs.Ordered.{all_counted, open_commands, run_ordered}
 use Rattle.laws_due.proofs.Telling.{first_all}
 use Rattle.qc_list.proofs.Members.{every-append}
 use Rattle.qc_list.proofs.Places.{some_at}
-use Rattle.qc_decl.proofs.Clients.{few_actors}
+use Rattle.qc_script.proofs.Actors.{few_actors}
 
 -- deeds that tell nothing
 

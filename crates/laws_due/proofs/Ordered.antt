@@ -44,7 +44,7 @@ use Rattle.laws_due.proofs.Places.{apart_from_controller, rose_split}
 use Rattle.laws_due.proofs.Telling.{Replies}
 use Rattle.laws_due.proofs.LifelongWithFalls.{client_lives, rising_turn, turn_replies}
 use Rattle.laws_due.proofs.Tied.{IsAtInput}
-use Rattle.qc_decl.proofs.Clients.{few_actors}
+use Rattle.qc_script.proofs.Actors.{few_actors}
 
 -- deeds behind others
 

@@ -30,7 +30,7 @@ use Rattle.qc_promise.specs.Vocabulary.{account, account_at, new_account}
 use Rattle.laws_guarantees.specs.Vocabulary.{IsStill, IsUndisturbed, before_phase, begun_by, name_of}
 use Rattle.laws_guarantees.proofs.Names.{taken_named}
 use Rattle.laws_guarantees.proofs.PartsOf.{taken_parts}
-use Rattle.qc_script.proofs.Lasts.{phase_taken}
+use Rattle.qc_script.proofs.Phases.{phase_taken}
 
 -- commands of phases
 

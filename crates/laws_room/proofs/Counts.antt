@@ -21,7 +21,7 @@ use Rattle.qc_script.specs.Vocabulary.{Runs, inbox, phase_of}
 use Rattle.qc_script.specs.Runs.{begins, takes, posts, phase, control}
 use Rattle.qc_script.specs.declared.script.Script.{Script}
 use Rattle.laws_turns.proofs.Calling.{phases_are_the_scripts}
-use Rattle.laws_turns.proofs.PhaseCalls.{phase_posted, phase_more}
+use Rattle.laws_turns.proofs.PhaseCalls.{phase_posted}
 use Rattle.laws_guarantees.specs.Vocabulary.{Arrives, IsLossless}
 use Rattle.laws_guarantees.proofs.NeverRisen.{operations_written}
 use Rattle.laws_guarantees.proofs.Passing.{no_request_is_lost}
@@ -32,7 +32,7 @@ use Rattle.laws_room.proofs.Costs.{cost_of, script_budget, step_cost}
 use Rattle.laws_room.proofs.Paid.{run_paid}
 use Rattle.laws_room.proofs.Prices.{Prices}
 use Rattle.laws_room.proofs.StepPrices.{in_steps, steps_fair, steps_paid}
-use Rattle.qc_script.proofs.Lasts.{phase_taken}
+use Rattle.qc_script.proofs.Phases.{phase_more, phase_taken}
 
 -- the steps of an input, and of a turn, each cost one
 

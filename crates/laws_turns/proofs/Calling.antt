@@ -30,9 +30,9 @@ use Rattle.laws_turns.specs.Vocabulary.{asked_in_all, asked_until, call_in, call
 use Rattle.laws_turns.proofs.Acted.{deeds-silent}
 use Rattle.laws_turns.proofs.Arrivals.{what_is_ready_was_sent}
 use Rattle.laws_turns.proofs.Numbered.{control_silent, phase_silent}
-use Rattle.laws_turns.proofs.PhaseCalls.{left_if, asked_in, left_phase, phase_more, phase_posted, phase_control}
+use Rattle.laws_turns.proofs.PhaseCalls.{left_if, asked_in, left_phase, phase_posted, phase_control}
 use Rattle.laws_turns.proofs.PhaseCalls.{calls_turn, left_more, left_posted, left_control}
-use Rattle.qc_script.proofs.Lasts.{phase_taken}
+use Rattle.qc_script.proofs.Phases.{phase_more, phase_taken}
 
 -- the command that is ready is the next one
 

@@ -26,6 +26,7 @@ use Rattle.qc_script.specs.Vocabulary.{Inbox, acting, answers_by, comes, comes_a
 use Rattle.qc_script.specs.Vocabulary.{empty_inbox, goes, goes_with, has_request, inbox, inbox_at, is_request, is_up}
 use Rattle.qc_script.specs.Vocabulary.{opened, opened_by, phase_at, phase_begun, phase_of, reply_told, step_of_control}
 use Rattle.qc_script.specs.Vocabulary.{with_copies, wrote_record, request_answered}
+use Rattle.qc_script.proofs.Phases.{phase_more}
 use Rattle.laws_turns.specs.Vocabulary.{call_in}
 use Rattle.laws_turns.proofs.ReadingCases.{mapped}
 use Rattle.laws_turns.proofs.StepCases.{control_cases}
@@ -148,9 +149,6 @@ module _ (script : Script) (a : ℕ) where
       { cuts = without_cut (inbox script a h).cuts x y; controls = drop 1 (inbox script a h).controls })) line step is
 
 -- the last phase, step by step
-
-pub phase_more : (h k : List Entry) → phase_of (h ++ k) ≡ fold (λ (n : ℕ) (e : Entry). phase_at n e.step) (phase_of h) k
-phase_more h k = fold-append (λ (n : ℕ) (e : Entry). phase_at n e.step) 0 h k
 
 phase_sents : (k a n : ℕ) (ps : List Posting) (reply : Option Reply)
     → fold (λ (n : ℕ) (e : Entry). phase_at n e.step) k (by a (sents n ps ++ told reply)) ≡ k

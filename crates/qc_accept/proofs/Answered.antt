@@ -8,7 +8,7 @@ use Rattle.toml.specs.Data.{Data, Members, as_array}
 use Rattle.qc_list.specs.Vocabulary.{◌>>=◌}
 use Rattle.qc_accept.specs.Vocabulary.{Answer, each, items, items_between, listed, read_each, required, told}
 use Rattle.qc_decl.specs.Vocabulary.{is_between}
-use Rattle.qc_decl.proofs.Clients.{between}
+use Rattle.qc_decl.proofs.Between.{between}
 
 -- an answer of two steps: what the first gave
 pub record Came {A B : Type 0} (answer : Answer A) (next : A → Answer B) (b : B) : Type 0 where

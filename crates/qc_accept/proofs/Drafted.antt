@@ -21,7 +21,7 @@ use Rattle.qc_accept.proofs.Answered.{one_more}
 use Rattle.qc_accept.proofs.Listed.{IsThreshold, list_of, needs_at, needs_long, needs_small, thresholds_long}
 use Rattle.qc_accept.proofs.Naming.{all_named, names_more, no_names}
 use Rattle.qc_accept.proofs.Kept.{among_within, name_more}
-use Rattle.qc_decl.proofs.Clients.{between}
+use Rattle.qc_decl.proofs.Between.{between}
 
 -- what holds of each holds of the one at a place
 pub all_at : {A : Type 0} (P : A → Type 0) (xs : List A) (k : ℕ) (x : A) → All P xs → slice_get xs k ≡ Some x → P x

@@ -1,3 +1,4 @@
+pub mod Between
 pub mod AcceptedNames
 pub mod BuiltInRules
 pub mod Clients

@@ -21,7 +21,7 @@ use Rattle.qc_script.specs.Vocabulary.{RunsWithFalls, begins, control, controlle
 use Rattle.qc_script.specs.Vocabulary.{phase_of, posts, rises, step_of_control, takes, unopened}
 use Rattle.qc_script.specs.declared.script.Script.{Script}
 use Rattle.qc_fabric.proofs.Plain.{IsPlain, may_end, plain_leaves_phase, posted_plain}
-use Rattle.qc_script.proofs.Lasts.{phase_taken}
+use Rattle.qc_script.proofs.Phases.{phase_taken}
 
 abbrev phase_from : ℕ → List Entry → ℕ
 phase_from k h = fold (λ k e. phase_at k e.step) k h

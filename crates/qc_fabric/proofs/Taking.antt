@@ -34,7 +34,7 @@ use Rattle.qc_fabric.proofs.KeptParts.{all_of, steps_on, unarmed_of}
 use Rattle.qc_fabric.proofs.Ready.{given_ready, none_ready}
 use Rattle.qc_link.specs.Vocabulary.{most_actors}
 use Rattle.qc_list.proofs.Places.{place_within, length-slice_set}
-use Rattle.qc_script.proofs.Lasts.{phase_taken}
+use Rattle.qc_script.proofs.Phases.{phase_taken}
 
 input_arms_none : (g : Input) (b : ℕ) → arms_disk b (step_of g) ≡ false
 input_arms_none (inputs.Called command) b = refl

@@ -1,7 +1,7 @@
 //! Laws of a front end's conduct, each the contract of a function with nothing
 //! to do. First what holds of it in every run, and that each move keeps it.
 
-ghost use Rattle.std.specs.Prelude.{◌≡◌, ℕ, ◌+◌, ◌-◌, ◌^◌, ◌<◌, ◌≤◌, true, false, Option, None, Some, length};
+ghost use Rattle.std.specs.Prelude.{◌≡◌, ℕ, ◌+◌, ◌-◌, ◌^◌, ◌<◌, ◌≤◌, true, false, ◌∷◌, [], Option, None, Some, length};
 ghost use Rattle.qc_decl.specs.Accepted.{IsAccepted};
 ghost use Rattle.qc_decl.specs.declared.declaration.Declaration.{Declaration};
 ghost use Rattle.qc_front.specs.Conduct.{called, requested, sent, takes};
@@ -105,6 +105,12 @@ pub fn dos_go_on()
 pub fn sites_have_one_open_request()
     ensures { (decl : Declaration) (front : Front) → FrontHolds decl front
         → AreApart (sites_called (calls_in front.doing)) }
+{}
+
+/// What that law refuses: two open requests for one site, whatever their numbers.
+pub fn second_requests_for_a_site_are_refused()
+    ensures { (first second site : ℕ) → AreApart (sites_called (record { number = first; site = site }
+        ∷ record { number = second; site = site } ∷ [])) → ⊥ }
 {}
 
 /// The first thing that comes of an open request counts, and all else changes

@@ -23,7 +23,8 @@ pub use laws::{
     answers_ask_at_once, answers_keep_hold, clocks_pass_grants, commands_ask_at_once,
     commands_keep_hold, counts_rise_by_one, dos_go_on, first_grants_give_lives, front_ends_fit,
     new_front_ends_hold, numbers_keep_hold, replies_are_as_rounds_come, requests_count_once,
-    sites_have_one_open_request, turns_send_requests_and_verdicts,
+    second_requests_for_a_site_are_refused, sites_have_one_open_request,
+    turns_send_requests_and_verdicts,
 };
 pub use sent::calls_of;
 pub use transaction::{Transaction, Views};

@@ -24,7 +24,7 @@ use Rattle.qc_fabric.specs.Vocabulary.{Arms, FallsByLine, IsSame, IsUpTo, MayDo,
 use Rattle.qc_fabric.specs.declared.rising.Rising.{Rising}
 use Rattle.qc_node.specs.Vocabulary.{IsCell, IsLeft, IsRunnable, fits_of}
 use Rattle.qc_node.proofs.Lines.{armed_counted, crashed_up, restarted_down}
-use Rattle.qc_decl.proofs.Clients.{few_actors}
+use Rattle.qc_script.proofs.Actors.{few_actors}
 
 module _ (tells : Bool) (z : TableId) (decl : Declaration) (p : Pass Step) (pr : ProcessView)
     (cell : IsCell tells z decl false pr p) (q : Pass Step) (new : ProcessView) where

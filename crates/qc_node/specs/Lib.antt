@@ -3,6 +3,7 @@ pub mod Rules
 pub mod Cells
 pub mod Restarts
 pub mod Ends
+pub mod OwnLines
 pub mod Places
 pub mod Settling
 pub mod Starts

@@ -1,6 +1,7 @@
 -- What proofs, and other crates, name of this crate's definitions.
 pub use Rattle.qc_node.specs.Cells.{IsCell, IsIdle, IsKnown, IsLeft, IsServed, Known}
 pub use Rattle.qc_node.specs.Ends.{HasEnded, IsScriptEnd}
+pub use Rattle.qc_node.specs.OwnLines.{IsLineOf}
 pub use Rattle.qc_node.specs.Places.{AreEmpty, AreGivenBack, BothTell, HasBegun, HoldJournals, IsNotEmpty, IsRefused}
 pub use Rattle.qc_node.specs.Places.{place_of}
 pub use Rattle.qc_node.specs.Restarts.{Appends, IsAppended, IsRecorded, opened_of, with_end}

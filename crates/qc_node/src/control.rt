@@ -3,12 +3,14 @@
 //! the calls of the disk too: between control lines nobody else has anything to do.
 //! Where the line isn't the next one any more, another worker carried it out.
 
-ghost use Rattle.std.specs.Prelude.{◌≡◌, ◌≢◌, None, IfOk, OnErr};
+ghost use Rattle.std.specs.Prelude.{◌≡◌, ◌≢◌, None, IfOk, IfSome, OnErr, false};
 ghost use Rattle.qc_core.specs.declared.actor.Actor.TheVariants.{Down};
 ghost use Rattle.qc_decl.specs.Accepted.{IsAccepted};
 ghost use Rattle.qc_process.specs.Opens.{OpensAs, StaysOnDisk};
 ghost use Rattle.qc_process.specs.Views.{HasFewRecords};
+ghost use Rattle.qc_fabric.specs.Controls.{MayDo};
 ghost use Rattle.qc_fabric.specs.Risings.{size_of_rising};
+ghost use Rattle.qc_node.specs.OwnLines.{IsLineOf};
 ghost use Rattle.qc_node.specs.Runnable.{IsRunnable};
 ghost use Rattle.qc_node.specs.Restarts.{IsClosed, IsRecorded, opened_of};
 
@@ -27,6 +29,29 @@ use std::sync::Wait;
 use std::thread::Threads;
 
 impl<D: Disk, N: RunName> Cell<D, N> {
+    /// The control line that is next, where it is of this cell's actor: another worker
+    /// may have carried out the one that was looked at.
+    fn next_line<G: Gate, R: Threads + Wait + Sync>(
+        &self,
+        worker: &Worker<'_, D, N, G, R>,
+        state: &FabricState<Rules, N>,
+        last: u32,
+    ) -> Option<Control>
+        ensures { IfSome result (λ line. IsLineOf self.now.number line
+            × MayDo N.declaration N.script state.now.history state.now.open_inputs line) }
+    {
+        let line = state.next_order(worker.decl, last)?;
+        let actor = match line {
+            Control::Armed { actor, .. } | Control::Crash(actor) | Control::Restart(actor) => actor,
+            Control::Phase(_) | Control::Cut(..) | Control::Heal(..) => return None,
+        };
+        if actor == self.pass.number() {
+            Some(line)
+        } else {
+            None
+        }
+    }
+
     /// A fault is armed for the actor's disk, where the next control line says so.
     /// Whether something is left: always.
     pub(crate) fn arm<G: Gate, R: Threads + Wait + Sync>(
@@ -39,13 +64,9 @@ impl<D: Disk, N: RunName> Cell<D, N> {
         ensures number { self.new.number ≡ self.old.number }
     {
         let mut held = worker.fabric.hold(worker.rt);
-        let Some(Control::Armed { actor, kind, at }) = held.state.next_order(worker.decl, last)
-        else {
+        let Some(Control::Armed { kind, at, .. }) = self.next_line(worker, &held.state, last) else {
             return Ok(true);
         };
-        if actor != self.pass.number() {
-            return Ok(true);
-        }
         if self.given_up {
             return Err(AllocError);
         }
@@ -64,12 +85,9 @@ impl<D: Disk, N: RunName> Cell<D, N> {
         ensures number { self.new.number ≡ self.old.number }
     {
         let mut held = worker.fabric.hold(worker.rt);
-        let Some(Control::Crash(actor)) = held.state.next_order(worker.decl, last) else {
+        let Some(Control::Crash(_)) = self.next_line(worker, &held.state, last) else {
             return Ok(true);
         };
-        if actor != self.pass.number() {
-            return Ok(true);
-        }
         if self.given_up {
             return Err(AllocError);
         }
@@ -91,12 +109,9 @@ impl<D: Disk, N: RunName> Cell<D, N> {
         ensures number { self.new.number ≡ self.old.number }
     {
         let mut held = worker.fabric.hold(worker.rt);
-        let Some(Control::Restart(actor)) = held.state.next_order(worker.decl, last) else {
+        let Some(Control::Restart(_)) = self.next_line(worker, &held.state, last) else {
             return Ok(true);
         };
-        if actor != self.pass.number() {
-            return Ok(true);
-        }
         if self.given_up {
             return Err(AllocError);
         }

@@ -1,16 +1,12 @@
 -- The last phase of a script.
 use Rattle.std.proofs.Common.{◌≡◌, ℕ, ◌-◌, ◌<◌, ◌==◌, List, [], ◌∷◌, length, get_or, set, refl, ap, sym, ◌∙◌, arith}
-use Rattle.std.proofs.Common.{rules, ◌+◌, ◌++◌}
+use Rattle.std.proofs.Common.{rules}
 use native.Mathlib.Numerals.{unary_clauses}
-use Rattle.qc_script.specs.Vocabulary.{is_at_controls, is_before_commands, on_last, phase_of}
+use Rattle.qc_script.specs.Vocabulary.{is_at_controls, is_before_commands, on_last}
 use Rattle.qc_script.specs.declared.script.CommandLine.{CommandLine}
 use Rattle.qc_link.specs.declared.plan.Link.{Link}
 use Rattle.qc_script.specs.declared.script.PhaseLines.{PhaseLines}
 use Rattle.qc_script.specs.declared.script.Script.{Script}
-use Rattle.qc_msg.specs.declared.step.Input.{Input}
-use Rattle.qc_msg.specs.Vocabulary.{Entry, marked, step_of}
-use Rattle.qc_msg.specs.declared.step.Input.TheVariants as inputs
-use Rattle.qc_msg.specs.declared.step.Step.TheVariants as steps
 
 -- a change of the last phase, by its place
 pub last_changed : (change : PhaseLines → PhaseLines) (phases : List PhaseLines) (d : PhaseLines) → 0 < length phases
@@ -54,8 +50,3 @@ script_changed change script links phases n p q seen long some last changed =
     ap (λ (ps : List PhaseLines). let s : Script = record { links = links; phases = ps } in s)
     (changed_at change phases n p q long some last changed)
     ∙ ap (λ (s : Script). let t : Script = record { links = s.links; phases = on_last change s.phases } in t) seen
-
-pub phase_taken : (h : List Entry) (a : ℕ) (taken : Input) → phase_of (h ++ marked a (step_of taken) ∷ []) ≡ phase_of h
-phase_taken h a (inputs.Called command) = phase_more h (marked a (steps.Called command) ∷ [])
-phase_taken h a (inputs.Got envelope) = phase_more h (marked a (steps.Got envelope.number) ∷ [])
-phase_taken h a (inputs.Lost number) = phase_more h (marked a (steps.Lost number) ∷ [])

@@ -1,3 +1,5 @@
+pub mod Phases
+pub mod Actors
 pub mod FirstRefused
 pub mod Lasts
 pub mod Reading

@@ -23,7 +23,7 @@ use Rattle.qc_script.specs.declared.line.ScriptLine.TheVariants as lines
 use Rattle.qc_script.specs.declared.line.Verb.{Verb}
 use Rattle.qc_script.specs.declared.line.Verb.TheVariants as verbs
 use Rattle.qc_script.specs.declared.script.CommandLine.{CommandLine}
-use Rattle.qc_decl.proofs.Clients.{between}
+use Rattle.qc_decl.proofs.Between.{between}
 
 -- the names of an item are declared
 

@@ -11,7 +11,7 @@ use Rattle.qc_node.proofs.Kept.{cell_over_others}
 use Rattle.qc_node.proofs.Ordered.{is_down, opened_cell, risen_cell}
 use Rattle.qc_node.proofs.Rises.{risen_asks, risen_lawful, risen_numbers, risen_process}
 use Rattle.qc_node.proofs.cell.Cell.restart.Goals as goal
-use Rattle.qc_decl.proofs.Clients.{few_actors}
+use Rattle.qc_script.proofs.Actors.{few_actors}
 
 pub invariant_of-self : goal.invariant_of-self
 invariant_of-self g c =
