@@ -20,14 +20,13 @@ use Rattle.qc_promise.specs.Vocabulary.{AdminRequest, close_asked, fresh_round, 
 use Rattle.qc_epoch.specs.Vocabulary.{standing_of}
 use Rattle.qc_epoch.specs.Conduct as conduct
 use Rattle.laws_due.specs.Vocabulary.{AreApart}
-use Rattle.qc_front.proofs.Apart.{apart_filter}
+use Rattle.qc_front.proofs.Apart.{apart_filter, apart_cyclic}
 use Rattle.laws_due.proofs.Nexts.{asking_one}
 use Rattle.laws_due.proofs.AdminRequests.{IsCalled, differ, length_taken, numbers_of, others_taken, other_taken}
 use Rattle.laws_due.proofs.AdminRequests.{sites_of, takes, this_taken, all_taken}
 use Rattle.laws_due.proofs.Halves.{drop_last}
 use Rattle.laws_due.proofs.PlainRounds.{ArePlain}
 use Rattle.laws_due.proofs.PlainRounds as rounds
-use Rattle.laws_due.proofs.AnswersDue.{apart_cyclic}
 use Rattle.qc_list.proofs.Members.{In-map}
 
 apart_weighing : (weights : List ℕ) → AreApart (weighing weights (cyclic (length weights) 0))

@@ -5,7 +5,6 @@ use Rattle.std.proofs.Common.{length, map, drop, take, Option, None, refl, sym, 
 use Rattle.std.specs.Prelude.{is_some}
 use Rattle.std.specs.List.{AllByRecursion as Every, list_all}
 use Rattle.std.proofs.lemmas.List.{length-map}
-use Rattle.qc_list.proofs.Members.{In-first}
 use Rattle.qc_msg.specs.Vocabulary.{sending}
 use Rattle.qc_msg.specs.declared.payload.EpochStart.{EpochStart}
 use Rattle.qc_decl.specs.declared.declaration.Declaration.{Declaration}
@@ -40,10 +39,7 @@ use Rattle.laws_due.proofs.AdminAskSends.{AsksSent, ask_to, asks_sent}
 use Rattle.laws_due.proofs.AdminCloseSends.{ClosesSent, closes_sent}
 use Rattle.laws_due.proofs.AdminQuestions.{AreAbout, asked_of, none_asked, promised_distinct, promised_of}
 use Rattle.laws_due.proofs.AdminQuestions.{questions_are, unasked}
-
-apart_first : (xs ys : List ℕ) → AreApart (xs ++ ys) → AreApart xs
-apart_first [] ys apart = tt
-apart_first (x ∷ xs) ys apart = (λ y among. apart.0 y (In-first y xs ys among), apart_first xs ys apart.1)
+use Rattle.qc_front.proofs.Apart.{apart_first}
 
 pub closed_apart : (decl : Declaration) (n e : ℕ) (cs : List AdminRequest) (calls : List Call) (shuts : List ShutSite)
     → HasClosed decl n e cs calls shuts → AreApart (sites_of cs)

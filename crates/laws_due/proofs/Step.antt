@@ -12,7 +12,7 @@ use Rattle.qc_front.specs.declared.transaction.Transaction.{Transaction}
 use Rattle.qc_front.specs.Conduct as fronts
 use Rattle.qc_front.specs.Vocabulary.{AppendingHolds, FrontHolds, FrontMove, ReadingHolds, RecordsHold}
 use Rattle.qc_front.specs.Vocabulary.{moved as front_moved}
-use Rattle.qc_front.proofs.Apart.{apart_filter}
+use Rattle.qc_front.proofs.Apart.{apart_filter, apart_cyclic}
 use Rattle.qc_front.proofs.NotedRounds.{round_apart}
 use Rattle.qc_front.proofs.Noting.{ascends_apart}
 use Rattle.qc_client.specs.declared.client.Client.{Client}
@@ -37,7 +37,7 @@ use Rattle.laws_due.proofs.Hears.{appending_goes}
 use Rattle.laws_due.proofs.Nothing.{tied_none}
 use Rattle.laws_due.proofs.Turns.{client_at, still_goes}
 use Rattle.laws_due.proofs.VotesIn.{voting_goes}
-use Rattle.laws_due.proofs.AnswersDue.{apart_cyclic, asked_sites}
+use Rattle.laws_due.proofs.AnswersDue.{asked_sites}
 use Rattle.laws_turns.proofs.ClientCases.{heard_cases}
 use Rattle.std.specs.Option.{option_map_or}
 

@@ -1,5 +1,5 @@
 -- Lists of different numbers: what is left of one, and the participants of a commit.
-use Rattle.std.proofs.Common.{◌≢◌, ℕ, ◌⊎◌, Bool, true, false, cond, inl, inr, List, [], ◌∷◌, map, filter, refl}
+use Rattle.std.proofs.Common.{ℕ, Bool, true, false, cond, inl, inr, List, [], ◌∷◌, map, filter}
 use Rattle.qc_list.specs.Vocabulary.{In}
 use Rattle.qc_decl.specs.declared.declaration.Declaration.{Declaration}
 use Rattle.qc_decl.specs.Vocabulary.{first_site}
@@ -32,16 +32,6 @@ kept_different {A = A} f test (x ∷ xs) different = by (test x) (kept_different
         → AreApart (map f (cond b (x ∷ filter test xs) (filter test xs)))
     by true rest = (λ y among. different.0 y (kept_among f test xs y among), rest)
     by false rest = rest
-
--- sites in an order from one of them
-
-)
-
-)
-  where
-    by : (y : ℕ) → In y xs ⊎ In y ys → x ≢ y
-    by y (inl among) = first.0 y among
-    by y (inr among) = across x y (inl refl) among
 
 -- a commit asks each participant once
 pub participants_different : (decl : Declaration) (client : ℕ) (b : Begun)

@@ -51,8 +51,6 @@ one_more k r p =
     (λ tx clock among. inl (In-unfiltered (λ (x : Prepared). not (same_tx x.tx tx)) p k.promises among))
     (λ epoch among. inl among) (λ start among. absurd among) (λ x among. inl among) r
 
-]
-
 pub promises_recorded : (rs : List Record) (p : Prepared) → In p (kept_by rs).promises → In (records.Prepare p) rs
 promises_recorded rs p among = elim (from_records rs nothing_kept p among) [ inl never ↦ absurd never | inr new ↦ new ]
 

@@ -23,8 +23,6 @@ use Rattle.qc_front.proofs.Numbering.{from_sites, from_ascends}
 
 -- calls with consecutive numbers
 
-)
-
 some_calls : (calls : List Call) (sites : List ℕ) (first : ℕ) → (length calls == 0) ≡ false
     → numbered_from calls sites first ≡ calls
 some_calls calls sites first some = ap (λ b. cond b (calls_from first sites) calls) some
