@@ -2,19 +2,18 @@
 use Rattle.std.proofs.Common.{◌≡◌, ℕ, zero, suc, ◌+◌, ◌<◌, ◌≤◌, Bool, true, false, List, [], ◌∷◌, ◌++◌, length, refl}
 use Rattle.std.proofs.Common.{ap, sym, ◌∙◌, subst, arith, length-append, append_assoc, Some, sum}
 use Rattle.std.specs.Prelude.{slice_get, slice_set}
-use Rattle.std.proofs.lemmas.List.{append-nil}
 use Rattle.std.proofs.lemmas.List.Sums.{sum_by-cons}
 use mathlib.Core.List.{IsPrefix}
 use Rattle.qc_pass.specs.declared.token.Pass.{Pass}
 use Rattle.qc_pass.specs.declared.token.Right.{Right}
-use Rattle.qc_pass.specs.Vocabulary.{Met, all, ends, mine, number, room, rooms, table_of}
+use Rattle.qc_pass.specs.Vocabulary.{Met, all, mine, number, room, rooms, table_of}
 use Rattle.qc_msg.specs.declared.step.Step.{Step}
 use Rattle.qc_msg.specs.declared.step.Fall.TheVariants as causes
 use Rattle.qc_msg.specs.declared.turn.Appended.{Appended}
 use Rattle.qc_msg.specs.declared.turn.Appended.TheVariants.{Done, Failed, Stopped}
 use Rattle.qc_msg.specs.declared.turn.Posting.{Posting}
 use Rattle.qc_msg.specs.declared.turn.Turn.{Turn}
-use Rattle.qc_msg.specs.Vocabulary.{Entry, by, deeds, fell, marked, own, posted_as, sends_as, sents, told, wrote}
+use Rattle.qc_msg.specs.Vocabulary.{Entry, by, deeds, fell, own, posted_as, sends_as, sents, told, wrote}
 use Rattle.qc_msg.proofs.GrownMail.{by-append}
 use Rattle.qc_msg.proofs.Growth.{same_deeds}
 use Rattle.qc_mailbox.specs.Vocabulary.{is_held}

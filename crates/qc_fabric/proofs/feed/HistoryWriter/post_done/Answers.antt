@@ -1,4 +1,4 @@
-use Rattle.std.proofs.Common.{◌≡◌, ◌+◌, length, sym, ap, arith}
+use Rattle.std.proofs.Common.{◌+◌, length, sym, ap, arith}
 use Rattle.qc_msg.specs.Vocabulary.{told}
 use Rattle.qc_fabric.proofs.Fed.{can_then, can_write_fewer, length-done, length-sents, written_join}
 use Rattle.qc_fabric.proofs.feed.HistoryWriter.post_done.Goals as goal
