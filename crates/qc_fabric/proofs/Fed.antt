@@ -2,23 +2,23 @@
 use Rattle.std.proofs.Common.{◌≡◌, ℕ, zero, suc, ◌+◌, ◌<◌, ◌≤◌, Bool, true, false, List, [], ◌∷◌, ◌++◌, length, refl}
 use Rattle.std.proofs.Common.{ap, sym, ◌∙◌, subst, arith, length-append, append_assoc, Some, sum}
 use Rattle.std.specs.Prelude.{slice_get, slice_set}
-use Rattle.std.proofs.lemmas.List.{append-nil}
 use Rattle.std.proofs.lemmas.List.Sums.{sum_by-cons}
 use mathlib.Core.List.{IsPrefix}
 use Rattle.qc_pass.specs.declared.token.Pass.{Pass}
 use Rattle.qc_pass.specs.declared.token.Right.{Right}
-use Rattle.qc_pass.specs.Vocabulary.{Met, all, ends, mine, number, room, rooms}
+use Rattle.qc_pass.specs.Vocabulary.{Met, all, mine, number, room, rooms, table_of}
 use Rattle.qc_msg.specs.declared.step.Step.{Step}
 use Rattle.qc_msg.specs.declared.step.Fall.TheVariants as causes
 use Rattle.qc_msg.specs.declared.turn.Appended.{Appended}
 use Rattle.qc_msg.specs.declared.turn.Appended.TheVariants.{Done, Failed, Stopped}
 use Rattle.qc_msg.specs.declared.turn.Posting.{Posting}
 use Rattle.qc_msg.specs.declared.turn.Turn.{Turn}
-use Rattle.qc_msg.specs.Vocabulary.{Entry, by, deeds, fell, marked, own, posted_as, sends_as, sents, told, wrote}
+use Rattle.qc_msg.specs.Vocabulary.{Entry, by, deeds, fell, own, posted_as, sends_as, sents, told, wrote}
 use Rattle.qc_msg.proofs.GrownMail.{by-append}
 use Rattle.qc_msg.proofs.Growth.{same_deeds}
 use Rattle.qc_mailbox.specs.Vocabulary.{is_held}
-use Rattle.qc_fabric.specs.Vocabulary.{CanFeed, Fed, Feeding, HasGrown, Logged, size_of}
+use Rattle.qc_fabric.specs.Vocabulary.{CanWrite, Fed, HasGrown, HasWritten, HasWrittenPart, Logged, size_of}
+use Rattle.qc_fabric.specs.declared.feed.HistoryWriter.{HistoryWriter}
 use Rattle.qc_msg.proofs.DeedsGrow.{length-by}
 
 -- lists of numbers
@@ -55,6 +55,12 @@ get_else (z ∷ l) (suc i) (suc j) x ne = get_else l i j x (λ e. ne (ap suc e))
 pub rooms_kept : (p q : Pass Step) (r t : Right Step) (new : List Step) → Met p r q t new (room p) → rooms t ≡ rooms r
 rooms_kept p q r t new m = m.rooms_are ∙ set_again (rooms r) (number p) (room p) m.had_room
 
+-- the same meeting, of a pass and a room by other names
+pub met_as : {p p' q : Pass Step} {r t : Right Step} {xs : List Step} {k k' : ℕ} → Met p r q t xs k → p ≡ p' → k ≡ k'
+    → Met p' r q t xs k'
+met_as {p = p} {q = q} {r = r} {t = t} {xs = xs} {k' = k'} m same room_is =
+    subst (λ (x : Pass Step). Met x r q t xs k') same (subst (λ n. Met p r q t xs n) room_is m)
+
 -- an actor whose own entries are those of a beginning has the deeds of the beginning
 pub deeds_of_front : (a : ℕ) (h k : List Entry) → own a h ≡ own a k → IsPrefix h k → deeds a [] k ≡ deeds a [] h
 deeds_of_front a h k e p =
@@ -63,36 +69,7 @@ deeds_of_front a h k e p =
 
 -- steps that were added
 
-pub fed_none : (p : Pass Step) (r : Right Step) → Fed p r p r []
-fed_none p r = record {
-  same_table = refl;
-  same_right = refl;
-  same_number = refl;
-  mine_is = sym (append-nil (mine p));
-  all_is = sym (append-nil (all r));
-  rooms_are = refl;
-  others_end = λ b other. refl;
-  room_is = refl;
-}
-
-pub fed_more : (p p1 q : Pass Step) (r r1 t : Right Step) (s : Step) (ss : List Step) → Met p r p1 r1 (s ∷ []) (room p)
-    → all r1 ≡ all r ++ marked (number p) s ∷ [] → Fed p1 r1 q t ss → Fed p r q t (s ∷ ss)
-fed_more p p1 q r r1 t s ss m a f = record {
-  same_table = f.same_table ∙ m.same_table;
-  same_right = f.same_right ∙ m.same_right;
-  same_number = f.same_number ∙ m.same_number;
-  mine_is = f.mine_is ∙ (ap (λ (l : List Step). l ++ ss) m.mine_is ∙ append_assoc (mine p) (s ∷ []) ss);
-  all_is = f.all_is ∙ (ap (λ (k : ℕ). all r1 ++ by k ss) m.same_number
-      ∙ (ap (λ (l : List Entry). l ++ by (number p) ss) a
-      ∙ append_assoc (all r) (marked (number p) s ∷ []) (by (number p) ss)));
-  rooms_are = f.rooms_are ∙ rooms_kept p p1 r r1 (s ∷ []) m;
-  others_end = λ b other.
-      f.others_end b (λ is. other (is ∙ m.same_number))
-      ∙ (ap (λ (l : List ℕ). slice_get l b) m.ends_are ∙ get_else (ends r) (number p) b (length (all r1)) other);
-  room_is = f.room_is ∙ m.room_is;
-}
-
-pub fed_join : (p p1 q : Pass Step) (r r1 t : Right Step) (xs ys : List Step) → Fed p r p1 r1 xs → Fed p1 r1 q t ys
+fed_join : (p p1 q : Pass Step) (r r1 t : Right Step) (xs ys : List Step) → Fed p r p1 r1 xs → Fed p1 r1 q t ys
     → Fed p r q t (xs ++ ys)
 fed_join p p1 q r r1 t xs ys e f = record {
   same_table = f.same_table ∙ e.same_table;
@@ -107,10 +84,6 @@ fed_join p p1 q r r1 t xs ys e f = record {
   others_end = λ b other. f.others_end b (λ is. other (is ∙ e.same_number)) ∙ e.others_end b other;
   room_is = f.room_is ∙ e.room_is;
 }
-
-pub fed_one : (p q : Pass Step) (r t : Right Step) (s : Step) → Met p r q t (s ∷ []) (room p)
-    → all t ≡ all r ++ marked (number p) s ∷ [] → Fed p r q t (s ∷ [])
-fed_one p q r t s m a = fed_more p q q r t t s [] m a (fed_none q t)
 
 -- the log
 
@@ -152,10 +125,7 @@ sends_few Done n t = omega (arith, length-done n t)
 sends_few Failed n t = omega (arith, length-failed n t)
 sends_few Stopped n t = omega arith
 
-pub grown_none : (log : Logged) → HasGrown log log []
-grown_none log = record { history = sym (append-nil log.history); room = omega arith }
-
-pub grown_join : (old mid new : Logged) (a b : ℕ) (xs ys : List Step) → b ≡ a → HasGrown old mid (by a xs)
+grown_join : (old mid new : Logged) (a b : ℕ) (xs ys : List Step) → b ≡ a → HasGrown old mid (by a xs)
     → HasGrown mid new (by b ys) → HasGrown old new (by a (xs ++ ys))
 grown_join old mid new a b xs ys same g h = record {
   history = h.history ∙ (ap (λ (k : ℕ). mid.history ++ by k ys) same
@@ -165,42 +135,54 @@ grown_join old mid new a b xs ys same g h = record {
   room = omega (arith, g.room, h.room, length-by a xs, length-by b ys, length-by a (xs ++ ys), length-append xs ys);
 }
 
--- what is left of the room
-pub can_rest : (old new : Logged) (entries : List Entry) (left total : ℕ) → HasGrown old new entries
-    → length entries + left ≡ total → CanFeed old total → CanFeed new left
-can_rest old new entries left total g e f = record {
-  room = omega (arith, g.room, e, f.room);
-  bound = omega (arith, ap (λ (l : List Entry). length l) g.history, length-append old.history entries, e, f.bound);
+-- a writer
+
+pub written_join : (u v w : HistoryWriter) (r s t : Right Step) (xs ys : List Step) → HasWritten u r v s xs
+    → HasWritten v s w t ys → HasWritten u r w t (xs ++ ys)
+written_join u v w r s t xs ys a b = record {
+  fed = fed_join u.pass.now v.pass.now w.pass.now r s t xs ys a.fed b.fed;
+  log = grown_join u.log.now v.log.now w.log.now (number u.pass.now) (number v.pass.now) xs ys a.fed.same_number a.log
+      b.log;
+  same_passes = b.same_passes ∙ a.same_passes;
+  same_log = b.same_log ∙ a.same_log;
+  same_pass = b.same_pass ∙ a.same_pass;
 }
 
--- some of the room
-pub can_start : (log : Logged) (some total : ℕ) → CanFeed log total → some ≤ total → CanFeed log some
-can_start log some total f few = record { room = omega (arith, f.room, few); bound = omega (arith, f.bound, few) }
+-- what it can add after some steps, and that it can add fewer
+
+pub can_then : (v w : HistoryWriter) (r t : Right Step) (steps : List Step) (left total : ℕ) → HasWritten v r w t steps
+    → length steps + left ≡ total → CanWrite v r total → CanWrite w t left
+can_then v w r t steps left total has e can = record {
+  pass_table_is = has.fed.same_table ∙ (can.pass_table_is ∙ ap table_of (sym has.same_passes));
+  right_table_is = has.fed.same_right ∙ (can.right_table_is ∙ ap table_of (sym has.same_passes));
+  room = omega (arith, has.log.room, length-by (number v.pass.now) steps, e, can.room);
+  bound = omega (
+    arith,
+    ap (λ (l : List Entry). length l) has.log.history,
+    length-append v.log.now.history (by (number v.pass.now) steps),
+    length-by (number v.pass.now) steps,
+    e,
+    can.bound,
+  );
+}
+
+pub can_write_fewer : (w : HistoryWriter) (r : Right Step) (some total : ℕ) → CanWrite w r total → some ≤ total
+    → CanWrite w r some
+can_write_fewer w r some total can few = record {
+  pass_table_is = can.pass_table_is;
+  right_table_is = can.right_table_is;
+  room = omega (arith, can.room, few);
+  bound = omega (arith, can.bound, few);
+}
 
 -- one step more of some
-
-pub feeding_first : (p : Pass Step) (r : Right Step) (steps : List Step) (log : Logged)
-    → Feeding p r p r steps steps log log
-feeding_first p r steps log = record { done = []; fed = fed_none p r; split = refl; grown = grown_none log }
-
-pub feeding_more : (p q q' : Pass Step) (r t t' : Right Step) (steps rest : List Step) (x : Step)
-    (old new new' : Logged) → Feeding p r q t steps (x ∷ rest) old new
-    → Met q t q' t' (x ∷ []) (room q) → all t' ≡ all t ++ marked (number q) x ∷ []
-    → HasGrown new new' (marked (number q) x ∷ []) → Feeding p r q' t' steps rest old new'
-feeding_more p q q' r t t' steps rest x old new new' h m a g = record {
-  done = h.done ++ x ∷ [];
-  fed = fed_join p q q' r t t' h.done (x ∷ []) h.fed (fed_one q q' t t' x m a);
-  split = append_assoc h.done (x ∷ []) rest ∙ h.split;
-  grown = grown_join old new new' (number p) (number q) h.done (x ∷ []) h.fed.same_number h.grown g;
+pub part_more : (u v w : HistoryWriter) (r s t : Right Step) (steps rest : List Step) (x : Step)
+    → HasWrittenPart u r v s steps (x ∷ rest) → HasWritten v s w t (x ∷ []) → HasWrittenPart u r w t steps rest
+part_more u v w r s t steps rest x some one = record {
+  done = some.done ++ x ∷ [];
+  written = written_join u v w r s t some.done (x ∷ []) some.written one;
+  split = append_assoc some.done (x ∷ []) rest ∙ some.split;
 }
-
-pub feeding_last : (p q : Pass Step) (r t : Right Step) (steps : List Step) (old new : Logged)
-    → Feeding p r q t steps [] old new → Fed p r q t steps × HasGrown old new (by (number p) steps)
-feeding_last p q r t steps old new h =
-    let all_done : h.done ≡ steps = sym (append-nil h.done) ∙ h.split in (
-      subst (λ (l : List Step). Fed p r q t l) all_done h.fed,
-      subst (λ (l : List Step). HasGrown old new (by (number p) l)) all_done h.grown,
-    )
 
 -- bits
 

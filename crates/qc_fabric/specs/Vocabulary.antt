@@ -4,7 +4,7 @@ pub use Rattle.qc_fabric.specs.Advances.{WasNext}
 pub use Rattle.qc_fabric.specs.Controls.{ComesNext, IsUpTo, MayDo, control_step}
 pub use Rattle.qc_fabric.specs.Events.{before_last_event, begins_event, has_event}
 pub use Rattle.qc_fabric.specs.FabricStates.{IsFabricState, Shown, most_history}
-pub use Rattle.qc_fabric.specs.Feeds.{CanFeed, Feeding, HasGrown}
+pub use Rattle.qc_fabric.specs.Feeds.{CanWrite, HasGrown, HasWritten, HasWrittenPart}
 pub use Rattle.qc_fabric.specs.Gains.{ArmsNone, ArmsNoneBehind}
 pub use Rattle.qc_fabric.specs.Inputs.{IsInputFor, IsThere, given_by}
 pub use Rattle.qc_fabric.specs.Limits.{HasReached, IsBelow}

@@ -1,13 +1,11 @@
 //! Steps are added to the history, by the right: one, or those of a post, or of
 //! an actor's restart.
 
-ghost use Rattle.std.specs.Prelude.{◌≡◌, ◌+◌, ◌^◌, ◌≤◌, ◌<◌, ◌∷◌, ◌++◌, [], length};
-ghost use Rattle.qc_msg.specs.Steps.{by, fell, marked, posted_as, sends_as, sents, told, wrote};
+ghost use Rattle.std.specs.Prelude.{◌+◌, ◌^◌, ◌<◌, ◌∷◌, [], length};
+ghost use Rattle.qc_msg.specs.Steps.{fell, posted_as, sends_as, sents, told, wrote};
 ghost use Rattle.qc_msg.specs.declared.turn.Appended.TheVariants.{Done, Failed, Stopped};
-ghost use Rattle.qc_pass.specs.Tokens.{Met, all, number, pass_table, right_table, room, table_of};
-ghost use Rattle.qc_fabric.specs.Feeds.{CanFeed, HasGrown};
+ghost use Rattle.qc_fabric.specs.Feeds.{CanAdd, CanWrite, HasAdded, HasWritten};
 ghost use Rattle.qc_fabric.specs.Risings.{sends_of_rising, steps_of_rising};
-ghost use Rattle.qc_fabric.specs.Tells.{Fed};
 
 use crate::log::HistoryStore;
 use crate::rising::Rising;
@@ -23,11 +21,8 @@ pub(crate) fn add(
     pass: &mut Pass<Step>,
     step: Step,
 ) -> Right<Step>
-    requires table { (pass_table pass.old ≡ table_of passes.now) × (right_table right ≡ table_of passes.now) }
-    requires room { CanFeed log.old 1 }
-    ensures met { Met pass.old right pass.new result (step ∷ []) (room pass.old) }
-    ensures all { all result ≡ all right ++ marked (number pass.old) step ∷ [] }
-    ensures log { HasGrown log.old log.new (marked (number pass.old) step ∷ []) }
+    requires { CanAdd passes.now right log.old pass.old 1 }
+    ensures { HasAdded right log.old pass.old result log.new pass.new step }
 {
     let actor = pass.number();
     let right = passes.mark(pass, right, &step);
@@ -35,209 +30,150 @@ pub(crate) fn add(
     right
 }
 
-/// The steps of a turn's post, by what became of its record; the messages have
-/// the numbers from `first` on. It takes no memory.
-pub(crate) fn feed(
-    passes: &Passes<Step>,
-    right: Right<Step>,
-    log: &mut HistoryStore,
-    pass: &mut Pass<Step>,
-    turn: Turn,
-    first: u32,
-) -> Right<Step>
-    requires table { (pass_table pass.old ≡ table_of passes.now) × (right_table right ≡ table_of passes.now) }
-    requires room { CanFeed log.old (length (posted_as turn.append first turn)) }
-    requires few { first + length (sends_as turn.append turn) < 2 ^ 32 }
-    ensures fed { Fed pass.old right pass.new result (posted_as turn.append first turn) }
-    ensures log { HasGrown log.old log.new (by (number pass.old) (posted_as turn.append first turn)) }
-{
-    match turn.append {
-        Appended::Done => feed_done(passes, right, log, pass, turn, first),
-        Appended::Failed => feed_failed(passes, right, log, pass, turn, first),
-        Appended::Stopped => feed_stopped(passes, right, log, pass, turn),
-    }
+/// Adds steps of the pass's actor to the history, in order, by the right that each
+/// call takes and gives back. It takes no memory.
+#[derive(Drop)]
+pub(crate) struct HistoryWriter<'a> {
+    pub(crate) passes: &'a Passes<Step>,
+    pub(crate) log: &'a mut HistoryStore,
+    pub(crate) pass: &'a mut Pass<Step>,
 }
 
-/// The steps of a turn whose record is written, or that has none.
-fn feed_done(
-    passes: &Passes<Step>,
-    right: Right<Step>,
-    log: &mut HistoryStore,
-    pass: &mut Pass<Step>,
-    turn: Turn,
-    first: u32,
-) -> Right<Step>
-    requires table { (pass_table pass.old ≡ table_of passes.now) × (right_table right ≡ table_of passes.now) }
-    requires room { CanFeed log.old (length (posted_as Done first turn)) }
-    requires few { first + length turn.sends < 2 ^ 32 }
-    ensures fed { Fed pass.old right pass.new result (posted_as Done first turn) }
-    ensures log { HasGrown log.old log.new (by (number pass.old) (posted_as Done first turn)) }
-{
-    let Turn {
-        write,
-        sends,
-        told,
-        ..
-    } = turn;
-    let right = feed_wrote(passes, right, log, pass, write);
-    let right = feed_sents(passes, right, log, pass, sends.into_vec(), first);
-    feed_told(passes, right, log, pass, told)
-}
-
-/// The steps of a turn whose record couldn't be written, since the disk failed:
-/// the actor falls behind what it then sends and tells.
-fn feed_failed(
-    passes: &Passes<Step>,
-    right: Right<Step>,
-    log: &mut HistoryStore,
-    pass: &mut Pass<Step>,
-    turn: Turn,
-    first: u32,
-) -> Right<Step>
-    requires table { (pass_table pass.old ≡ table_of passes.now) × (right_table right ≡ table_of passes.now) }
-    requires room { CanFeed log.old (length (posted_as Failed first turn)) }
-    requires few { first + length turn.failed_sends < 2 ^ 32 }
-    ensures fed { Fed pass.old right pass.new result (posted_as Failed first turn) }
-    ensures log { HasGrown log.old log.new (by (number pass.old) (posted_as Failed first turn)) }
-{
-    let Turn {
-        write,
-        failed_sends,
-        failed_told,
-        ..
-    } = turn;
-    let right = feed_sents(passes, right, log, pass, failed_sends.into_vec(), first);
-    let right = feed_told(passes, right, log, pass, failed_told);
-    feed_fell(passes, right, log, pass, Fall::Disk, write)
-}
-
-/// The steps of a turn in whose writing the disk stopped.
-fn feed_stopped(
-    passes: &Passes<Step>,
-    right: Right<Step>,
-    log: &mut HistoryStore,
-    pass: &mut Pass<Step>,
-    turn: Turn,
-) -> Right<Step>
-    requires table { (pass_table pass.old ≡ table_of passes.now) × (right_table right ≡ table_of passes.now) }
-    requires room { CanFeed log.old (length (posted_as Stopped 0 turn)) }
-    ensures fed { Fed pass.old right pass.new result (posted_as Stopped 0 turn) }
-    ensures log { HasGrown log.old log.new (by (number pass.old) (posted_as Stopped 0 turn)) }
-{
-    let Turn {
-        write,
-        failed_told,
-        ..
-    } = turn;
-    let right = feed_told(passes, right, log, pass, failed_told);
-    feed_fell(passes, right, log, pass, Fall::Stop, write)
-}
-
-/// The steps of an actor's restart, by what it found. It takes no memory.
-pub(crate) fn feed_rising(
-    passes: &Passes<Step>,
-    right: Right<Step>,
-    log: &mut HistoryStore,
-    pass: &mut Pass<Step>,
-    rising: Rising,
-    first: u32,
-) -> Right<Step>
-    requires table { (pass_table pass.old ≡ table_of passes.now) × (right_table right ≡ table_of passes.now) }
-    requires room { CanFeed log.old (length (steps_of_rising first rising)) }
-    requires few { first + length (sends_of_rising rising) < 2 ^ 32 }
-    ensures fed { Fed pass.old right pass.new result (steps_of_rising first rising) }
-    ensures log { HasGrown log.old log.new (by (number pass.old) (steps_of_rising first rising)) }
-{
-    match rising {
-        Rising::Rose { records, turn } => {
-            let right = add(passes, right, log, pass, Step::Rose(records));
-            feed(passes, right, log, pass, turn, first)
+impl<'a> HistoryWriter<'a> {
+    /// The steps of a turn's post, by what became of its record; the messages have
+    /// the numbers from `first` on.
+    pub(crate) fn post(&mut self, right: Right<Step>, turn: Turn, first: u32) -> Right<Step>
+        requires room { CanWrite self.old right (length (posted_as turn.append first turn)) }
+        requires few { first + length (sends_as turn.append turn) < 2 ^ 32 }
+        ensures { HasWritten self.old right self.new result (posted_as turn.append first turn) }
+    {
+        match turn.append {
+            Appended::Done => self.post_done(right, turn, first),
+            Appended::Failed => self.post_failed(right, turn, first),
+            Appended::Stopped => self.post_stopped(right, turn),
         }
-        Rising::Damaged { offset } => add(passes, right, log, pass, Step::Damaged(offset)),
-        Rising::NotOpened { cause } => feed_fell(passes, right, log, pass, cause, None),
     }
-}
 
-/// The step of a fall, with the record that was being written, if one was.
-fn feed_fell(
-    passes: &Passes<Step>,
-    right: Right<Step>,
-    log: &mut HistoryStore,
-    pass: &mut Pass<Step>,
-    cause: Fall,
-    pending: Option<Record>,
-) -> Right<Step>
-    requires table { (pass_table pass.old ≡ table_of passes.now) × (right_table right ≡ table_of passes.now) }
-    requires room { CanFeed log.old 1 }
-    ensures fed { Fed pass.old right pass.new result (fell cause pending) }
-    ensures log { HasGrown log.old log.new (by (number pass.old) (fell cause pending)) }
-{
-    add(passes, right, log, pass, Step::Fell { cause, pending })
-}
-
-/// The step of a turn's record.
-fn feed_wrote(
-    passes: &Passes<Step>,
-    right: Right<Step>,
-    log: &mut HistoryStore,
-    pass: &mut Pass<Step>,
-    write: Option<Record>,
-) -> Right<Step>
-    requires table { (pass_table pass.old ≡ table_of passes.now) × (right_table right ≡ table_of passes.now) }
-    requires room { CanFeed log.old (length (wrote write)) }
-    ensures fed { Fed pass.old right pass.new result (wrote write) }
-    ensures log { HasGrown log.old log.new (by (number pass.old) (wrote write)) }
-{
-    match write {
-        Some(record) => add(passes, right, log, pass, Step::Wrote(record)),
-        None => right,
+    /// The steps of an actor's restart, by what it found.
+    pub(crate) fn rise(&mut self, right: Right<Step>, rising: Rising, first: u32) -> Right<Step>
+        requires room { CanWrite self.old right (length (steps_of_rising first rising)) }
+        requires few { first + length (sends_of_rising rising) < 2 ^ 32 }
+        ensures { HasWritten self.old right self.new result (steps_of_rising first rising) }
+    {
+        match rising {
+            Rising::Rose { records, turn } => {
+                let right = self.add(right, Step::Rose(records));
+                self.post(right, turn, first)
+            }
+            Rising::Damaged { offset } => self.add(right, Step::Damaged(offset)),
+            Rising::NotOpened { cause } => self.fell(right, cause, None),
+        }
     }
-}
 
-/// The step of a turn's reply.
-fn feed_told(
-    passes: &Passes<Step>,
-    right: Right<Step>,
-    log: &mut HistoryStore,
-    pass: &mut Pass<Step>,
-    reply: Option<Reply>,
-) -> Right<Step>
-    requires table { (pass_table pass.old ≡ table_of passes.now) × (right_table right ≡ table_of passes.now) }
-    requires room { CanFeed log.old (length (told reply)) }
-    ensures fed { Fed pass.old right pass.new result (told reply) }
-    ensures log { HasGrown log.old log.new (by (number pass.old) (told reply)) }
-{
-    match reply {
-        Some(reply) => add(passes, right, log, pass, Step::Told(reply)),
-        None => right,
+    /// The steps of a turn whose record is written, or that has none.
+    fn post_done(&mut self, right: Right<Step>, turn: Turn, first: u32) -> Right<Step>
+        requires room { CanWrite self.old right (length (posted_as Done first turn)) }
+        requires few { first + length turn.sends < 2 ^ 32 }
+        ensures { HasWritten self.old right self.new result (posted_as Done first turn) }
+    {
+        let Turn {
+            write,
+            sends,
+            told,
+            ..
+        } = turn;
+        let right = self.wrote(right, write);
+        let right = self.sents(right, sends.into_vec(), first);
+        self.told(right, told)
     }
-}
 
-/// The steps of a turn's messages.
-fn feed_sents(
-    passes: &Passes<Step>,
-    right: Right<Step>,
-    log: &mut HistoryStore,
-    pass: &mut Pass<Step>,
-    postings: Vec<Posting>,
-    first: u32,
-) -> Right<Step>
-    requires table { (pass_table pass.old ≡ table_of passes.now) × (right_table right ≡ table_of passes.now) }
-    requires room { CanFeed log.old (length postings.items) }
-    requires few { first + length postings.items < 2 ^ 32 }
-    ensures fed { Fed pass.old right pass.new result (sents first postings.items) }
-    ensures log { HasGrown log.old log.new (by (number pass.old) (sents first postings.items)) }
-{
-    let mut right = right;
-    let mut number = first;
-    for Posting { to, message } in postings {
-        let step = Step::Sent {
-            number,
-            to,
-            message,
-        };
-        right = add(passes, right, log, pass, step);
-        number += 1;
+    /// The steps of a turn whose record couldn't be written, since the disk failed:
+    /// the actor falls behind what it then sends and tells.
+    fn post_failed(&mut self, right: Right<Step>, turn: Turn, first: u32) -> Right<Step>
+        requires room { CanWrite self.old right (length (posted_as Failed first turn)) }
+        requires few { first + length turn.failed_sends < 2 ^ 32 }
+        ensures { HasWritten self.old right self.new result (posted_as Failed first turn) }
+    {
+        let Turn {
+            write,
+            failed_sends,
+            failed_told,
+            ..
+        } = turn;
+        let right = self.sents(right, failed_sends.into_vec(), first);
+        let right = self.told(right, failed_told);
+        self.fell(right, Fall::Disk, write)
     }
-    right
+
+    /// The steps of a turn in whose writing the disk stopped.
+    fn post_stopped(&mut self, right: Right<Step>, turn: Turn) -> Right<Step>
+        requires { CanWrite self.old right (length (posted_as Stopped 0 turn)) }
+        ensures { HasWritten self.old right self.new result (posted_as Stopped 0 turn) }
+    {
+        let Turn {
+            write,
+            failed_told,
+            ..
+        } = turn;
+        let right = self.told(right, failed_told);
+        self.fell(right, Fall::Stop, write)
+    }
+
+    /// One step.
+    fn add(&mut self, right: Right<Step>, step: Step) -> Right<Step>
+        requires { CanWrite self.old right 1 }
+        ensures { HasWritten self.old right self.new result (step ∷ []) }
+    {
+        add(self.passes, right, self.log, self.pass, step)
+    }
+
+    /// The step of a fall, with the record that was being written, if one was.
+    fn fell(&mut self, right: Right<Step>, cause: Fall, pending: Option<Record>) -> Right<Step>
+        requires { CanWrite self.old right 1 }
+        ensures { HasWritten self.old right self.new result (fell cause pending) }
+    {
+        self.add(right, Step::Fell { cause, pending })
+    }
+
+    /// The step of a turn's record.
+    fn wrote(&mut self, right: Right<Step>, write: Option<Record>) -> Right<Step>
+        requires { CanWrite self.old right (length (wrote write)) }
+        ensures { HasWritten self.old right self.new result (wrote write) }
+    {
+        match write {
+            Some(record) => self.add(right, Step::Wrote(record)),
+            None => right,
+        }
+    }
+
+    /// The step of a turn's reply.
+    fn told(&mut self, right: Right<Step>, reply: Option<Reply>) -> Right<Step>
+        requires { CanWrite self.old right (length (told reply)) }
+        ensures { HasWritten self.old right self.new result (told reply) }
+    {
+        match reply {
+            Some(reply) => self.add(right, Step::Told(reply)),
+            None => right,
+        }
+    }
+
+    /// The steps of a turn's messages.
+    fn sents(&mut self, right: Right<Step>, postings: Vec<Posting>, first: u32) -> Right<Step>
+        requires room { CanWrite self.old right (length postings.items) }
+        requires few { first + length postings.items < 2 ^ 32 }
+        ensures { HasWritten self.old right self.new result (sents first postings.items) }
+    {
+        let mut right = right;
+        let mut number = first;
+        for Posting { to, message } in postings {
+            let step = Step::Sent {
+                number,
+                to,
+                message,
+            };
+            right = self.add(right, step);
+            number += 1;
+        }
+        right
+    }
 }

@@ -13,7 +13,7 @@ ghost use Rattle.qc_fabric.specs.Risings.{size_of_rising};
 ghost use Rattle.qc_fabric.specs.Tells.{GoesToActors};
 
 use crate::conduct::{Conduct, RunName};
-use crate::feed::feed_rising;
+use crate::feed::HistoryWriter;
 use crate::rising::Rising;
 use crate::room::{more, size_of_rising};
 use crate::state::FabricState;
@@ -69,7 +69,12 @@ impl<C: Conduct, N: RunName> FabricState<C, N> {
         };
         let right = self.passes.look(pass, right, kept);
         post_rising(&mut self.mailboxes, actor, &rising);
-        let right = feed_rising(&self.passes, right, &mut self.log, pass, rising, first);
+        let mut writer = HistoryWriter {
+            passes: &self.passes,
+            log: &mut self.log,
+            pass,
+        };
+        let right = writer.rise(right, rising, first);
         let right = self.passes.look(pass, right, kept);
         self.spare = 0;
         self.right = Some(right);

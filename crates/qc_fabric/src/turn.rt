@@ -9,7 +9,7 @@ ghost use Rattle.qc_fabric.specs.Tells.{GoesToActors, HasNext, HasNone, Posts, S
 
 use crate::bits::set;
 use crate::conduct::{Conduct, RunName};
-use crate::feed::{add, feed};
+use crate::feed::{HistoryWriter, add};
 use crate::given::{given_of, input_for, step_of};
 use crate::room::{more, size_of};
 use crate::state::FabricState;
@@ -131,7 +131,12 @@ impl<C: Conduct, N: RunName> FabricState<C, N> {
         };
         let right = self.passes.look(pass, right, size);
         self.mailboxes.post_as(actor, &turn);
-        let right = feed(&self.passes, right, &mut self.log, pass, turn, first);
+        let mut writer = HistoryWriter {
+            passes: &self.passes,
+            log: &mut self.log,
+            pass,
+        };
+        let right = writer.post(right, turn, first);
         let right = self.passes.look(pass, right, 0);
         set(&mut self.inputs, actor, false);
         set(&mut self.held, actor, false);

@@ -1,9 +1,10 @@
-use Rattle.std.proofs.Common.{◌≡◌, ◌∙◌, [], arith, ap, sym, subst}
+use Rattle.std.proofs.Common.{rules, ◌≡◌, ◌∙◌, [], arith, ap, sym, subst}
 use Rattle.qc_msg.specs.declared.step.Control.TheVariants.{Restart}
 use Rattle.qc_msg.specs.Vocabulary.{by}
 use Rattle.qc_msg.proofs.GrownMail.{length-mail}
 use Rattle.qc_pass.specs.Vocabulary.{Met, number, room, seen}
 use Rattle.qc_fabric.specs.Vocabulary.{HasGrown, MayDo, Shown, after_rising, size_of_rising, steps_of_rising}
+use Rattle.qc_fabric.proofs.Fed.{met_as}
 use Rattle.qc_fabric.proofs.Risen.{length-rising, risen_told, rises_on, rises_to, rising_sends_few}
 use Rattle.qc_fabric.proofs.state.FabricState.rise.Goals as goal
 
@@ -32,18 +33,20 @@ post_rising-requires-clause-room g c =
     ∙ c.requires.room in
     omega (arith, size, c.self.invariant.mail_room, rising_sends_few 0 c.args.rising, length-rising 0 c.args.rising)
 
-pub feed_rising-right-requires-clause-room : goal.feed_rising-right-requires-clause-room
-feed_rising-right-requires-clause-room g c =
+pub rise-right-requires-clause-room : goal.rise-right-requires-clause-room
+rise-right-requires-clause-room g c =
     let size : c.self.inside.spare ≡ size_of_rising c.args.rising = ap (λ (v : Shown). v.spare) c.self.view_is
     ∙ c.requires.room in
     let long = length-rising c.sent-first.result c.args.rising in
     record {
+      pass_table_is = search rules;
+      right_table_is = search rules;
       room = omega (arith, size, c.self.invariant.log_room, long);
       bound = omega (arith, size, c.self.invariant.bound, long);
     }
 
-pub feed_rising-right-requires-clause-few : goal.feed_rising-right-requires-clause-few
-feed_rising-right-requires-clause-few g c =
+pub rise-right-requires-clause-few : goal.rise-right-requires-clause-few
+rise-right-requires-clause-few g c =
     let size : c.self.inside.spare ≡ size_of_rising c.args.rising = ap (λ (v : Shown). v.spare) c.self.view_is
     ∙ c.requires.room in
     omega (
@@ -70,21 +73,20 @@ invariant_of-self g c =
     let m1 : Met p c.in-Some.right c.look-right.new.pass c.look-right.result [] (room p) =
     subst (λ n. Met p c.in-Some.right c.look-right.new.pass c.look-right.result [] n) c.room-kept.ensures
     c.look-right.ensures.met in
-    let m2 : Met c.feed_rising-right.new.pass c.feed_rising-right.result c.look-right-2.new.pass c.look-right-2.result
+    let m2 : Met c.rise-right.new.self.pass.now c.rise-right.result c.look-right-2.new.pass c.look-right-2.result
     [] (room p) =
-    subst (λ n. Met c.feed_rising-right.new.pass c.feed_rising-right.result c.look-right-2.new.pass
-    c.look-right-2.result [] n) c.room-kept.ensures c.look-right-2.ensures.met in
-    let grown : HasGrown c.self.inside.log c.feed_rising-right.new.log (by (number p) (steps_of_rising first rising)) =
-    subst (λ n. HasGrown c.self.inside.log c.feed_rising-right.new.log (by n (steps_of_rising first rising)))
-    m1.same_number c.feed_rising-right.ensures.log in
+    met_as c.look-right-2.ensures.met (search rules) c.room-kept.ensures in
+    let grown : HasGrown c.self.inside.log c.rise-right.new.self.log.now (by (number p) (steps_of_rising first rising)) =
+    subst (λ n. HasGrown c.self.inside.log c.rise-right.new.self.log.now (by n (steps_of_rising first rising)))
+    m1.same_number c.rise-right.ensures.log in
     let boxes : c.post_rising.new.mailboxes.inboxes ≡ after_rising c.self.inside.mailboxes.inboxes (number p) rising =
     c.post_rising.ensures.inboxes ∙ ap (λ a. after_rising c.self.inside.mailboxes.inboxes a rising)
     c.number-actor.ensures in
     rises_on c.self.invariant c.in-Some.right
     (sym c.take.ensures.value ∙ c.in-Some.is) p _ _ _ _ _ _ rising first m1 c.look-right.ensures.all
-    c.feed_rising-right.ensures.fed m2 c.look-right-2.ensures.all
+    c.rise-right.ensures.fed m2 c.look-right-2.ensures.all
     (c.sent-first.ensures ∙ c.self.invariant.kept.sent) c.requires.actor may c.requires.lawful
-    c.feed_rising-right.new.log c.post_rising.new.mailboxes grown size c.post_rising.ensures.room boxes
+    c.rise-right.new.self.log.now c.post_rising.new.mailboxes grown size c.post_rising.ensures.room boxes
 
 pub returns-clause-told : goal.returns-clause-told
 returns-clause-told g c =
@@ -95,11 +97,10 @@ returns-clause-told g c =
     let m1 : Met p c.in-Some.right c.look-right.new.pass c.look-right.result [] (room p) =
     subst (λ n. Met p c.in-Some.right c.look-right.new.pass c.look-right.result [] n) c.room-kept.ensures
     c.look-right.ensures.met in
-    let m2 : Met c.feed_rising-right.new.pass c.feed_rising-right.result c.look-right-2.new.pass c.look-right-2.result
+    let m2 : Met c.rise-right.new.self.pass.now c.rise-right.result c.look-right-2.new.pass c.look-right-2.result
     [] (room p) =
-    subst (λ n. Met c.feed_rising-right.new.pass c.feed_rising-right.result c.look-right-2.new.pass
-    c.look-right-2.result [] n) c.room-kept.ensures c.look-right-2.ensures.met in
+    met_as c.look-right-2.ensures.met (search rules) c.room-kept.ensures in
     risen_told c.self.invariant c.in-Some.right
     (sym c.take.ensures.value ∙ c.in-Some.is) p _ _ _ _ _ _ c.args.rising c.sent-first.result m1
-    c.look-right.ensures.all c.feed_rising-right.ensures.fed m2 c.look-right-2.ensures.all
+    c.look-right.ensures.all c.rise-right.ensures.fed m2 c.look-right-2.ensures.all
     (c.sent-first.ensures ∙ c.self.invariant.kept.sent) c.requires.actor may c.requires.lawful
