@@ -6,6 +6,7 @@ use Rattle.std.specs.Cmp.{IsTotalOrder}
 use Rattle.std.specs.List.{AllByRecursion}
 use Rattle.std.specs.List.Sorted.{IsStrictlySortedBy}
 use Rattle.std.specs.Map.{keys_of, lookup, values_of}
+use Rattle.std.specs.Prelude.{is_some}
 use Rattle.std.specs.Ordering.{is_eq, match_ordering, nat_cmp, ordering_reverse}
 use Rattle.std.specs.declared.cmp.Ordering.{Ordering}
 use Rattle.std.specs.declared.cmp.Ordering.TheVariants.{Less, Equal, Greater}
@@ -128,6 +129,17 @@ number_none tx_of (e ∷ es) tx is = by (same_tx (tx_of e.1) tx) (number_none tx
       → cond t (Some e.1) (one_of tx_of (values_of es) tx) ≡ None → cond t (Some e.0) (number_of tx_of es tx) ≡ None
   by true rest is = absurd (none_some e.1 (sym is))
   by false rest is = rest is
+
+-- a transaction with a number has an entry
+pub has_number : {A : Type 0} (tx_of : A → TxId) (es : List (ℕ × A)) (tx : TxId)
+    → is_some (number_of tx_of es tx) ≡ is_some (one_of tx_of (values_of es) tx)
+has_number tx_of [] tx = refl
+has_number tx_of (e ∷ es) tx = by (same_tx (tx_of e.1) tx) (has_number tx_of es tx) where
+  by : (t : Bool) → is_some (number_of tx_of es tx) ≡ is_some (one_of tx_of (values_of es) tx)
+      → is_some (cond t (Some e.0) (number_of tx_of es tx))
+      ≡ is_some (cond t (Some e.1) (one_of tx_of (values_of es) tx))
+  by true rest = refl
+  by false rest = rest
 
 -- an entry is put under its transaction's number
 

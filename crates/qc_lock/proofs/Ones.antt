@@ -3,7 +3,7 @@ use Rattle.std.proofs.Common.{◌≡◌, ◌++◌, Bool, true, false, cond, not,
 use Rattle.std.proofs.Common.{subst}
 use Rattle.qc_stamp.specs.declared.stamp.TxId.{TxId}
 use Rattle.qc_lock.specs.declared.held.Held.{Held}
-use Rattle.qc_lock.specs.Vocabulary.{AreOfOthers, IsOneForEach, one_of, put_one, with_entry, without_one}
+use Rattle.qc_lock.specs.Vocabulary.{AreOfOthers, IsOneForEach, one_of, put_one, without_one}
 use Rattle.qc_lock.specs.Numbered.{same_tx}
 use Rattle.qc_lock.proofs.Entries.{apart_sym, same_self, tx_apart}
 
@@ -48,10 +48,6 @@ once-filter tx_of test (x ∷ xs) once = by (test x) (once-filter tx_of test xs 
 
 abbrev pub holder : Held → TxId
 holder h = h.tx
-
-pub put_entry : (held : List Held) (e : Held) → put_one holder held e ≡ with_entry held e
-put_entry [] e = refl
-put_entry (h ∷ hs) e = ap (λ ks. cond (same_tx h.tx e.tx) (e ∷ hs) (h ∷ ks)) (put_entry hs e)
 
 -- the first of a transaction comes last, and as it is left out again the others are as they were
 

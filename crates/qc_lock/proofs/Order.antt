@@ -14,11 +14,11 @@ use Rattle.qc_entry.specs.declared.line.ReadLock.{ReadLock}
 use Rattle.qc_list.specs.Vocabulary.{Ascends, IsBelowAll, by_order, inserted}
 use Rattle.qc_list.proofs.Order.{ascends-inserted}
 use Rattle.qc_lock.specs.declared.held.Held.{Held}
-use Rattle.qc_lock.specs.Vocabulary.{AreSorted, IsSingle, IsSound, entry_of, has_lock, held_of, lock_cmp, own_cmp}
+use Rattle.qc_lock.specs.Vocabulary.{AreSorted, IsSound, entry_of, has_lock, held_of, lock_cmp, own_cmp}
 use Rattle.qc_lock.specs.Vocabulary.{same_lock, same_tx, with_entry, with_held, with_lock, with_locks, with_owns}
 use Rattle.qc_lock.specs.Vocabulary.{without_held}
 use Rattle.qc_lock.proofs.Entries.{and_first, and_second, tx_apart, full-put, full-filter}
-use Rattle.qc_lock.proofs.Ones.{holder, once-put, once-filter, put_entry}
+use Rattle.qc_lock.proofs.Ones.{holder, once-put, once-filter}
 
 lock_total : IsTotalOrder lock_cmp
 lock_total = then_total (on_total (λ (l : ReadLock). l.object) nat_cmp_total)
@@ -141,7 +141,7 @@ held_already held tx lock sorted member = put_again held tx lock sorted member
 pub sound-put : (held : List Held) (e : Held) → IsSound held → 0 < length e.locks + length e.own
     → Ascends lock_cmp e.locks → Ascends own_cmp e.own → IsSound (with_entry held e)
 sound-put held e sound some locks own = record {
-  single = subst IsSingle (put_entry held e) (once-put holder held e sound.single);
+  single = once-put holder held e sound.single;
   full = full-put held e sound.full some;
   sorted = sorted-put held e sound.sorted locks own;
 }

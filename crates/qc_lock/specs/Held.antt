@@ -1,7 +1,6 @@
 -- What unfinished transactions hold: an entry for each, in the order in which they came to hold something.
-use Rattle.std.specs.Prelude.{Bool, ◌==◌, ◌&&◌, not, if◌then◌else◌, Option, is_some, unwrap_or, List, [], ◌∷◌, length}
-use Rattle.std.specs.Prelude.{fold, filter}
-use Rattle.std.specs.List.{find, list_any}
+use Rattle.std.specs.Prelude.{Bool, ◌==◌, ◌&&◌, if◌then◌else◌, Option, is_some, unwrap_or, List, [], length, fold}
+use Rattle.std.specs.List.{list_any}
 use Rattle.std.specs.Ordering.{nat_cmp, on, then_cmp}
 use Rattle.std.specs.declared.cmp.Ordering.{Ordering}
 use Rattle.qc_stamp.specs.declared.stamp.TxId.{TxId}
@@ -9,6 +8,7 @@ use Rattle.qc_entry.specs.declared.line.OwnLine.{OwnLine}
 use Rattle.qc_entry.specs.declared.line.ReadLock.{ReadLock}
 pub use Rattle.qc_list.specs.Order.{inserted}
 pub use Rattle.qc_stamp.specs.Order.{same_tx}
+use Rattle.qc_lock.specs.Numbered.{one_of, put_one, without_one}
 use Rattle.qc_lock.specs.declared.held.Held.{Held}
 
 -- whether two locks are the same
@@ -39,7 +39,7 @@ with_owns own others = fold with_own own others
 
 -- the entry of a transaction, if it holds something
 abbrev pub entry_of : List Held → TxId → Option Held
-entry_of held tx = find (λ h. same_tx h.tx tx) held
+entry_of held tx = one_of (λ h. h.tx) held tx
 
 -- whether a transaction holds something
 abbrev pub is_held : List Held → TxId → Bool
@@ -55,8 +55,7 @@ has_lock held tx lock = list_any (λ l. same_lock l lock) (held_of held tx).lock
 
 -- the entry takes the place of its transaction's, or comes last where there is none
 abbrev pub with_entry : List Held → Held → List Held
-with_entry [] entry = entry ∷ []
-with_entry (h ∷ hs) entry = if same_tx h.tx entry.tx then entry ∷ hs else (h ∷ with_entry hs entry)
+with_entry held entry = put_one (λ h. h.tx) held entry
 
 -- the transaction holds these locks and own lines too, if there are any
 abbrev pub with_held : List Held → TxId → List ReadLock → List OwnLine → List Held
@@ -68,4 +67,4 @@ with_held held tx locks own =
 
 -- the transaction holds nothing
 abbrev pub without_held : List Held → TxId → List Held
-without_held held tx = filter (λ h. not (same_tx h.tx tx)) held
+without_held held tx = without_one (λ h. h.tx) held tx

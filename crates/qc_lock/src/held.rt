@@ -2,8 +2,10 @@
 
 ghost use Rattle.std.specs.Prelude.{◌≡◌};
 ghost use Rattle.qc_entry.specs.declared.line.OwnLine.{OwnLine};
+ghost use Rattle.qc_lock.specs.Held.{held_of};
 ghost use Rattle.qc_lock.specs.Places.{has_line, has_read};
 
+use crate::numbered::{Numbered, OfTransaction};
 use qc_entry::{OwnLine, Owns, ReadLock, Reads};
 use qc_stamp::TxId;
 
@@ -16,6 +18,40 @@ pub struct Held {
     pub locks: Reads,
     /// Its own lines, ascending by operation, one for each.
     pub own: Owns,
+}
+
+impl OfTransaction for Held {
+    ghost tx_of = { λ h. h.tx };
+
+    fn tx(&self) -> TxId {
+        self.tx
+    }
+}
+
+/// The entries of those that hold something, seen as the list of them in their
+/// order.
+pub(crate) type Entries = Numbered<Held>;
+
+impl Numbered<Held> {
+    /// A transaction's read locks.
+    pub(crate) fn locks_of(&self, tx: TxId) -> &[ReadLock]
+        ensures { result.now ≡ (held_of self.now tx).locks }
+    {
+        match self.of(tx) {
+            Some(entry) => entry.locks.items(),
+            None => &[],
+        }
+    }
+
+    /// A transaction's own lines.
+    pub(crate) fn own_of(&self, tx: TxId) -> &[OwnLine]
+        ensures { result.now ≡ (held_of self.now tx).own }
+    {
+        match self.of(tx) {
+            Some(entry) => entry.own.items(),
+            None => &[],
+        }
+    }
 }
 
 /// Whether one of the locks is of this lock's object and invocation.

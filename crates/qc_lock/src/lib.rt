@@ -35,3 +35,4 @@ pub use laws::{
     transactions_hold_what_is_given,
 };
 pub use locks::{Locks, locks_are_sound};
+pub use numbered::{Numbered, OfTransaction};

@@ -11,8 +11,7 @@ ghost use Rattle.qc_lock.specs.Places.{has_line, has_read, lines_held, reads_hel
 ghost use Rattle.qc_lock.specs.Sound.{IsSound};
 
 use crate::clash::{self, Clash, LockFault};
-use crate::held::Held;
-use crate::numbered::Entries;
+use crate::held::{Entries, Held};
 use crate::places::Index;
 use crate::sorted::{with_locks, with_owns};
 use qc_entry::{OwnLine, Prepared, ReadLock};
@@ -59,7 +58,7 @@ impl Locks {
     pub fn holders(&self) -> usize
         ensures { result ≡ length self.now }
     {
-        self.entries.count()
+        self.entries.len()
     }
 
     /// A transaction's read locks, ascending by object and invocation.
@@ -136,7 +135,7 @@ impl Locks {
     pub fn drop_tx(&mut self, tx: TxId)
         ensures { self.new ≡ without_held self.old tx }
     {
-        if let Some(entry) = self.entries.take(tx) {
+        if let Some(entry) = self.entries.remove(tx) {
             let (locks, own) = (entry.locks.items(), entry.own.items());
             self.index.keep(&self.entries, tx, locks, own);
         }
@@ -205,5 +204,5 @@ impl Locks {
 pub fn locks_are_sound(locks: &Locks)
     ensures { IsSound locks.now }
 {
-    let _holders = locks.entries.count();
+    let _holders = locks.entries.len();
 }

@@ -10,8 +10,7 @@ ghost use Rattle.qc_stamp.specs.Order.{tx_cmp, same_tx};
 ghost use Rattle.qc_lock.specs.Places.{has_line, has_read, holder_at, lines_held, reads_held};
 ghost use Rattle.qc_lock.specs.Places.{IsFirst, IsIndex, Narrows, Sets, Widens};
 
-use crate::held::{Held, has_line, has_read};
-use crate::numbered::Entries;
+use crate::held::{Entries, Held, has_line, has_read};
 use qc_entry::{OwnLine, ReadLock};
 use qc_list::OutOfMemory;
 use qc_stamp::TxId;

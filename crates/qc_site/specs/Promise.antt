@@ -1,17 +1,15 @@
 -- What a site promises of a transaction that is to commit, and what it does as the verdict comes (presumed abort).
-use Rattle.std.specs.Prelude.{ℕ, nat_le, Bool, if◌then◌else◌, not, List, [], ◌∷◌, ◌++◌, fold, filter, Option, Some}
-use Rattle.std.specs.Prelude.{None, is_some}
-use Rattle.std.specs.List.{find}
+use Rattle.std.specs.Prelude.{ℕ, nat_le, Bool, if◌then◌else◌, not, List, [], ◌∷◌, ◌++◌, fold, Option, Some, None}
+use Rattle.std.specs.Prelude.{is_some}
 use Rattle.qc_stamp.specs.declared.stamp.Stamp.{Stamp}
 use Rattle.qc_stamp.specs.declared.stamp.TxId.{TxId}
-use Rattle.qc_stamp.specs.Vocabulary.{same_tx}
 use Rattle.qc_entry.specs.declared.line.Line.{Line}
 use Rattle.qc_entry.specs.declared.line.OwnLine.{OwnLine}
 use Rattle.qc_entry.specs.declared.record.Prepared.{Prepared}
 use Rattle.qc_entry.specs.Vocabulary.{union, without}
 use Rattle.qc_decl.specs.Vocabulary.{most_record_bytes}
 use Rattle.qc_lock.specs.declared.held.Held.{Held}
-use Rattle.qc_lock.specs.Vocabulary.{held_of, is_held, without_held}
+use Rattle.qc_lock.specs.Vocabulary.{held_of, is_held, one_of, without_held, without_one}
 use Rattle.qc_msg.specs.declared.message.Answer.TheVariants.{Stale, Yes}
 use Rattle.qc_msg.specs.declared.message.Outcome.{Outcome}
 use Rattle.qc_msg.specs.declared.message.Outcome.TheVariants.{Committed, Aborted, Active}
@@ -30,7 +28,7 @@ promise_of s tx =
     record { tx = tx; epoch = s.epoch; locks = entry.locks; own = entry.own; lines = without s.log s.recorded }
 
 abbrev pub prepared_of : List Prepared → TxId → Option Prepared
-prepared_of prepared tx = find (λ p. same_tx p.tx tx) prepared
+prepared_of prepared tx = one_of (λ p. p.tx) prepared tx
 
 abbrev pub is_prepared : List Prepared → TxId → Bool
 is_prepared prepared tx = is_some (prepared_of prepared tx)
@@ -63,7 +61,7 @@ prepares s from number tx =
 -- the transaction is finished here: it holds nothing, and nothing is promised of it
 
 abbrev pub without_prepared : List Prepared → TxId → List Prepared
-without_prepared prepared tx = filter (λ p. not (same_tx p.tx tx)) prepared
+without_prepared prepared tx = without_one (λ p. p.tx) prepared tx
 
 abbrev pub dropped : SiteState → TxId → SiteState
 dropped s tx =

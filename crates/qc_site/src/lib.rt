@@ -25,7 +25,6 @@ mod grants;
 mod known;
 mod laws;
 mod promise;
-mod promises;
 mod readers;
 mod requests;
 mod site;
@@ -40,5 +39,4 @@ pub use laws::{
     other_inputs_do_nothing, promises_stand, refusals_change_nothing,
     requests_are_answered_by_rows, sites_stay_sorted, votes_are_backed, what_is_held_stays,
 };
-pub use promises::Promises;
-pub use site::{RisenState, Site};
+pub use site::{Promises, RisenState, Site};

@@ -9,15 +9,17 @@ ghost use Rattle.qc_site.specs.Site.{new_site};
 
 use crate::asker::{Asker, Requester};
 use crate::clock::clock_after;
-use crate::promises::Promises;
 use qc_decl::Declaration;
-use qc_entry::Log;
+use qc_entry::{Log, Prepared};
 use qc_list::OutOfMemory;
-use qc_lock::Locks;
+use qc_lock::{Locks, Numbered};
 use qc_msg::{FIRST_EPOCH, Message, Turn};
 use qc_stamp::{Clock, FIRST_LIFE};
 use std::alloc::Global;
 use std::marker::Model;
+
+/// Promises, at most one of a transaction, in the order in which they were made.
+pub type Promises = Numbered<Prepared>;
 
 /// What a site's records give as it rises.
 #[derive(Drop)]
