@@ -1,5 +1,5 @@
 -- The promised transactions, and the promises, in their order.
-use Rattle.std.proofs.Common.{◌≡◌, ◌⊎◌, ◌↔◌, ℕ, inl, inr, Bool, true, false, cond, Option, Some, List, [], ◌∷◌, fold}
+use Rattle.std.proofs.Common.{◌≡◌, ◌⊎◌, ◌↔◌, inl, inr, Bool, true, false, cond, Option, Some, List, [], ◌∷◌, fold}
 use Rattle.std.proofs.Common.{map, refl, sym, ◌∙◌, ap, subst}
 use Rattle.std.specs.List.{AllByRecursion as Every, filter_map}
 use Rattle.std.specs.List.Sorted.{IsStrictlySortedBy}
