@@ -13,7 +13,7 @@ ghost use Rattle.qc_lock.specs.Sound.{IsSound};
 use crate::clash::{self, Clash, LockFault};
 use crate::held::{Entries, Held};
 use crate::places::Index;
-use crate::sorted::{with_locks, with_owns};
+use crate::sorted::with_all;
 use qc_entry::{OwnLine, Prepared, ReadLock};
 use qc_list::OutOfMemory;
 use qc_stamp::TxId;
@@ -150,8 +150,8 @@ impl Locks {
         if locks.is_empty() && own.is_empty() {
             return Ok(());
         }
-        let all = with_locks(self.alloc, self.locks_of(tx), locks)?;
-        let lines = with_owns(self.alloc, self.own_of(tx), own)?;
+        let all = with_all(self.alloc, self.locks_of(tx), locks)?;
+        let lines = with_all(self.alloc, self.own_of(tx), own)?;
         let entry = Held {
             tx,
             locks: all,

@@ -1,87 +1,73 @@
 //! Insertion into sorted lists, each linear in the list's length.
 
-ghost use Rattle.std.specs.Prelude.{◌≡◌, IfOk};
-ghost use Rattle.qc_lock.specs.Held.{lock_cmp, with_lock, with_locks, with_own, with_owns};
+ghost use Rattle.std.specs.Prelude.{◌≡◌, IfOk, fold};
+ghost use Rattle.std.specs.declared.cmp.Ordering.{Ordering};
+ghost use Rattle.qc_list.specs.Order.{inserted};
+ghost use Rattle.qc_lock.specs.Held.{lock_cmp, own_cmp};
 
-use qc_entry::{OwnLine, Owns, ReadLock, Reads};
+use qc_entry::{OwnLine, ReadLock};
 use qc_list::{List, OutOfMemory};
 use std::alloc::Global;
 use std::cmp::Ordering;
 
-/// The order of two locks: by object, then invocation.
-fn compare(a: &ReadLock, b: &ReadLock) -> Ordering
-    ensures { result ≡ lock_cmp a.now b.now }
-{
-    a.object.cmp(&b.object).then(a.inv.cmp(&b.inv))
+/// What stands in the order of its keys, one for each.
+pub(crate) trait ByKey: Copy {
+    ghost key_cmp: { Self → Self → Ordering };
+
+    /// The order of the keys of two.
+    fn compare(&self, other: &Self) -> Ordering
+        ensures { result ≡ key_cmp self.now other.now };
 }
 
-/// Ascending locks with one lock more, unless it is there.
-fn with_lock(
-    alloc: Global,
-    locks: &[ReadLock],
-    lock: ReadLock,
-) -> Result<Vec<ReadLock>, OutOfMemory>
-    ensures { IfOk result (λ v. v.items ≡ with_lock locks.now lock) }
+impl ByKey for ReadLock {
+    ghost key_cmp = { lock_cmp };
+
+    /// By object, then invocation.
+    fn compare(&self, other: &ReadLock) -> Ordering {
+        self.object
+            .cmp(&other.object)
+            .then(self.inv.cmp(&other.inv))
+    }
+}
+
+impl ByKey for OwnLine {
+    ghost key_cmp = { own_cmp };
+
+    /// By operation.
+    fn compare(&self, other: &OwnLine) -> Ordering {
+        self.op.cmp(&other.op)
+    }
+}
+
+/// Ascending items with one more, in the place of that of its key.
+fn with_one<T: ByKey>(alloc: Global, items: &[T], item: T) -> Result<Vec<T>, OutOfMemory>
+    ensures { IfOk result (λ v. v.items ≡ inserted T.key_cmp items.now item) }
 {
     let mut all = Vec::new(alloc);
     let mut i = 0;
-    'locks: while i < locks.len() && compare(&lock, &locks[i]).is_gt() {
-        all.push(locks[i])?;
+    'items: while i < items.len() && item.compare(&items[i]).is_gt() {
+        all.push(items[i])?;
         i += 1;
     }
-    all.push(lock)?;
-    if i < locks.len() && compare(&lock, &locks[i]).is_eq() {
+    all.push(item)?;
+    if i < items.len() && item.compare(&items[i]).is_eq() {
         i += 1;
     }
-    all.extend_from_slice(&locks[i..])?;
+    all.extend_from_slice(&items[i..])?;
     Ok(all)
 }
 
-/// Own lines, ascending by operation, with one more instead of that of the
-/// same operation.
-fn with_own(alloc: Global, own: &[OwnLine], line: OwnLine) -> Result<Vec<OwnLine>, OutOfMemory>
-    ensures { IfOk result (λ v. v.items ≡ with_own own.now line) }
-{
-    let mut all = Vec::new(alloc);
-    let mut i = 0;
-    'own: while i < own.len() && own[i].op < line.op {
-        all.push(own[i])?;
-        i += 1;
-    }
-    all.push(line)?;
-    if i < own.len() && own[i].op == line.op {
-        i += 1;
-    }
-    all.extend_from_slice(&own[i..])?;
-    Ok(all)
-}
-
-/// Ascending locks with others, one after another.
-pub(crate) fn with_locks(
+/// Ascending items with others, one after another.
+pub(crate) fn with_all<T: ByKey>(
     alloc: Global,
-    locks: &[ReadLock],
-    others: &[ReadLock],
-) -> Result<Reads, OutOfMemory>
-    ensures { IfOk result (λ l. l ≡ with_locks locks.now others.now) }
+    items: &[T],
+    others: &[T],
+) -> Result<List<T>, OutOfMemory>
+    ensures { IfOk result (λ l. l ≡ fold (inserted T.key_cmp) items.now others.now) }
 {
-    let mut all = Vec::from_slice(alloc, locks)?;
-    'others: for lock in others {
-        all = with_lock(alloc, all.as_slice(), *lock)?;
-    }
-    Ok(List::from_vec(all))
-}
-
-/// Own lines, ascending by operation, with others one after another.
-pub(crate) fn with_owns(
-    alloc: Global,
-    own: &[OwnLine],
-    others: &[OwnLine],
-) -> Result<Owns, OutOfMemory>
-    ensures { IfOk result (λ l. l ≡ with_owns own.now others.now) }
-{
-    let mut all = Vec::from_slice(alloc, own)?;
-    'others: for line in others {
-        all = with_own(alloc, all.as_slice(), *line)?;
+    let mut all = Vec::from_slice(alloc, items)?;
+    'others: for item in others {
+        all = with_one(alloc, all.as_slice(), *item)?;
     }
     Ok(List::from_vec(all))
 }

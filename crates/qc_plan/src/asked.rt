@@ -7,6 +7,7 @@ ghost use Rattle.qc_plan.specs.Round.{is_granted, is_asked, has_granted, all_not
 ghost use Rattle.qc_plan.specs.Round.{first_closed, first_clash, refusal};
 ghost use Rattle.qc_plan.specs.Weights.{weight};
 
+use crate::quorum::weight;
 use crate::standing::{Asked, Standing, Verdict};
 use qc_list::OutOfMemory;
 
@@ -93,13 +94,7 @@ pub(crate) fn granted_weight(weights: &[u8], asked: &[Asked]) -> u16
     requires { length weights.now ≤ 16 }
     ensures { result ≡ weight (has_granted asked.now) weights.now }
 {
-    let mut sum = 0;
-    'sites: for (site, weight) in weights.iter().enumerate() {
-        if has_granted(asked, site as u8) {
-            sum += *weight as u16;
-        }
-    }
-    sum
+    weight(weights, |site| has_granted(asked, site as u8))
 }
 
 /// The weight of the asked sites.
@@ -107,13 +102,7 @@ pub(crate) fn asked_weight(weights: &[u8], asked: &[Asked]) -> u16
     requires { length weights.now ≤ 16 }
     ensures { result ≡ weight (is_asked asked.now) weights.now }
 {
-    let mut sum = 0;
-    'sites: for (site, weight) in weights.iter().enumerate() {
-        if is_asked(asked, site as u8) {
-            sum += *weight as u16;
-        }
-    }
-    sum
+    weight(weights, |site| is_asked(asked, site as u8))
 }
 
 /// Whether a site granted.

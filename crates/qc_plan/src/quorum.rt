@@ -1,6 +1,6 @@
 //! Weights of site sets, and the thresholds that they reach.
 
-ghost use Rattle.std.specs.Prelude.{◌≡◌, ◌<◌, ◌≤◌, length, nat_le};
+ghost use Rattle.std.specs.Prelude.{◌≡◌, ◌<◌, ◌≤◌, ℕ, Bool, length, nat_le};
 ghost use Rattle.qc_plan.specs.Need.{need_of};
 ghost use Rattle.qc_plan.specs.Weights.{weight, total};
 ghost use Rattle.qc_table.specs.Sets.{has};
@@ -14,7 +14,7 @@ pub fn initial_met(plan: &Plan, object: u8, inv: u8, sites: u16) -> bool
     requires { length plan.now.weights ≤ most_sites }
     ensures { result ≡ nat_le (need_of plan.now.initial object inv) (weight (has sites) plan.now.weights) }
 {
-    plan.read_need(object, inv) <= weight(plan.weights.items(), sites)
+    plan.read_need(object, inv) <= weight(plan.weights.items(), |site| has(sites, site))
 }
 
 /// Whether the sites, bit k for site k, are a final quorum of an event of an
@@ -23,17 +23,20 @@ pub fn final_met(plan: &Plan, object: u8, event: u8, sites: u16) -> bool
     requires { length plan.now.weights ≤ most_sites }
     ensures { result ≡ nat_le (need_of plan.now.last object event) (weight (has sites) plan.now.weights) }
 {
-    plan.append_need(object, event) <= weight(plan.weights.items(), sites)
+    plan.append_need(object, event) <= weight(plan.weights.items(), |site| has(sites, site))
 }
 
-/// The weight of the sites of a set.
-fn weight(weights: &[u8], sites: u16) -> u16
-    requires { length weights.now ≤ most_sites }
-    ensures { result ≡ weight (has sites) weights.now }
+/// The weight of the sites that pass a test.
+pub(crate) fn weight<F: Fn(usize) -> bool>(weights: &[u8], test: F) -> u16
+    requires few { length weights.now ≤ most_sites }
+    requires test { (site : ℕ) → site < most_sites → F.pre test site }
+    ensures { (sites : ℕ → Bool)
+        → ((site : ℕ) → site < most_sites → (passes : Bool) → F.post test site passes → passes ≡ sites site)
+        → result ≡ weight sites weights.now }
 {
     let mut sum = 0;
-    for (site, weight) in weights.iter().enumerate() {
-        if has(sites, site) {
+    'sites: for (site, weight) in weights.iter().enumerate() {
+        if test(site) {
             sum += *weight as u16;
         }
     }

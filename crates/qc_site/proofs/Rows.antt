@@ -1,6 +1,6 @@
 -- Which row answers a request: epoch, then whether it is closed, then life, then what it wants.
 use Rattle.std.proofs.Common.{◌≡◌, ◌⊎◌, inl, inr, ◌<◌, ◌≤◌, ◌≢◌, ◌+◌, ℕ, ◌==◌, nat_lt, nat_le, Bool, true, false, cond}
-use Rattle.std.proofs.Common.{List, [], ◌∷◌, fold, Option, Some, None, refl, sym, ap, ◌∙◌, arith}
+use Rattle.std.proofs.Common.{List, Option, Some, None, refl, sym, ap, ◌∙◌, arith}
 use Rattle.std.proofs.lemmas.Bool.{eq-eqb, le-leb, leb-false, leb-true, lt-ltb, ltb-true, ne_eqb}
 use Rattle.qc_stamp.specs.declared.stamp.TxId.{TxId}
 use Rattle.qc_decl.specs.declared.declaration.Declaration.{Declaration}
@@ -16,7 +16,7 @@ use Rattle.qc_msg.specs.declared.message.Want.{Want}
 use Rattle.qc_msg.specs.declared.record.Record.TheVariants as records
 use Rattle.qc_msg.specs.Vocabulary.{epoch_length, quiet}
 use Rattle.qc_msg.specs.Vocabulary.{start_with}
-use Rattle.qc_site.specs.Vocabulary.{SiteMove, SiteState, answers, clock_after, closed, closed_fault, fault_of, grants}
+use Rattle.qc_site.specs.Vocabulary.{SiteState, answers, clock_after, closed, closed_fault, fault_of, grants}
 use Rattle.qc_site.specs.Vocabulary.{installed, is_closed_for, life_fault, moved, names_declared, passed, recording}
 use Rattle.qc_site.specs.Vocabulary.{requested, shut_answer, site_at, site_on}
 use Rattle.qc_site.proofs.Cases.{IsSteady, state_cases, steady_cases}

@@ -1,11 +1,7 @@
 -- How a site closes its epoch for the next one, and begins another.
 use Rattle.std.specs.Prelude.{ℕ, ◌+◌, ◌==◌, max, nat_lt, nat_le, Bool, false, if◌then◌else◌, List, [], fold, Option}
 use Rattle.std.specs.Prelude.{Some, None}
-use Rattle.std.specs.declared.cmp.Ordering.{Ordering}
-use Rattle.std.specs.Ordering.{on}
 use Rattle.qc_list.specs.Vocabulary.{inserted}
-use Rattle.qc_stamp.specs.declared.stamp.TxId.{TxId}
-use Rattle.qc_stamp.specs.Vocabulary.{tx_cmp}
 use Rattle.qc_entry.specs.declared.line.Line.{Line}
 use Rattle.qc_entry.specs.declared.record.Prepared.{Prepared}
 use Rattle.qc_decl.specs.Vocabulary.{most_record_bytes}

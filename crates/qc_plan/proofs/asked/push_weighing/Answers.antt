@@ -1,4 +1,4 @@
-use Rattle.std.proofs.Common.{◌≡◌, ◌+◌, ◌-◌, ◌++◌, ◌∷◌, [], List, None, Vec, Global, ◌∙◌, ap, map, refl}
+use Rattle.std.proofs.Common.{◌+◌, ◌-◌, ◌++◌, List, None, Vec, Global, ◌∙◌, ap, map, refl}
 use Rattle.std.specs.List.{range_with_len}
 use Rattle.qc_plan.specs.Vocabulary.{weighing}
 use Rattle.qc_plan.specs.declared.standing.Asked.{Asked}

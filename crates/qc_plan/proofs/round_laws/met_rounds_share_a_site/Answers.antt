@@ -1,4 +1,4 @@
-use Rattle.std.proofs.Common.{◌≡◌, ℕ, ◌+◌, ◌<◌, ◌≤◌, List, arith, subst, sym}
+use Rattle.std.proofs.Common.{◌≡◌, ℕ, ◌+◌, ◌<◌, ◌≤◌, List, arith, subst}
 use Rattle.qc_plan.specs.Vocabulary.{RoundState, has_granted, need_of, total, verdict, weight}
 use Rattle.qc_plan.specs.declared.standing.Verdict.TheVariants.{Met}
 use Rattle.qc_plan.proofs.Meet.{meet}

@@ -9,5 +9,5 @@ pub add-requires : goal.add-requires
 add-requires c =
     let tx = c.args.promise.now.tx in
     ap (λ (p : Prepared). prepared_of c.remove.new.self p.tx) c.in_ok-copy.ensures
-    ∙ ap (λ ps. prepared_of ps tx) c.remove.ensures
+    ∙ ap (λ ps. prepared_of ps tx) c.remove.ensures.after
     ∙ find-none (λ (p : Prepared). same_tx p.tx tx) c.args.promises.now

@@ -1,4 +1,4 @@
-use Rattle.std.proofs.Common.{◌≡◌, ◌++◌, List, sym, ◌∙◌, ap, map}
+use Rattle.std.proofs.Common.{◌≡◌, ◌++◌, List, ◌∙◌, ap}
 use Rattle.std.specs.List.{filter_map}
 use Rattle.qc_entry.specs.declared.record.Prepared.{Prepared}
 use Rattle.qc_stamp.specs.declared.stamp.TxId.{TxId}

@@ -1,4 +1,4 @@
-use Rattle.std.proofs.Common.{◌≡◌, sym, ◌∙◌, ap, arith, take}
+use Rattle.std.proofs.Common.{◌≡◌, sym, ◌∙◌, ap, take}
 use Rattle.qc_plan.specs.Vocabulary.{RoundState, note, place_in}
 use Rattle.qc_plan.proofs.Rounds.{note_some, note_none}
 use Rattle.qc_plan.proofs.round.Round.note.Goals as goal
