@@ -1,7 +1,12 @@
 //! A rack of disks in memory, of which one actor's lose what they held.
 
-ghost use Rattle.std.specs.Prelude.{◌≡◌, true, false, nat_eq, IfOk, IfErr};
-ghost use Rattle.qc_outside.specs.Rot.{IsKeeping, IsRotting};
+ghost use Rattle.std.specs.Prelude.{◌≡◌, ◌≢◌, ◌≤◌, ◌+◌, ℕ, suc, true, false, [], Ok, Err, IfOk, IfErr};
+ghost use Rattle.std.specs.Prelude.{OnOk, OnErr, nat_eq, length, take, drop};
+ghost use Rattle.qc_outside.specs.Disk.{DiskRose};
+ghost use Rattle.qc_outside.specs.Images.{Tells, Since, IsImage, as_read, wrote, settled};
+ghost use Rattle.qc_outside.specs.Rot.{IsKeeping, IsRotting, told_of, holding_of, after_write, after_sync};
+ghost use Rattle.qc_outside.specs.Rot.{after_fall};
+ghost use Rattle.qc_outside.specs.declared.disk.DiskFault.TheVariants.{Stopped as DiskStops, OutOfMemory as DiskWants};
 ghost use Rattle.qc_outside.specs.declared.rack.RackFault.TheVariants.{OutOfMemory as RackWants};
 
 use crate::{Disk, DiskFault, MemDisk, Rack, RackFault, RotDisk, Tear};
@@ -19,55 +24,93 @@ pub enum RotRackDisk {
 
 impl Disk for RotRackDisk {
     ghost use Rattle.qc_outside.specs.Fuses.{no_fuse};
-    ghost use Rattle.qc_outside.specs.Images.{Told};
-    ghost use Rattle.std.specs.Prelude.{Option, None, ℕ};
     ghost use Rattle.qc_outside.specs.declared.rot_rack.RotRackDisk.TheVariants.{Mem, Rot};
 
     ghost faults = { λ d. 0 };
 
     ghost fuse = { λ d. no_fuse 0 };
 
-    ghost told = { λ d. elim d as (λ _. Option Told) [ Rot disk ↦ None | Mem disk ↦ ⟦<MemDisk as Disk>⟧.told disk ] };
+    ghost told = { told_of };
 
     ghost has_room = { λ d. elim d as (λ _. ℕ → ℕ → Type 0)
         [ Rot disk ↦ ⟦<RotDisk as Disk>⟧.has_room disk | Mem disk ↦ ⟦<MemDisk as Disk>⟧.has_room disk ] };
 
-    fn len(&mut self) -> Result<u64, DiskFault> {
+    fn len(&mut self) -> Result<u64, DiskFault>
+        ensures count { IfOk result (λ n. n ≡ length (holding_of self.old).reads) }
+        ensures same { self.new ≡ self.old }
+        ensures cause { DiskRose 0 0 result }
+        ensures memory { result ≢ Err DiskWants }
+    {
         match self {
             RotRackDisk::Rot(disk) => disk.len(),
             RotRackDisk::Mem(disk) => disk.len(),
         }
     }
 
-    fn read(&mut self, at: u64, count: u32) -> Result<Vec<u8>, DiskFault> {
+    fn read(&mut self, at: u64, count: u32) -> Result<Vec<u8>, DiskFault>
+        ensures bounded { IfOk result (λ v. length v.items ≤ count) }
+        ensures held { IfOk result (λ v. v.items ≡ take count (drop at (holding_of self.old).reads)) }
+        ensures same { self.new ≡ self.old }
+        ensures cause { DiskRose 0 0 result }
+    {
         match self {
             RotRackDisk::Rot(disk) => disk.read(at, count),
             RotRackDisk::Mem(disk) => disk.read(at, count),
         }
     }
 
-    fn reserve(&mut self, end: u64) -> Result<(), OutOfMemory> {
+    fn reserve(&mut self, end: u64) -> Result<(), OutOfMemory>
+        ensures held { holding_of self.new ≡ holding_of self.old }
+        ensures same { told_of self.new ≡ told_of self.old }
+        ensures room { OnOk result (⟦<RotRackDisk as Disk>⟧.has_room self.new 2 end) }
+    {
         match self {
             RotRackDisk::Rot(disk) => disk.reserve(end),
             RotRackDisk::Mem(disk) => disk.reserve(end),
         }
     }
 
-    fn write_at(&mut self, at: u64, bytes: &[u8]) -> Result<(), DiskFault> {
+    fn write_at(&mut self, at: u64, bytes: &[u8]) -> Result<(), DiskFault>
+        ensures held { OnOk result
+            (holding_of self.new ≡ after_write (holding_of self.old) (record { at = at; bytes = bytes.now })) }
+        ensures refused { OnErr result (holding_of self.new ≡ holding_of self.old) }
+        ensures written { OnOk result (Tells (told_of self.old) (told_of self.new) (λ old new.
+            new.now ≡ wrote old.now (record { at = at; bytes = bytes.now }))) }
+        ensures moments { Tells (told_of self.old) (told_of self.new) (λ old new.
+            Since (IsImage (wrote old.now (record { at = at; bytes = bytes.now }))) old new) }
+        ensures fell { result ≢ Err DiskStops }
+        ensures memory { (n end : ℕ) → ⟦<RotRackDisk as Disk>⟧.has_room self.old (suc n) end
+            → at + length bytes.now ≤ end → result ≢ Err DiskWants }
+        ensures wanting { result ≡ Err DiskWants → told_of self.new ≡ told_of self.old }
+        ensures room { OnOk result ((n end : ℕ) → ⟦<RotRackDisk as Disk>⟧.has_room self.old (suc n) end
+            → at + length bytes.now ≤ end → ⟦<RotRackDisk as Disk>⟧.has_room self.new n end) }
+        ensures cause { DiskRose 0 0 result }
+    {
         match self {
             RotRackDisk::Rot(disk) => disk.write_at(at, bytes),
             RotRackDisk::Mem(disk) => disk.write_at(at, bytes),
         }
     }
 
-    fn sync(&mut self) -> Result<(), DiskFault> {
+    fn sync(&mut self) -> Result<(), DiskFault>
+        ensures held { holding_of self.new ≡ after_sync (holding_of self.old) }
+        ensures ok { result ≡ Ok tt }
+        ensures lasting { Tells (told_of self.old) (told_of self.new) (λ old new. new.now ≡ settled (as_read old.now)) }
+        ensures moments { Tells (told_of self.old) (told_of self.new) (λ old new. Since (IsImage old.now) old new) }
+        ensures room { (n end : ℕ) → ⟦<RotRackDisk as Disk>⟧.has_room self.old n end
+            → ⟦<RotRackDisk as Disk>⟧.has_room self.new n end }
+    {
         match self {
             RotRackDisk::Rot(disk) => disk.sync(),
             RotRackDisk::Mem(disk) => disk.sync(),
         }
     }
 
-    fn fall(&mut self) {
+    fn fall(&mut self)
+        ensures held { holding_of self.new ≡ after_fall (holding_of self.old) }
+        ensures moments { Tells (told_of self.old) (told_of self.new) (λ old new. Since (IsImage old.now) old new) }
+        ensures fell { Tells (told_of self.old) (told_of self.new) (λ old new. new.now.writes ≡ []) }
+    {
         match self {
             RotRackDisk::Rot(disk) => disk.fall(),
             RotRackDisk::Mem(disk) => disk.fall(),
