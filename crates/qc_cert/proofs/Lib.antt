@@ -1,4 +1,5 @@
 pub mod Allowed
+pub mod Asked
 pub mod Computed
 pub mod Faultless
 pub mod Grouped

@@ -1,4 +1,5 @@
 -- What proofs, and other crates, name of this crate's definitions.
+pub use Rattle.qc_cert.specs.Asked.{AreFound, is_found}
 pub use Rattle.qc_cert.specs.Covered.{IsAccountedFor, StandsOutside}
 pub use Rattle.qc_cert.specs.Faults.{covers, fault_of, inv_fault, is_covered, is_free, left_out_fault, taken_fault}
 pub use Rattle.qc_cert.specs.Faults.{triple_fault, triples_fault, unequal_fault, unless_covered}

@@ -224,7 +224,7 @@ fn word(sets: &[u64], from: usize, number: usize, some: u64) -> u64
 }
 
 /// A word with a bit more.
-fn with_bit(word: u64, k: u32) -> u64
+pub(crate) fn with_bit(word: u64, k: u32) -> u64
     requires { k < most_events }
     ensures { result ≡ with_member word k }
 {

@@ -14,7 +14,9 @@
 #![tactic(auto)]
 
 mod blocks;
+mod covered;
 mod fault;
+mod faultless_walk;
 mod firsts;
 mod groups;
 mod hints;
