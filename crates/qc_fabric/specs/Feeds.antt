@@ -46,8 +46,8 @@ pub record HasWritten (v : HistoryWriter) (r : Right Step) (w : HistoryWriter) (
   pub same_pass : w.pass.ghost_name ≡ v.pass.ghost_name
 
 -- it has added some of the steps, and these are left
-pub record HasWrittenPart (v : HistoryWriter) (r : Right Step) (w : HistoryWriter) (t : Right Step) (steps rest : List Step)
-    : Type 0 where
+pub record HasWrittenPart (v : HistoryWriter) (r : Right Step) (w : HistoryWriter) (t : Right Step)
+    (steps rest : List Step) : Type 0 where
   pub done : List Step
   pub written : HasWritten v r w t done
   pub split : done ++ rest ≡ steps

@@ -4,6 +4,7 @@ use Rattle.qc_msg.specs.declared.step.Control.TheVariants as controls
 use Rattle.qc_msg.specs.declared.step.Step.TheVariants as steps
 use Rattle.qc_pass.specs.Vocabulary.{Met, all, number, room}
 use Rattle.qc_fabric.specs.Vocabulary.{Arms, HasGrown, MayDo, Shown, most_history}
+use Rattle.qc_fabric.proofs.Fed.{met_as}
 use Rattle.qc_fabric.proofs.KeptParts.{other_memory}
 use Rattle.qc_fabric.proofs.Lines.{armed, arms_on}
 use Rattle.qc_fabric.proofs.Ordered.{first_within}
@@ -28,8 +29,7 @@ invariant_of-self-2 g c =
     subst (λ (v : Shown). MayDo g.N.RunName.declaration g.N.RunName.script v.history v.open_inputs
     (controls.Armed (number p) c.args.kind c.args.at)) (sym c.self.view_is) c.requires.may in
     let m1 : Met p c.in-Some-take.right c.look-right.new.pass c.look-right.result [] (room p) =
-    subst (λ n. Met p c.in-Some-take.right c.look-right.new.pass c.look-right.result [] n) c.room-kept.ensures
-    c.look-right.ensures.met in
+    met_as c.look-right.ensures.met refl c.room-kept.ensures in
     let mc : Met k c.look-right.result c.add-right.new.pass c.add-right.result (x ∷ []) (room k) =
     subst (λ a. Met k c.look-right.result c.add-right.new.pass c.add-right.result
     (steps.Armed a c.args.kind c.args.at ∷ []) (room k)) c.number-actor.ensures c.add-right.ensures.met in
@@ -37,8 +37,7 @@ invariant_of-self-2 g c =
     ∙ ap (λ a. all c.look-right.result ++ marked (number k) (steps.Armed a c.args.kind c.args.at) ∷ [])
     c.number-actor.ensures in
     let m2 : Met c.look-right.new.pass c.add-right.result c.look-right-2.new.pass c.look-right-2.result [] (room p) =
-    subst (λ n. Met c.look-right.new.pass c.add-right.result c.look-right-2.new.pass c.look-right-2.result [] n)
-    c.room-kept.ensures c.look-right-2.ensures.met in
+    met_as c.look-right-2.ensures.met refl c.room-kept.ensures in
     let grown : HasGrown c.reserve.new.self c.add-right.new.log (marked (number k) x ∷ []) =
     subst (λ a. HasGrown c.reserve.new.self c.add-right.new.log
     (marked (number k) (steps.Armed a c.args.kind c.args.at) ∷ [])) c.number-actor.ensures c.add-right.ensures.log
@@ -62,8 +61,7 @@ returns-clause-ok g c =
     subst (λ (v : Shown). MayDo g.N.RunName.declaration g.N.RunName.script v.history v.open_inputs
     (controls.Armed (number p) c.args.kind c.args.at)) (sym c.self.view_is) c.requires.may in
     let m1 : Met p c.in-Some-take.right c.look-right.new.pass c.look-right.result [] (room p) =
-    subst (λ n. Met p c.in-Some-take.right c.look-right.new.pass c.look-right.result [] n) c.room-kept.ensures
-    c.look-right.ensures.met in
+    met_as c.look-right.ensures.met refl c.room-kept.ensures in
     let mc : Met k c.look-right.result c.add-right.new.pass c.add-right.result (x ∷ []) (room k) =
     subst (λ a. Met k c.look-right.result c.add-right.new.pass c.add-right.result
     (steps.Armed a c.args.kind c.args.at ∷ []) (room k)) c.number-actor.ensures c.add-right.ensures.met in
@@ -71,8 +69,7 @@ returns-clause-ok g c =
     ∙ ap (λ a. all c.look-right.result ++ marked (number k) (steps.Armed a c.args.kind c.args.at) ∷ [])
     c.number-actor.ensures in
     let m2 : Met c.look-right.new.pass c.add-right.result c.look-right-2.new.pass c.look-right-2.result [] (room p) =
-    subst (λ n. Met c.look-right.new.pass c.add-right.result c.look-right-2.new.pass c.look-right-2.result [] n)
-    c.room-kept.ensures c.look-right-2.ensures.met in
+    met_as c.look-right-2.ensures.met refl c.room-kept.ensures in
     let grown : HasGrown c.reserve.new.self c.add-right.new.log (marked (number k) x ∷ []) =
     subst (λ a. HasGrown c.reserve.new.self c.add-right.new.log
     (marked (number k) (steps.Armed a c.args.kind c.args.at) ∷ [])) c.number-actor.ensures c.add-right.ensures.log

@@ -83,8 +83,7 @@ invariant_of-self g c =
     let size : suc k ≡ size_of turn = omega arith in
     let size_is : c.room-size.result ≡ suc k = c.room-size.ensures ∙ has in
     let m1 : Met p c.in-Some.right c.look-right.new.pass c.look-right.result [] (room p) =
-    subst (λ n. Met p c.in-Some.right c.look-right.new.pass c.look-right.result [] n) c.room-size.ensures
-    c.look-right.ensures.met in
+    met_as c.look-right.ensures.met refl c.room-size.ensures in
     let m2 : Met c.post-right.new.self.pass.now c.post-right.result c.look-right-2.new.pass c.look-right-2.result [] 0 =
     met_as c.look-right-2.ensures.met (search rules) refl in
     let grown : HasGrown c.self.inside.log c.post-right.new.self.log.now
@@ -108,8 +107,7 @@ returns-clause-told g c =
     let k : ℕ = size_of turn - 1 in
     let has : room p ≡ suc k = omega (arith, c.requires.room) in
     let m1 : Met p c.in-Some.right c.look-right.new.pass c.look-right.result [] (room p) =
-    subst (λ n. Met p c.in-Some.right c.look-right.new.pass c.look-right.result [] n) c.room-size.ensures
-    c.look-right.ensures.met in
+    met_as c.look-right.ensures.met refl c.room-size.ensures in
     let m2 : Met c.post-right.new.self.pass.now c.post-right.result c.look-right-2.new.pass c.look-right-2.result [] 0 =
     met_as c.look-right-2.ensures.met (search rules) refl in
     posted_told c.self.invariant c.in-Some.right

@@ -1,4 +1,4 @@
-use Rattle.std.proofs.Common.{rules, ◌≡◌, ◌∙◌, [], arith, ap, sym, subst}
+use Rattle.std.proofs.Common.{rules, ◌≡◌, ◌∙◌, [], arith, ap, refl, sym, subst}
 use Rattle.qc_msg.specs.declared.step.Control.TheVariants.{Restart}
 use Rattle.qc_msg.specs.Vocabulary.{by}
 use Rattle.qc_msg.proofs.GrownMail.{length-mail}
@@ -71,12 +71,12 @@ invariant_of-self g c =
     let size : c.self.inside.spare ≡ size_of_rising rising = ap (λ (v : Shown). v.spare) c.self.view_is
     ∙ c.requires.room in
     let m1 : Met p c.in-Some.right c.look-right.new.pass c.look-right.result [] (room p) =
-    subst (λ n. Met p c.in-Some.right c.look-right.new.pass c.look-right.result [] n) c.room-kept.ensures
-    c.look-right.ensures.met in
+    met_as c.look-right.ensures.met refl c.room-kept.ensures in
     let m2 : Met c.rise-right.new.self.pass.now c.rise-right.result c.look-right-2.new.pass c.look-right-2.result
     [] (room p) =
     met_as c.look-right-2.ensures.met (search rules) c.room-kept.ensures in
-    let grown : HasGrown c.self.inside.log c.rise-right.new.self.log.now (by (number p) (steps_of_rising first rising)) =
+    let grown : HasGrown c.self.inside.log c.rise-right.new.self.log.now
+    (by (number p) (steps_of_rising first rising)) =
     subst (λ n. HasGrown c.self.inside.log c.rise-right.new.self.log.now (by n (steps_of_rising first rising)))
     m1.same_number c.rise-right.ensures.log in
     let boxes : c.post_rising.new.mailboxes.inboxes ≡ after_rising c.self.inside.mailboxes.inboxes (number p) rising =
@@ -95,8 +95,7 @@ returns-clause-told g c =
     (Restart (number p)) = subst (λ (v : Shown). MayDo g.N.RunName.declaration g.N.RunName.script v.history
     v.open_inputs (Restart (number p))) (sym c.self.view_is) c.requires.may in
     let m1 : Met p c.in-Some.right c.look-right.new.pass c.look-right.result [] (room p) =
-    subst (λ n. Met p c.in-Some.right c.look-right.new.pass c.look-right.result [] n) c.room-kept.ensures
-    c.look-right.ensures.met in
+    met_as c.look-right.ensures.met refl c.room-kept.ensures in
     let m2 : Met c.rise-right.new.self.pass.now c.rise-right.result c.look-right-2.new.pass c.look-right-2.result
     [] (room p) =
     met_as c.look-right-2.ensures.met (search rules) c.room-kept.ensures in
