@@ -115,7 +115,8 @@ c1 do x R
 c1 commit
 ";
 
-const CLIENT_IN_DOUBT_TEXT: &str = "\
+/// The client fell with nothing of its commit record on its disk, and its transaction didn't commit.
+pub(crate) const CLIENT_IN_DOUBT_TEXT: &str = "\
 replies
 c0 begin 0.1.1
 c0 x W1 ok

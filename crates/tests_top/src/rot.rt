@@ -1,10 +1,10 @@
 //! Runs over a disk that loses what it held when it falls: what disks that don't keep do to a run. The text says that
-//! the site is down, or that it forgot.
+//! the site is down, or that it forgot, and the history that a record was lost: `Kept` of `qc_promise` doesn't hold.
 
-use crate::calls::call_on;
+use crate::calls::{call_on, new_rack};
 use qc_list::OutOfMemory;
 use qc_msg::{Entry, Step};
-use qc_outside::RotRack;
+use qc_outside::{Rack, RotRack};
 use std::alloc::Global;
 use std::sync::Wait;
 use std::thread::Threads;
@@ -52,6 +52,33 @@ s1 life 2 epoch 1 lines 0 held 0
 s2 life 1 epoch 1 lines 0 held 0
 ";
 
+/// Where the disk keeps what it held, the site begins a second life.
+const RISEN_TEXT: &str = "\
+replies
+log
+states
+x 0
+sites
+s0 life 1 epoch 1 lines 0 held 0
+s1 life 2 epoch 1 lines 0 held 0
+s2 life 1 epoch 1 lines 0 held 0
+";
+
+/// Where the disk keeps what it held, the site begins a third life.
+const RESTARTED_TEXT: &str = "\
+replies
+c0 begin 0.1.1
+c0 x W1 ok
+c0 commit ! restarted s1 2 3
+log
+states
+x 0
+sites
+s0 life 1 epoch 1 lines 0 held 0
+s1 life 3 epoch 1 lines 0 held 0
+s2 life 1 epoch 1 lines 0 held 0
+";
+
 /// How often the site's journal was found damaged, and whether always at its first byte.
 fn damages(entries: &[Entry]) -> (u32, bool) {
     let mut count: u32 = 0;
@@ -65,26 +92,71 @@ fn damages(entries: &[Entry]) -> (u32, bool) {
     (count, at_first)
 }
 
-/// Whether the run of a script, after whose falls the site's disk holds these bytes, prints this text, and how often the
-/// site's journal was found damaged.
+/// How many records stand in an actor's journal after a step, of so many before it.
+fn standing_after(count: usize, step: &Step) -> usize {
+    match step {
+        Step::Wrote(_) => count.saturating_add(1),
+        Step::Rose(records) => records.items().len(),
+        _ => count,
+    }
+}
+
+/// How many records stand in an actor's journal after these steps.
+fn standing(entries: &[Entry], actor: u8) -> usize {
+    let mut count = 0;
+    for entry in entries {
+        if entry.actor == actor {
+            count = standing_after(count, &entry.step);
+        }
+    }
+    count
+}
+
+/// Whether an actor in whose journal so many records stand finds in a step that it is damaged, or rises with fewer.
+fn is_loss(count: usize, step: &Step) -> bool {
+    match step {
+        Step::Damaged(_) => true,
+        Step::Rose(records) => records.items().len() < count,
+        _ => false,
+    }
+}
+
+/// Whether a record was lost. `Kept` doesn't hold then, since an actor that rises is given all that stands.
+fn has_loss(entries: &[Entry]) -> bool {
+    for (index, entry) in entries.iter().enumerate() {
+        if is_loss(standing(&entries[..index], entry.actor), &entry.step) {
+            return true;
+        }
+    }
+    false
+}
+
+/// Whether a run of a script over this rack, at its end, prints this text, how often the site's journal was found
+/// damaged, and whether a record was lost.
+fn run_over<T: Threads + Wait + Sync, R: Rack>(
+    rt: &T,
+    alloc: Global,
+    rack: &mut R,
+    script: &str,
+    text: &str,
+) -> Result<(bool, u32, bool), OutOfMemory> {
+    let (ended, taken) = call_on(rt, alloc, &["run", "@three", "s"], &[("s", script)], rack)?;
+    let entries = ended.history.items();
+    let (count, at_first) = damages(entries);
+    let is_same = ended.status == 0 && taken.as_slice() == text.as_bytes();
+    Ok((is_same && at_first, count, has_loss(entries)))
+}
+
+/// The same over a rack after whose falls the site's disk holds these bytes.
 fn rots<T: Threads + Wait + Sync>(
     rt: &T,
     alloc: Global,
     after: &[u8],
     script: &str,
     text: &str,
-) -> Result<(bool, u32), OutOfMemory> {
+) -> Result<(bool, u32, bool), OutOfMemory> {
     let mut rack = RotRack::new(alloc, S1, after.to_vec(alloc)?)?;
-    let (ended, taken) = call_on(
-        rt,
-        alloc,
-        &["run", "@three", "s"],
-        &[("s", script)],
-        &mut rack,
-    )?;
-    let (count, at_first) = damages(ended.history.items());
-    let is_same = ended.status == 0 && taken.as_slice() == text.as_bytes();
-    Ok((is_same && at_first, count))
+    run_over(rt, alloc, &mut rack, script, text)
 }
 
 /// What the disk holds is no journal; a record of no known kind is none either; and an empty journal says nothing of the
@@ -98,6 +170,22 @@ fn a_disk_that_loses_what_it_held(rt: HostRuntime) {
     ];
     for (after, script, text, count) in rows {
         let rotted = rots(&rt, rt.alloc(), after, script, text);
-        assert!(rt; rotted == Ok((true, count)), "{text}");
+        assert!(rt; rotted == Ok((true, count, true)), "{text}");
+    }
+}
+
+/// The same scripts over a disk that keeps: no record is lost.
+#[test]
+fn a_disk_that_keeps_what_it_held(rt: HostRuntime) {
+    let rows = [
+        (RESTART_SCRIPT, RISEN_TEXT),
+        (FORGOTTEN_SCRIPT, RESTARTED_TEXT),
+    ];
+    for (script, text) in rows {
+        let Ok(mut rack) = new_rack(rt.alloc()) else {
+            panic!(rt; "no memory for a rack");
+        };
+        let ran = run_over(&rt, rt.alloc(), &mut rack, script, text);
+        assert!(rt; ran == Ok((true, 0, false)), "{text}");
     }
 }

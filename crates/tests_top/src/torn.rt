@@ -4,6 +4,7 @@
 
 use crate::calls::call_on;
 use crate::epochs::DECLARATION;
+use crate::falls::CLIENT_IN_DOUBT_TEXT;
 use crate::histories::{is_replayed, is_told_rightly};
 use qc_list::OutOfMemory;
 use qc_outside::{MemRack, Tear};
@@ -170,7 +171,8 @@ fn disks_stop_or_fail_within_a_restart(rt: HostRuntime) {
     }
 }
 
-/// A client's disk stops as the gate of its commit record is written.
+/// A client's disk stops as the gate of its commit record is written. Where its fall leaves nothing of that, the
+/// transaction didn't commit.
 const IN_DOUBT_SCRIPT: &str = "\
 phase
 stop c0 at 4
@@ -184,26 +186,6 @@ c1 do x R
 phase
 c1 do x R
 c1 commit
-";
-
-/// Where its fall leaves nothing of that, the transaction didn't commit.
-const UNDONE_TEXT: &str = "\
-replies
-c0 begin 0.1.1
-c0 x W1 ok
-c0 commit ?
-c1 begin 1.1.1
-c1 x R ! conflict 0.1.1 s1
-c1 x R 0
-c1 commit 1.1
-log
-1.1 1.1.1 x R 0
-states
-x 0
-sites
-s0 life 1 epoch 1 lines 0 held 1
-s1 life 1 epoch 1 lines 0 held 0
-s2 life 1 epoch 1 lines 0 held 0
 ";
 
 /// Where its fall leaves all of it, the record rises.
@@ -231,9 +213,9 @@ s2 life 1 epoch 1 lines 0 held 0
 #[test]
 fn falls_tear_as_is_listed(rt: HostRuntime) {
     let rows: [(&[(u8, Tear)], &str); 4] = [
-        (&[(3, Tear::Nothing)], UNDONE_TEXT),
+        (&[(3, Tear::Nothing)], CLIENT_IN_DOUBT_TEXT),
         (&[(3, Tear::All)], DONE_TEXT),
-        (&[(4, Tear::All)], UNDONE_TEXT),
+        (&[(4, Tear::All)], CLIENT_IN_DOUBT_TEXT),
         (
             &[(4, Tear::Nothing), (3, Tear::All), (3, Tear::Nothing)],
             DONE_TEXT,
