@@ -32,6 +32,8 @@ pub(crate) fn add(
 
 /// Adds steps of the pass's actor to the history, in order, by the right that each
 /// call takes and gives back. It takes no memory.
+// The right is no field: what a struct that owns a part leaves behind its
+// references isn't known to its maker.
 #[derive(Drop)]
 pub(crate) struct HistoryWriter<'a> {
     pub(crate) passes: &'a Passes<Step>,
