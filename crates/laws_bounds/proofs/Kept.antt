@@ -17,12 +17,11 @@ use Rattle.qc_script.specs.declared.script.Script.{Script}
 use Rattle.laws_bounds.specs.Vocabulary.{AreControlsBelow, AreFaultsBelow, AreKeptOrMisfits, IsDamagedWithin}
 use Rattle.laws_bounds.specs.Vocabulary.{IsFaultBelow, IsKeptOrMisfit, JournalFits}
 use Rattle.laws_bounds.proofs.RecordsFit.{journal_fits}
-use Rattle.laws_bounds.proofs.Cuts.{every_at_cut, none_cut}
+use Rattle.laws_bounds.proofs.Cuts.{CutIn, cut_in, every_at_cut, in_first, in_second, none_cut, the_one}
 use Rattle.laws_bounds.proofs.RunFaults.{run_faults}
 use Rattle.laws_bounds.proofs.Others.{at_least}
 use Rattle.laws_bounds.proofs.Prefixes.{run_before}
 use Rattle.laws_bounds.proofs.StepCases.{kept_cases}
-use Rattle.qc_spent.proofs.FittingRecords.{kept_more}
 
 -- a step keeps the records where its actor's journal fits as it finds damage
 kept_where_fit : (decl : Declaration) (a : ℕ) (before : List Step) (s : Step)
@@ -47,6 +46,17 @@ other_step decl n a before s high low =
 
 kept_none : Kept []
 kept_none before later e is = absurd (none_cut before later e is)
+
+kept_more : (h : List Entry) (x : Entry) → Kept h → IsKeptAt (own x.actor h) x.step → Kept (h ++ x ∷ [])
+kept_more h x kept now before later e is = from (cut_in h (x ∷ []) before later e is)
+  where
+    from : CutIn h (x ∷ []) before later e → IsKeptAt (own e.actor before) e.step
+    from (in_first rest part) = kept before rest e part
+    from (in_second front whole part) =
+        let one = the_one x front later e part in
+        let same : h ≡ before = sym (whole ∙ ap (λ (l : List Entry). h ++ l) one.before_is ∙ append-nil h) in
+        subst (λ (y : Entry). IsKeptAt (own y.actor before) y.step) (sym one.this)
+        (subst (λ (l : List Entry). IsKeptAt (own x.actor l) x.step) same now)
 
 own_cut : (a : ℕ) (before later : List Entry) (e : Entry) → (e.actor == a) ≡ true
     → own a before ++ e.step ∷ own a later ≡ own a (before ++ e ∷ later)

@@ -2,7 +2,15 @@
 use Rattle.std.proofs.Common.{◌≡◌, ℕ, zero, suc, ◌+◌, ◌<◌, ◌==◌, Bool, true, false, refl, subst, arith}
 use Rattle.std.proofs.lemmas.Bool.{eqb-true, eqb-false}
 use Rattle.qc_promise.specs.Vocabulary.{total_below}
-use Rattle.qc_spent.proofs.Sums.{total_past}
+use Rattle.std.proofs.Common.{◌≤◌}
+use Rattle.std.proofs.lemmas.Bool.{ne_eqb}
+
+pub total_past : (n e : ℕ) (f g : ℕ → ℕ) → n ≤ e → ((a : ℕ) → (e == a) ≡ false → g a ≡ f a)
+    → total_below n g ≡ total_below n f
+total_past zero e f g past other = refl
+total_past (suc n) e f g past other =
+    let here : g n ≡ f n = other n (ne_eqb e n (λ same. omega (arith, past, same))) in
+    omega (arith, total_past n e f g (omega (arith, past)) other, here)
 
 pub zeros : (n : ℕ) → total_below n (λ a. 0) ≡ 0
 zeros zero = refl

@@ -14,6 +14,27 @@ use Rattle.qc_script.specs.Vocabulary.{Inbox, SentRequest, comes_at_once, copies
 use Rattle.qc_script.specs.Vocabulary.{requests_to, requests_to_others, with_copies, with_lost, with_number}
 use Rattle.qc_msg.specs.Vocabulary.{Fallen, fell_in, wrote_in, Answered, answer_in}
 use Rattle.qc_msg.specs.declared.record.Record.{Record}
+use Rattle.std.specs.Prelude.{set}
+use Rattle.std.proofs.lemmas.Bool.{eqb-false}
+use Rattle.std.proofs.lemmas.List.{get_or-set_other}
+use Rattle.qc_script.specs.Vocabulary.{is_up}
+use Rattle.qc_script.specs.Vocabulary.{actor_fell}
+use Rattle.qc_script.specs.Vocabulary.{emptied}
+
+pub fell_up : (b : ℕ) (i : Inbox) (r : ℕ) → (actor_fell b i r).up ≡ set i.up r false
+fell_up b i r = at (r == b)
+  where
+    at : (t : Bool)
+        → (emptied t (record i {
+          up = set i.up r false;
+          unanswered = requests_to_others r i.unanswered;
+          lost = with_lost (requests_to r i.unanswered) i.lost;
+        })).up ≡ set i.up r false
+    at true = refl
+    at false = refl
+
+pub up_other : (up : List Bool) (r a : ℕ) (v : Bool) → (r == a) ≡ false → is_up (set up r v) a ≡ is_up up a
+up_other up r a v other = get_or-set_other up r a v true (λ e. eqb-false r a other (sym e))
 
 -- numbers
 

@@ -21,8 +21,8 @@ use Rattle.laws_due.proofs.AwaitedMessages.{lost_stays, parted, up_if, KeepsUp}
 use Rattle.qc_msg.specs.Vocabulary.{Fallen, fell_in, lost_in, received_in}
 use Rattle.laws_due.proofs.InboxCases.{inbox_cases}
 use Rattle.qc_script.proofs.AllUp.{opened_up}
-use Rattle.qc_mailbox.proofs.Downs.{up_other}
-use Rattle.qc_mailbox.proofs.Emptied.{fell_up}
+use Rattle.laws_due.proofs.AwaitedMessages.{up_other}
+use Rattle.laws_due.proofs.AwaitedMessages.{fell_up}
 use Rattle.laws_turns.proofs.AwaitedCopies.{answer_second, awaited_if, awaited_more, awaited_comes_with}
 use Rattle.laws_turns.proofs.AwaitedCopies.{awaited_goes_with}
 

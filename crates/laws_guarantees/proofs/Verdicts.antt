@@ -22,7 +22,15 @@ use Rattle.qc_plan.specs.declared.standing.Standing.TheVariants as standings
 use Rattle.qc_plan.specs.declared.standing.Verdict.{Verdict}
 use Rattle.qc_plan.specs.declared.standing.Verdict.TheVariants as verdicts
 use Rattle.qc_promise.specs.Vocabulary.{weights_of}
-use Rattle.qc_commit.proofs.Once.{range-in}
+use Rattle.std.proofs.Common.{◌⊎◌}
+use Rattle.std.proofs.lemmas.Bool.{cases_eq}
+
+pub range-in : (k a n : ℕ) → a ≤ k → k < a + n → In k (range_with_len a n)
+range-in k a zero low high = absurd (omega arith)
+range-in k a (suc n) low high = by (cases_eq k a) (λ above. range-in k (a + 1) n above (omega arith)) where
+  by : (k ≡ a) ⊎ (k ≡ a → ⊥) → (a + 1 ≤ k → In k (range_with_len (a + 1) n)) → In k (range_with_len a (suc n))
+  by (inl same) rest = inl same
+  by (inr other) rest = inr (rest (omega (arith, other)))
 
 -- nothing is known of an asked site, or it granted, or it told of a clash with such a transaction
 

@@ -7,7 +7,11 @@ use Rattle.qc_decl.specs.Vocabulary.{three}
 use Rattle.qc_gen.specs.Vocabulary.{load_of, next_state, phase_of, phases_from}
 use Rattle.qc_script.specs.declared.script.PhaseLines.{PhaseLines}
 use Rattle.laws_room.specs.Vocabulary.{HasRoom, MovesNone, commands_of, dos_in, dos_of}
-use Rattle.qc_gen.proofs.Phases.{phases_counted}
+use Rattle.std.proofs.Common.{ap}
+
+pub phases_counted : (count number state : ℕ) → length (phases_from count number state) ≡ count
+phases_counted zero number state = refl
+phases_counted (suc count) number state = ap suc (phases_counted count (suc number) (next_state state))
 
 -- four commands a phase, of which two are a `do`, and no control line
 

@@ -1,6 +1,7 @@
 -- A front end begins transactions of its own client alone, and what it sends names no stamp.
 use Rattle.std.proofs.Common.{◌≡◌, ℕ, nat_le, List, [], length, Option, Some, None, sym, ap, ◌∙◌, subst}
-use Rattle.std.specs.List.{AllByRecursion as Every}
+use Rattle.std.proofs.Common.{◌+◌, ◌∷◌, ◌++◌, option_map, refl}
+use Rattle.std.specs.List.{AllByRecursion as Every, slice_get}
 use Rattle.std.specs.Prelude.{MatchOption}
 use Rattle.qc_core.specs.Vocabulary.{IsOwnStamp, IsStamped}
 use Rattle.qc_decl.specs.declared.declaration.Declaration.{Declaration}
@@ -28,11 +29,34 @@ use Rattle.qc_front.specs.Vocabulary.{read_by, read_with, reading_takes, reads, 
 use Rattle.qc_front.specs.Vocabulary.{takes_in}
 use Rattle.qc_front.proofs.Sending.{called_sent, takes_sent}
 use Rattle.laws_turns.proofs.ClientCases.{front_cases}
+use Rattle.laws_turns.proofs.AnswerCases.{appended_cases, read_cases}
 use Rattle.laws_turns.proofs.MessageCases.{message_cases}
 use Rattle.qc_list.proofs.Members.{every-from_In}
 use Rattle.qc_front.proofs.Learning.{client_kept}
-use Rattle.qc_client.proofs.FrontSends.{read-name, appended-name, event-name}
 use Rattle.qc_list.proofs.Booleans.{if_two}
+use Rattle.qc_view.specs.declared.view.View.{View}
+use Rattle.qc_view.specs.Vocabulary.{with_own}
+use Rattle.qc_msg.specs.declared.begun.Begun.{Begun}
+use Rattle.qc_front.specs.Vocabulary.{next_own}
+use Rattle.qc_front.specs.Vocabulary.{with_event}
+use Rattle.qc_front.proofs.CommandsKeep.{view_keeps}
+
+pub read-name : (t : Transaction) (site object : ℕ) (answer : Option Answer)
+    → (read_with t site object answer).begun.tx ≡ t.begun.tx
+read-name t site object answer =
+    read_cases t site object (λ (b : Begun). b.tx ≡ t.begun.tx) (λ lives. refl) answer
+
+pub appended-name : (t : Transaction) (site : ℕ) (answer : Option Answer)
+    → (appended_with t site answer).begun.tx ≡ t.begun.tx
+appended-name t site answer =
+    appended_cases t site (λ (u : Transaction). u.begun.tx ≡ t.begun.tx) (λ lives. refl) answer
+
+pub event-name : (t : Transaction) (object inv event resp : ℕ)
+    → (with_event t object inv event resp).begun.tx ≡ t.begun.tx
+event-name t object inv event resp =
+    ap (λ (b : Begun). b.tx)
+    (view_keeps (record t { own = t.own ++ next_own t object event ∷ [] }) object
+    (option_map (λ (v : View). with_own v event) (slice_get t.views object)))
 
 abbrev pub IsOwnTransaction : ℕ → Option Transaction → Type 0
 IsOwnTransaction k None = Unit {0}

@@ -43,7 +43,7 @@ use Rattle.laws_turns.proofs.DeclaredSites.{AreSites, asking_rest, sites_cyclic,
 use Rattle.laws_turns.proofs.OwnFronts.{IsOwnTransaction, OwnFront}
 use Rattle.laws_turns.specs.Vocabulary.{IsAskable}
 use Rattle.laws_turns.proofs.ClientCases.{front_cases}
-use Rattle.qc_client.proofs.FrontSends.{read-name, appended-name}
+use Rattle.laws_turns.proofs.OwnFronts.{read-name, appended-name}
 use Rattle.qc_list.proofs.Booleans.{if_two}
 
 -- a request goes to a site, and names a client and an object that are declared; nobody sends an Ask, a Close, an

@@ -1,5 +1,5 @@
 -- The control line that a cell carries out, where one is next and is of its actor.
-use Rattle.std.proofs.Common.{◌≡◌, ℕ, Bool, List, Option, Some, false, sym, ap, ◌∙◌, subst}
+use Rattle.std.proofs.Common.{◌≡◌, ℕ, Bool, List, Option, Some, ap, ◌∙◌, subst}
 use Rattle.std.specs.Prelude.{IfSome}
 use Rattle.qc_decl.specs.declared.declaration.Declaration.{Declaration}
 use Rattle.qc_fabric.specs.Vocabulary.{MayDo}

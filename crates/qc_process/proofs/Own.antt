@@ -8,6 +8,16 @@ use Rattle.qc_msg.proofs.DeedsGrow.{own-append, own-by_same, length-by}
 use Rattle.qc_promise.specs.Vocabulary.{IsKeptOrUnfit, IsOfOthers, journal_of}
 use Rattle.qc_process.specs.Vocabulary.{AreKeptOrUnfit, Goes, journal_fits}
 use Rattle.qc_promise.proofs.Posts.{own_others as own_none}
+use Rattle.std.proofs.Common.{◌==◌, true, false}
+
+pub own_cut : (a : ℕ) (before later : List Entry) (e : Entry) → (e.actor == a) ≡ true
+    → own a (before ++ e ∷ later) ≡ own a before ++ e.step ∷ own a later
+own_cut a before later e this =
+    own-append a before (e ∷ later) ∙ ap (λ (l : List Step). own a before ++ l) (rw this refl)
+
+pub own_other : (a : ℕ) (h : List Entry) (e : Entry) → (e.actor == a) ≡ false → own a (h ++ e ∷ []) ≡ own a h
+own_other a h e other =
+    own-append a h (e ∷ []) ∙ ap (λ (l : List Step). own a h ++ l) (rw other refl) ∙ append-nil (own a h)
 
 -- where a list with one more at its end is cut: at that one, or before it
 

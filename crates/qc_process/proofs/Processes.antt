@@ -21,7 +21,7 @@ use Rattle.qc_promise.specs.Vocabulary.{IsOfOthers}
 use Rattle.qc_process.specs.Vocabulary.{Goes, GoesArmed, IsProcess, IsStored, ProcessView}
 use Rattle.qc_process.proofs.Own.{own_others}
 use Rattle.qc_process.proofs.GivenUp.{stored_past_others}
-use Rattle.qc_spent.proofs.OwnRecords.{own_other}
+use Rattle.qc_process.proofs.Own.{own_other}
 
 others_deeds : (a : ℕ) (h others : List Entry) → IsOfOthers a others → deeds a [] (h ++ others) ≡ deeds a [] h
 others_deeds a h others none = same_deeds a [] h others (own_others a h others none)

@@ -9,7 +9,7 @@ use Rattle.qc_msg.proofs.GrownMail.{by-append}
 use Rattle.qc_promise.specs.Vocabulary.{IsKeptOrUnfit, Journal, journal_of}
 use Rattle.qc_process.specs.Vocabulary.{AreKeptOrUnfit, Goes, HasFewRecords, IsPlaced, IsStored, OpenJournal, StoreView}
 use Rattle.qc_process.specs.Vocabulary.{journal_fits}
-use Rattle.qc_spent.proofs.OwnRecords.{own_cut}
+use Rattle.qc_process.proofs.Own.{own_cut}
 
 pub posts_may_be_seen_in_parts : (a : ℕ) (h now : List Entry) (xs ys : List Step) → Goes a h (xs ++ ys) now
     → (mid : List Entry) × Goes a h xs mid × Goes a mid ys now

@@ -13,7 +13,7 @@ use Rattle.qc_spent.proofs.Stores.{arm_on, others_on, steps_on}
 use Rattle.qc_process.specs.Vocabulary.{AreKeptOrUnfit, AreLegal, Goes, GoesArmed, IsLegalPending, IsTold, journal_fits}
 use Rattle.qc_process.proofs.Own.{AreFine, kept_on, longer, own_goes, own_others}
 use Rattle.qc_process.proofs.Plain.{ArePlain, account_past, fine_past, journal_of_more, journal_past, plain_then}
-use Rattle.qc_spent.proofs.OwnRecords.{own_other}
+use Rattle.qc_process.proofs.Own.{own_other}
 
 pub in_time : (tells : Bool) (decl : Declaration) (a : ℕ) (h : List Entry) (j : Journal) (t : DiskAccount)
     → IsTold tells decl a h j t → IsInTime t
