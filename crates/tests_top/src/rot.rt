@@ -121,8 +121,8 @@ fn rots<T: Threads + Wait + Sync>(
     run_over(rt, alloc, &mut rack, script, text)
 }
 
-/// What the disk holds is no journal; a record of no known kind is none either; and an empty journal says nothing of the
-/// life that was.
+/// What the disk holds is no journal; a record of no known kind is none either; and an empty journal says nothing of
+/// the life that was.
 #[test]
 fn a_disk_that_loses_what_it_held(rt: HostRuntime) {
     let rows: [(&[u8], &str, &str, u32); 3] = [
