@@ -23,6 +23,8 @@ mod falls;
 #[cfg(test)]
 mod histories;
 #[cfg(test)]
+mod kept;
+#[cfg(test)]
 mod loads;
 #[cfg(test)]
 mod losses;

@@ -6,7 +6,7 @@ use std::alloc::Global;
 use std::sync::Wait;
 use std::thread::Threads;
 
-/// What each transaction does.
+/// How many writes each transaction has.
 const WRITES: u8 = 16;
 
 /// So many transactions of sixteen writes each.

@@ -2,6 +2,7 @@
 //! the site is down, or that it forgot, and the history that a record was lost: `Kept` of `qc_promise` doesn't hold.
 
 use crate::calls::{call_on, new_rack};
+use crate::kept::has_loss;
 use qc_list::OutOfMemory;
 use qc_msg::{Entry, Step};
 use qc_outside::{Rack, RotRack};
@@ -92,47 +93,8 @@ fn damages(entries: &[Entry]) -> (u32, bool) {
     (count, at_first)
 }
 
-/// How many records stand in an actor's journal after a step, of so many before it.
-fn standing_after(count: usize, step: &Step) -> usize {
-    match step {
-        Step::Wrote(_) => count.saturating_add(1),
-        Step::Rose(records) => records.items().len(),
-        _ => count,
-    }
-}
-
-/// How many records stand in an actor's journal after these steps.
-fn standing(entries: &[Entry], actor: u8) -> usize {
-    let mut count = 0;
-    for entry in entries {
-        if entry.actor == actor {
-            count = standing_after(count, &entry.step);
-        }
-    }
-    count
-}
-
-/// Whether an actor in whose journal so many records stand finds in a step that it is damaged, or rises with fewer.
-fn is_loss(count: usize, step: &Step) -> bool {
-    match step {
-        Step::Damaged(_) => true,
-        Step::Rose(records) => records.items().len() < count,
-        _ => false,
-    }
-}
-
-/// Whether a record was lost. `Kept` doesn't hold then, since an actor that rises is given all that stands.
-fn has_loss(entries: &[Entry]) -> bool {
-    for (index, entry) in entries.iter().enumerate() {
-        if is_loss(standing(&entries[..index], entry.actor), &entry.step) {
-            return true;
-        }
-    }
-    false
-}
-
-/// Whether a run of a script over this rack, at its end, prints this text, how often the site's journal was found
-/// damaged, and whether a record was lost.
+/// Whether a run of a script over this rack ends with status 0 and prints this text, how often the site's journal was
+/// found damaged, and whether a record was lost.
 fn run_over<T: Threads + Wait + Sync, R: Rack>(
     rt: &T,
     alloc: Global,
@@ -159,8 +121,8 @@ fn rots<T: Threads + Wait + Sync>(
     run_over(rt, alloc, &mut rack, script, text)
 }
 
-/// What the disk holds is no journal; a record of no known kind is none either; and an empty journal says nothing of the
-/// life that was.
+/// What the disk holds is no journal; a record of no known kind is none either; and an empty journal says nothing of
+/// the life that was.
 #[test]
 fn a_disk_that_loses_what_it_held(rt: HostRuntime) {
     let rows: [(&[u8], &str, &str, u32); 3] = [

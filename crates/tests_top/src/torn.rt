@@ -73,7 +73,8 @@ fn restart(script: &mut String, actor: &str) -> Result<(), OutOfMemory> {
     Ok(())
 }
 
-/// Whether a run over this declaration ends by itself, and what it left and told holds, where the actor's falls leave so.
+/// Whether a run over this declaration ends by itself, and what it left and told holds, where the actor's falls leave
+/// so.
 fn stands<T: Threads + Wait + Sync>(
     rt: &T,
     alloc: Global,
