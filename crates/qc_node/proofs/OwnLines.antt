@@ -11,7 +11,8 @@ use Rattle.qc_node.specs.Vocabulary.{IsLineOf}
 use Rattle.qc_script.specs.declared.script.Script.{Script}
 
 -- what is said of the line that is next holds of this one
-pub next_is : (P : Control → Type 0) (next : Option Control) (line : Control) → next ≡ Some line → IfSome next P → P line
+pub next_is : (P : Control → Type 0) (next : Option Control) (line : Control) → next ≡ Some line → IfSome next P
+    → P line
 next_is P next line is holds = subst (λ (o : Option Control). IfSome o P) is holds
 
 module _ (decl : Declaration) (script : Script) (h : List Entry) (open_inputs : List Bool) (actor : ℕ)
