@@ -7,7 +7,6 @@ pub mod Lines
 pub mod Rises
 pub mod Kept
 pub mod Posted
-pub mod OwnLines
 pub mod Ordered
 pub mod Starts
 pub mod Unstarted

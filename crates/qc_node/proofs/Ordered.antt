@@ -20,7 +20,7 @@ use Rattle.qc_pass.specs.Vocabulary.{number, room, seen}
 use Rattle.qc_process.specs.Vocabulary.{GoesArmed, GoesOn, IsProcess, IsStored, ProcessView, StaysOnDisk}
 use Rattle.qc_script.specs.Vocabulary.{RunsWithFalls}
 use Rattle.qc_script.specs.declared.script.Script.{Script}
-use Rattle.qc_fabric.specs.Vocabulary.{Arms, FallsByLine, IsSame, IsUpTo, MayDo, RisesAs}
+use Rattle.qc_fabric.specs.Vocabulary.{Arms, FallsByLine, IsSame, MayDo, RisesAs}
 use Rattle.qc_fabric.specs.declared.rising.Rising.{Rising}
 use Rattle.qc_node.specs.Vocabulary.{IsCell, IsLeft, IsRunnable, fits_of}
 use Rattle.qc_node.proofs.Lines.{armed_counted, crashed_up, restarted_down}
@@ -145,8 +145,7 @@ module _ (tells : Bool) (z : TableId) (decl : Declaration) (script : Script) (ac
 -- the fault that is armed is for some call from now on
 
 pub armed_some : (decl : Declaration) (script : Script) (runs : IsRunnable decl script) (h : List Entry)
-    (inputs : List Bool) (last : ℕ) (x : Control) (a : ℕ) (kind : ArmKind) (at : ℕ)
-    → MayDo decl script h inputs x × IsUpTo last x → x ≡ controls.Armed a kind at → 1 ≤ at
-armed_some decl script runs h inputs last x a kind at both is =
-    armed_counted decl script runs h inputs a kind at
-    (subst (λ (c : Control). MayDo decl script h inputs c) is both.0)
+    (inputs : List Bool) (x : Control) (a : ℕ) (kind : ArmKind) (at : ℕ) → MayDo decl script h inputs x
+    → x ≡ controls.Armed a kind at → 1 ≤ at
+armed_some decl script runs h inputs x a kind at may is =
+    armed_counted decl script runs h inputs a kind at (subst (λ (c : Control). MayDo decl script h inputs c) is may)
