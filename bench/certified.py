@@ -268,10 +268,25 @@ def more(seed):
     return some(97, 15, seed)
 
 
+def moved(seed):
+    """Four of 14 events each, in 64 groups of 1,001, of eight views and eight logs. Each event leads the view and the
+    log on to other ones, so that what is left out is looked up in other groups than what is taken."""
+    sets = list(itertools.combinations(range(50, 64), 4))
+    random.Random(seed).shuffle(sets)
+    groups = [(view, log, FIRST, sets) for view in range(1, 9) for log in range(9, 17)]
+
+    def step(state, event):
+        first, by = (1, event % 7) if state < 9 else (9, event // 7 % 7)
+        return first + (state - first + 1 + by) % 8
+
+    return step, groups
+
+
 LISTS = {
     "two": two, "drawn": drawn, "own": own, "ten": ten, "tens": tens, "pairs": pairs, "three": three, "six": six,
-    "last": last, "apart": apart, "fours": fours, "walks": walks, "sevens": sevens, "ones": ones, "few": few, "more": more, "halves": halves,
-    "thirds": thirds, "quarters": quarters, "fifths": fifths, "behind": behind,
+    "last": last, "apart": apart, "fours": fours, "walks": walks, "sevens": sevens, "ones": ones, "few": few,
+    "more": more, "halves": halves, "thirds": thirds, "quarters": quarters, "fifths": fifths, "behind": behind,
+    "moved": moved,
 }
 
 

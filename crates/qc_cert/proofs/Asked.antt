@@ -59,6 +59,7 @@ found_more list out words view log word within new old here v l found = by (view
         let bit : has (with_member (get_or words view 0) log) l ≡ true =
         sym (ap (λ n. has n l) (ap (λ n. get_or (set words view word) n 0) (sym same)
         ∙ get_or-set_same words view word 0 within ∙ new)) ∙ found in
-        of_word same (or_cases (has (get_or words view 0) l) (log == l) (sym (has_with (get_or words view 0) log l) ∙ bit))
+        of_word same (or_cases (has (get_or words view 0) l) (log == l)
+        (sym (has_with (get_or words view 0) log l) ∙ bit))
     by false e = old v l (sym (ap (λ n. has n l) (get_or-set_other words view v word 0
         (λ (same : v ≡ view). eqb-false view v e (sym same)))) ∙ found)

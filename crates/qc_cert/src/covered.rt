@@ -16,15 +16,19 @@ use qc_table::MOST_STATES;
 use std::marker::Model;
 
 /// A list, the events that one of its triples leaves out, and in which groups
-/// they were found to be covered. There they needn't be looked up again, nor
-/// with one event more, since what covers some events covers more.
+/// they were looked up and found to be covered. In none they are looked up
+/// twice, nor, where they are covered, with one event more: what covers some
+/// events covers more.
 #[derive(Drop)]
 pub(crate) struct Covered<'a> {
     triples: &'a Grouped<'a>,
     out: u64,
     /// What a triple that covers the events is likely to leave out.
     near: u64,
-    /// For each view's state the logs' states, bit k for state k.
+    /// For each view's state the logs' states with which the events were looked
+    /// up, bit k for state k.
+    asked: [u64; MOST_STATES],
+    /// Those with which they are covered.
     found: [u64; MOST_STATES],
 }
 
@@ -51,11 +55,12 @@ impl<'a> Covered<'a> {
             triples,
             out: triple.out,
             near: triples.near(triple),
+            asked: [0; MOST_STATES],
             found,
         }
     }
 
-    /// Whether the events are covered with these two states.
+    /// Whether the events are found to be covered with these two states.
     pub(crate) fn tells(&mut self, view: u8, log: u8) -> bool
         ensures same { self.new ≡ self.old }
         ensures told { result ≡ true → is_covered self.old.list (triple view log self.old.out) ≡ true }
@@ -63,6 +68,10 @@ impl<'a> Covered<'a> {
         if is_found(&self.found, view, log) {
             return true;
         }
+        if is_found(&self.asked, view, log) {
+            return false;
+        }
+        put(&mut self.asked, view, log);
         let asked = Triple {
             view,
             log,
@@ -75,13 +84,15 @@ impl<'a> Covered<'a> {
         is_covered
     }
 
-    /// Whether the events and one more are covered with these two states.
-    pub(crate) fn tells_with(&self, view: u8, log: u8, event: u8) -> bool
+    /// Whether the events and one more are found to be covered with these two
+    /// states. They are looked up without it first, as that often tells of all.
+    pub(crate) fn tells_with(&mut self, view: u8, log: u8, event: u8) -> bool
         requires { event < most_events }
-        ensures { result ≡ true
-            → is_covered self.now.list (triple view log (with_member self.now.out event)) ≡ true }
+        ensures same { self.new ≡ self.old }
+        ensures told { result ≡ true
+            → is_covered self.old.list (triple view log (with_member self.old.out event)) ≡ true }
     {
-        if is_found(&self.found, view, log) {
+        if self.tells(view, log) {
             return true;
         }
         let asked = Triple {

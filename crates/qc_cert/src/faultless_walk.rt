@@ -20,7 +20,7 @@ pub(crate) fn is_faultless(kind: &Prepared, triples: &Grouped, triple: &Triple) 
     ensures { result ≡ true → triple_fault kind.now triples.now 0 triple.now ≡ None }
 {
     let mut covered = Covered::new(triples, triple);
-    are_invs_even(kind, &mut covered, triple) && are_left_out_covered(kind, &covered, triple)
+    are_invs_even(kind, &mut covered, triple) && are_left_out_covered(kind, &mut covered, triple)
 }
 
 /// Whether no invocation has a fault.
@@ -98,10 +98,10 @@ fn is_taken_covered(kind: &Prepared, covered: &mut Covered, triple: &Triple, eve
 }
 
 /// Whether each event left out leads to what is covered.
-fn are_left_out_covered(kind: &Prepared, covered: &Covered, triple: &Triple) -> bool
-    requires { covered.now.out ≡ triple.now.out }
+fn are_left_out_covered(kind: &Prepared, covered: &mut Covered, triple: &Triple) -> bool
+    requires { covered.old.out ≡ triple.now.out }
     ensures { result ≡ true → first_below (length (events_of kind.now.table.rows))
-        (left_out_fault kind.now covered.now.list 0 triple.now) ≡ None }
+        (left_out_fault kind.now covered.old.list 0 triple.now) ≡ None }
 {
     let events = kind.plain().table.events().len();
     for event in 0..events {
@@ -113,10 +113,11 @@ fn are_left_out_covered(kind: &Prepared, covered: &Covered, triple: &Triple) -> 
 }
 
 /// Whether an event left out leads to what is covered.
-fn is_left_out_covered(kind: &Prepared, covered: &Covered, triple: &Triple, event: u8) -> bool
+fn is_left_out_covered(kind: &Prepared, covered: &mut Covered, triple: &Triple, event: u8) -> bool
     requires event { event < most_events }
-    requires out { covered.now.out ≡ triple.now.out }
-    ensures { result ≡ true → left_out_fault kind.now covered.now.list 0 triple.now event ≡ None }
+    requires out { covered.old.out ≡ triple.now.out }
+    ensures same { covered.new ≡ covered.old }
+    ensures none { result ≡ true → left_out_fault kind.now covered.old.list 0 triple.now event ≡ None }
 {
     match kind.plain().table.step(triple.log, event) {
         Some(log) => covered.tells_with(triple.view, log, event),

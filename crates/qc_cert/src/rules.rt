@@ -109,97 +109,135 @@ fn of_triple(kind: &Prepared, triples: &Grouped, place: u32, triple: &Triple) ->
     if is_faultless(kind, triples, triple) {
         return None;
     }
-    let near = triples.near(triple);
-    match of_left_out(kind, triples, place, triple, near) {
+    let search = Search {
+        kind,
+        triples,
+        place,
+        triple,
+        near: triples.near(triple),
+    };
+    match search.of_left_out() {
         Some(fault) => Some(fault),
-        None => of_invs(kind, triples, place, triple, near),
+        None => search.of_invs(),
     }
 }
 
-/// The first fault of a triple's events left out.
-fn of_left_out(
-    kind: &Prepared,
-    triples: &Grouped,
+/// A search for the first fault of a triple.
+#[derive(Drop)]
+struct Search<'a> {
+    kind: &'a Prepared<'a>,
+    triples: &'a Grouped<'a>,
+    /// The triple's place in the list.
     place: u32,
-    triple: &Triple,
+    triple: &'a Triple,
+    /// What a triple that covers what this one becomes is likely to leave out.
     near: u64,
-) -> Option<CertFault>
-    ensures { result ≡ first_below (length (events_of kind.now.table.rows))
-        (left_out_fault kind.now triples.now place triple.now) }
-{
-    let events = kind.plain().table.events().len();
-    for event in 0..events {
-        let fault = left_out(kind, triples, place, triple, near, event as u8);
-        if fault.is_some() {
-            return fault;
+}
+
+impl<'a> Search<'a> {
+    /// The first fault of the events left out.
+    fn of_left_out(&self) -> Option<CertFault>
+        ensures { result ≡ first_below (length (events_of self.now.kind.now.table.rows))
+            (left_out_fault self.now.kind.now self.now.triples.now self.now.place self.now.triple.now) }
+    {
+        let events = self.kind.plain().table.events().len();
+        for event in 0..events {
+            let fault = self.left_out(event as u8);
+            if fault.is_some() {
+                return fault;
+            }
+        }
+        None
+    }
+
+    /// The fault of an event that the log takes and the view leaves out.
+    fn left_out(&self, event: u8) -> Option<CertFault>
+        requires { event < most_events }
+        ensures { result ≡ left_out_fault self.now.kind.now self.now.triples.now self.now.place
+            self.now.triple.now event }
+    {
+        let log = self.kind.plain().table.step(self.triple.log, event)?;
+        let fault = CertFault::Uncovered {
+            triple: self.place,
+            event,
+            taken: false,
+        };
+        let next = Triple {
+            view: self.triple.view,
+            log,
+            out: self.triple.out | 1 << event,
+        };
+        unless_covered(self.triples, fault, &next, self.near)
+    }
+
+    /// The first fault of the invocations.
+    fn of_invs(&self) -> Option<CertFault>
+        ensures { result ≡ first_below self.now.kind.now.table.invs
+            (inv_fault self.now.kind.now self.now.triples.now self.now.place self.now.triple.now) }
+    {
+        for inv in 0..self.kind.plain().table.invs() {
+            let fault = self.of_inv(inv);
+            if fault.is_some() {
+                return fault;
+            }
+        }
+        None
+    }
+
+    /// The first fault of an invocation: none where it depends on something
+    /// left out.
+    fn of_inv(&self, inv: u8) -> Option<CertFault>
+        ensures { result ≡ inv_fault self.now.kind.now self.now.triples.now self.now.place
+            self.now.triple.now inv }
+    {
+        if self.kind.plain().relation.depended(inv) & self.triple.out != 0 {
+            return None;
+        }
+        match of_responses(self.kind, self.place, self.triple, inv) {
+            Some(fault) => Some(fault),
+            None => self.of_taken(inv),
         }
     }
-    None
-}
 
-/// The fault of an event that a triple's log takes and its view leaves out.
-fn left_out(
-    kind: &Prepared,
-    triples: &Grouped,
-    place: u32,
-    triple: &Triple,
-    near: u64,
-    event: u8,
-) -> Option<CertFault>
-    requires { event < most_events }
-    ensures { result ≡ left_out_fault kind.now triples.now place triple.now event }
-{
-    let log = kind.plain().table.step(triple.log, event)?;
-    let fault = CertFault::Uncovered {
-        triple: place,
-        event,
-        taken: false,
-    };
-    let next = Triple {
-        view: triple.view,
-        log,
-        out: triple.out | 1 << event,
-    };
-    unless_covered(triples, fault, &next, near)
-}
-
-/// The first fault of the invocations at a triple.
-fn of_invs(
-    kind: &Prepared,
-    triples: &Grouped,
-    place: u32,
-    triple: &Triple,
-    near: u64,
-) -> Option<CertFault>
-    ensures { result ≡ first_below kind.now.table.invs (inv_fault kind.now triples.now place triple.now) }
-{
-    for inv in 0..kind.plain().table.invs() {
-        let fault = of_inv(kind, triples, place, triple, near, inv);
-        if fault.is_some() {
-            return fault;
+    /// The first fault of the events of an invocation that both states take.
+    fn of_taken(&self, inv: u8) -> Option<CertFault>
+        ensures { result ≡ first_below (length (events_of self.now.kind.now.table.rows))
+            (taken_fault self.now.kind.now self.now.triples.now self.now.place self.now.triple.now inv) }
+    {
+        let mut rest = self.kind.events(inv);
+        'turns: for _turn in 0..MOST_EVENTS {
+            if rest == 0 {
+                return None;
+            }
+            let event = rest.trailing_zeros();
+            let fault = self.taken(inv, event as u8);
+            if fault.is_some() {
+                return fault;
+            }
+            rest &= !(1 << event);
         }
+        None
     }
-    None
-}
 
-/// The first fault of an invocation at a triple: none where it depends on
-/// something left out.
-fn of_inv(
-    kind: &Prepared,
-    triples: &Grouped,
-    place: u32,
-    triple: &Triple,
-    near: u64,
-    inv: u8,
-) -> Option<CertFault>
-    ensures { result ≡ inv_fault kind.now triples.now place triple.now inv }
-{
-    if kind.plain().relation.depended(inv) & triple.out != 0 {
-        return None;
-    }
-    match of_responses(kind, place, triple, inv) {
-        Some(fault) => Some(fault),
-        None => of_taken(kind, triples, place, triple, near, inv),
+    /// The fault of an event of an invocation that both states take.
+    fn taken(&self, inv: u8, event: u8) -> Option<CertFault>
+        ensures { result ≡ taken_fault self.now.kind.now self.now.triples.now self.now.place
+            self.now.triple.now inv event }
+    {
+        if inv_of(self.kind.plain(), event) != inv {
+            return None;
+        }
+        let fault = CertFault::Uncovered {
+            triple: self.place,
+            event,
+            taken: true,
+        };
+        let next = Triple {
+            view: self.kind.plain().table.step(self.triple.view, event)?,
+            log: self.kind.plain().table.step(self.triple.log, event)?,
+            out: self.triple.out,
+        };
+        unless_covered(self.triples, fault, &next, self.near)
     }
 }
 
@@ -232,61 +270,4 @@ fn has(responses: u32, resp: u8) -> bool
     ensures { IsTrue result ↔ IsBitSet responses resp }
 {
     responses & 1 << resp != 0
-}
-
-/// The first fault of the events of an invocation that both the view and the
-/// log of a triple take.
-fn of_taken(
-    kind: &Prepared,
-    triples: &Grouped,
-    place: u32,
-    triple: &Triple,
-    near: u64,
-    inv: u8,
-) -> Option<CertFault>
-    ensures { result ≡ first_below (length (events_of kind.now.table.rows))
-        (taken_fault kind.now triples.now place triple.now inv) }
-{
-    let mut rest = kind.events(inv);
-    'turns: for _turn in 0..MOST_EVENTS {
-        if rest == 0 {
-            return None;
-        }
-        let event = rest.trailing_zeros();
-        let fault = taken(kind, triples, place, triple, near, inv, event as u8);
-        if fault.is_some() {
-            return fault;
-        }
-        rest &= !(1 << event);
-    }
-    None
-}
-
-/// The fault of an event of an invocation that both the view and the log of a
-/// triple take.
-fn taken(
-    kind: &Prepared,
-    triples: &Grouped,
-    place: u32,
-    triple: &Triple,
-    near: u64,
-    inv: u8,
-    event: u8,
-) -> Option<CertFault>
-    ensures { result ≡ taken_fault kind.now triples.now place triple.now inv event }
-{
-    if inv_of(kind.plain(), event) != inv {
-        return None;
-    }
-    let fault = CertFault::Uncovered {
-        triple: place,
-        event,
-        taken: true,
-    };
-    let next = Triple {
-        view: kind.plain().table.step(triple.view, event)?,
-        log: kind.plain().table.step(triple.log, event)?,
-        out: triple.out,
-    };
-    unless_covered(triples, fault, &next, near)
 }
