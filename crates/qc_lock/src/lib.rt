@@ -17,6 +17,9 @@
 //! what its own transaction holds: entries, and the index of who holds what,
 //! are trees. A read looks once for each event on which its invocation depends,
 //! and an append once for each invocation that depends on one of its lines.
+//!
+//! `Numbered` keeps what transactions have, one each, in the order in which they
+//! came to have it: the entries here, and what a site has promised.
 #![tactic(auto)]
 
 mod clash;
