@@ -16,20 +16,18 @@ use qc_table::MOST_STATES;
 use std::marker::Model;
 
 /// A list, the events that one of its triples leaves out, and in which groups
-/// they were looked up and found to be covered. In none they are looked up
-/// twice, nor, where they are covered, with one event more: what covers some
-/// events covers more.
+/// they were found to be covered. There they needn't be looked up again, nor
+/// with one event more: what covers some events covers more.
 #[derive(Drop)]
 pub(crate) struct Covered<'a> {
     triples: &'a Grouped<'a>,
     out: u64,
     /// What a triple that covers the events is likely to leave out.
     near: u64,
-    /// For each view's state the logs' states with which the events were looked
-    /// up, bit k for state k.
-    asked: [u64; MOST_STATES],
-    /// Those with which they are covered.
+    /// For each view's state the logs' states, bit k for state k.
     found: [u64; MOST_STATES],
+    /// For each log's state how often one event more was asked of with it.
+    counts: [u8; MOST_STATES],
 }
 
 impl<'a> Model for Covered<'a> {
@@ -55,12 +53,12 @@ impl<'a> Covered<'a> {
             triples,
             out: triple.out,
             near: triples.near(triple),
-            asked: [0; MOST_STATES],
             found,
+            counts: [0; MOST_STATES],
         }
     }
 
-    /// Whether the events are found to be covered with these two states.
+    /// Whether the events are covered with these two states.
     pub(crate) fn tells(&mut self, view: u8, log: u8) -> bool
         ensures same { self.new ≡ self.old }
         ensures told { result ≡ true → is_covered self.old.list (triple view log self.old.out) ≡ true }
@@ -68,10 +66,6 @@ impl<'a> Covered<'a> {
         if is_found(&self.found, view, log) {
             return true;
         }
-        if is_found(&self.asked, view, log) {
-            return false;
-        }
-        put(&mut self.asked, view, log);
         let asked = Triple {
             view,
             log,
@@ -84,15 +78,40 @@ impl<'a> Covered<'a> {
         is_covered
     }
 
-    /// Whether the events and one more are found to be covered with these two
-    /// states. They are looked up without it first, as that often tells of all.
+    /// Whether the events are found to be covered with these two states, with
+    /// which one event more is asked of. They are looked up the fourth time: that
+    /// may tell of all others, and in vain it is at most one look in five.
+    fn knows(&mut self, view: u8, log: u8) -> bool
+        ensures same { self.new ≡ self.old }
+        ensures told { result ≡ true → is_covered self.old.list (triple view log self.old.out) ≡ true }
+    {
+        if self.is_fourth(log) {
+            self.tells(view, log)
+        } else {
+            is_found(&self.found, view, log)
+        }
+    }
+
+    /// Counts one time more with a log's state, and tells whether it is the fourth.
+    fn is_fourth(&mut self, log: u8) -> bool
+        ensures { self.new ≡ self.old }
+    {
+        let place = log as usize;
+        if place >= MOST_STATES {
+            return false;
+        }
+        self.counts[place] = self.counts[place].saturating_add(1);
+        self.counts[place] == 4
+    }
+
+    /// Whether the events and one more are covered with these two states.
     pub(crate) fn tells_with(&mut self, view: u8, log: u8, event: u8) -> bool
         requires { event < most_events }
         ensures same { self.new ≡ self.old }
         ensures told { result ≡ true
             → is_covered self.old.list (triple view log (with_member self.old.out event)) ≡ true }
     {
-        if self.tells(view, log) {
+        if self.knows(view, log) {
             return true;
         }
         let asked = Triple {
