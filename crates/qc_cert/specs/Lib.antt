@@ -5,7 +5,7 @@ pub mod Firsts
 pub mod Groups
 pub mod Inductive
 pub mod Limits
-pub mod Prepared
+pub mod IndexedKind
 pub mod Tables
 pub mod Views
 pub mod Vocabulary

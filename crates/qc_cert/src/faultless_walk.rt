@@ -9,13 +9,13 @@ ghost use Rattle.qc_table.specs.Rules.{events_of};
 
 use crate::covered::Covered;
 use crate::groups::Grouped;
-use crate::prepared::Prepared;
+use crate::indexed_kind::IndexedKind;
 use crate::triple::Triple;
 use qc_table::MOST_EVENTS;
 
 /// Whether a triple of the list has no fault: at place 0, and so at each. What
 /// is found of events that both states take often tells of those left out too.
-pub(crate) fn is_faultless(kind: &Prepared, triples: &Grouped, triple: &Triple) -> bool
+pub(crate) fn is_faultless(kind: &IndexedKind, triples: &Grouped, triple: &Triple) -> bool
     requires { is_covered triples.now triple.now ≡ true }
     ensures { result ≡ true → triple_fault kind.now triples.now 0 triple.now ≡ None }
 {
@@ -24,7 +24,7 @@ pub(crate) fn is_faultless(kind: &Prepared, triples: &Grouped, triple: &Triple) 
 }
 
 /// Whether no invocation has a fault.
-fn are_invs_even(kind: &Prepared, covered: &mut Covered, triple: &Triple) -> bool
+fn are_invs_even(kind: &IndexedKind, covered: &mut Covered, triple: &Triple) -> bool
     requires { covered.old.out ≡ triple.now.out }
     ensures same { covered.new ≡ covered.old }
     ensures none { result ≡ true
@@ -40,7 +40,7 @@ fn are_invs_even(kind: &Prepared, covered: &mut Covered, triple: &Triple) -> boo
 
 /// Whether an invocation has no fault: it depends on something left out, or its
 /// responses are equal, and what its events lead to is covered.
-fn is_inv_even(kind: &Prepared, covered: &mut Covered, triple: &Triple, inv: u8) -> bool
+fn is_inv_even(kind: &IndexedKind, covered: &mut Covered, triple: &Triple, inv: u8) -> bool
     requires { covered.old.out ≡ triple.now.out }
     ensures same { covered.new ≡ covered.old }
     ensures none { result ≡ true → inv_fault kind.now covered.old.list 0 triple.now inv ≡ None }
@@ -52,7 +52,7 @@ fn is_inv_even(kind: &Prepared, covered: &mut Covered, triple: &Triple, inv: u8)
 }
 
 /// Whether the states of a triple allow an invocation the same responses.
-fn are_responses_equal(kind: &Prepared, triple: &Triple, inv: u8) -> bool
+fn are_responses_equal(kind: &IndexedKind, triple: &Triple, inv: u8) -> bool
     ensures { result ≡ true
         → first_below kind.now.table.resps (unequal_fault kind.now 0 triple.now inv) ≡ None }
 {
@@ -60,7 +60,7 @@ fn are_responses_equal(kind: &Prepared, triple: &Triple, inv: u8) -> bool
 }
 
 /// Whether what both states come to is covered, for each event of an invocation.
-fn are_taken_covered(kind: &Prepared, covered: &mut Covered, triple: &Triple, inv: u8) -> bool
+fn are_taken_covered(kind: &IndexedKind, covered: &mut Covered, triple: &Triple, inv: u8) -> bool
     requires { covered.old.out ≡ triple.now.out }
     ensures same { covered.new ≡ covered.old }
     ensures none { result ≡ true → first_below (length (events_of kind.now.table.rows))
@@ -81,7 +81,7 @@ fn are_taken_covered(kind: &Prepared, covered: &mut Covered, triple: &Triple, in
 }
 
 /// Whether what both states come to by an event is covered.
-fn is_taken_covered(kind: &Prepared, covered: &mut Covered, triple: &Triple, event: u8) -> bool
+fn is_taken_covered(kind: &IndexedKind, covered: &mut Covered, triple: &Triple, event: u8) -> bool
     requires { covered.old.out ≡ triple.now.out }
     ensures same { covered.new ≡ covered.old }
     ensures none { result ≡ true
@@ -98,7 +98,7 @@ fn is_taken_covered(kind: &Prepared, covered: &mut Covered, triple: &Triple, eve
 }
 
 /// Whether each event left out leads to what is covered.
-fn are_left_out_covered(kind: &Prepared, covered: &mut Covered, triple: &Triple) -> bool
+fn are_left_out_covered(kind: &IndexedKind, covered: &mut Covered, triple: &Triple) -> bool
     requires { covered.old.out ≡ triple.now.out }
     ensures { result ≡ true → first_below (length (events_of kind.now.table.rows))
         (left_out_fault kind.now covered.old.list 0 triple.now) ≡ None }
@@ -113,7 +113,12 @@ fn are_left_out_covered(kind: &Prepared, covered: &mut Covered, triple: &Triple)
 }
 
 /// Whether an event left out leads to what is covered.
-fn is_left_out_covered(kind: &Prepared, covered: &mut Covered, triple: &Triple, event: u8) -> bool
+fn is_left_out_covered(
+    kind: &IndexedKind,
+    covered: &mut Covered,
+    triple: &Triple,
+    event: u8,
+) -> bool
     requires event { event < most_events }
     requires out { covered.old.out ≡ triple.now.out }
     ensures same { covered.new ≡ covered.old }

@@ -20,12 +20,12 @@ mod faultless_walk;
 mod firsts;
 mod groups;
 mod hints;
+mod indexed_kind;
 mod laws;
 mod limits;
 mod pairs;
 mod parts;
 mod places;
-mod prepared;
 mod rules;
 mod triple;
 

@@ -14,7 +14,7 @@ ghost use Rattle.qc_cert.specs.Limits.{most_triples};
 use crate::fault::CertFault;
 use crate::faultless_walk::is_faultless;
 use crate::groups::Grouped;
-use crate::prepared::{Prepared, inv_of};
+use crate::indexed_kind::{IndexedKind, inv_of};
 use crate::triple::Triple;
 use qc_table::{Kind, MOST_EVENTS, tables_are_sound};
 use std::alloc::Global;
@@ -40,7 +40,7 @@ pub fn check(alloc: Global, kind: &Kind, list: &[Triple]) -> Result<(), CertFaul
     ensures exact { OnOk result (IsExact kind.now) }
 {
     tables_are_sound(&kind.table);
-    let kind = Prepared::new(alloc, kind)?;
+    let kind = IndexedKind::new(alloc, kind)?;
     let triples = Grouped::new(alloc, list)?;
     match first_fault(&kind, &triples) {
         Some(fault) => Err(fault),
@@ -49,7 +49,7 @@ pub fn check(alloc: Global, kind: &Kind, list: &[Triple]) -> Result<(), CertFaul
 }
 
 /// The first fault of a list.
-fn first_fault(kind: &Prepared, triples: &Grouped) -> Option<CertFault>
+fn first_fault(kind: &IndexedKind, triples: &Grouped) -> Option<CertFault>
     requires { length triples.now ≤ most_triples }
     ensures { result ≡ fault_of kind.now triples.now }
 {
@@ -84,7 +84,7 @@ fn unless_covered(
 
 /// The first fault of the triples. One that is equal to another before it has
 /// a fault just where that one has, so it isn't looked at.
-fn of_triples(kind: &Prepared, triples: &Grouped) -> Option<CertFault>
+fn of_triples(kind: &IndexedKind, triples: &Grouped) -> Option<CertFault>
     requires { length triples.now ≤ most_triples }
     ensures { result ≡ triples_fault kind.now triples.now 0 triples.now }
 {
@@ -102,7 +102,12 @@ fn of_triples(kind: &Prepared, triples: &Grouped) -> Option<CertFault>
 
 /// The first fault of a triple, which has this place in the list. Most have
 /// none, which a faster walk tells.
-fn of_triple(kind: &Prepared, triples: &Grouped, place: u32, triple: &Triple) -> Option<CertFault>
+fn of_triple(
+    kind: &IndexedKind,
+    triples: &Grouped,
+    place: u32,
+    triple: &Triple,
+) -> Option<CertFault>
     requires { is_covered triples.now triple.now ≡ true }
     ensures { result ≡ triple_fault kind.now triples.now place triple.now }
 {
@@ -125,7 +130,7 @@ fn of_triple(kind: &Prepared, triples: &Grouped, place: u32, triple: &Triple) ->
 /// A search for the first fault of a triple.
 #[derive(Drop)]
 struct Search<'a> {
-    kind: &'a Prepared<'a>,
+    kind: &'a IndexedKind<'a>,
     triples: &'a Grouped<'a>,
     /// The triple's place in the list.
     place: u32,
@@ -243,7 +248,7 @@ impl<'a> Search<'a> {
 
 /// The fault of the lowest response that only one of a triple's states
 /// allows an invocation.
-fn of_responses(kind: &Prepared, place: u32, triple: &Triple, inv: u8) -> Option<CertFault>
+fn of_responses(kind: &IndexedKind, place: u32, triple: &Triple, inv: u8) -> Option<CertFault>
     ensures { result ≡ first_below kind.now.table.resps (unequal_fault kind.now place triple.now inv) }
 {
     tables_are_sound(&kind.plain().table);

@@ -1,7 +1,7 @@
 //! A type with what each triple asks of it, told once for all triples.
 
 ghost use Rattle.std.specs.Prelude.{◌≡◌, ◌+◌, ◌*◌, ◌<◌, IfOk, OnOk, length};
-ghost use Rattle.qc_cert.specs.Prepared.{AreAllowed, AreEvents, AreLegal, AreOwn};
+ghost use Rattle.qc_cert.specs.IndexedKind.{AreAllowed, AreEvents, AreLegal, AreOwn};
 ghost use Rattle.qc_cert.specs.Views.{inv_of};
 ghost use Rattle.qc_table.specs.Limits.{most_events, most_invocations};
 ghost use Rattle.qc_table.specs.Sets.{with_member};
@@ -14,7 +14,7 @@ use std::marker::Model;
 /// A type with the events of each invocation, and the responses of each state,
 /// so that a triple doesn't look for them among all events.
 #[derive(Drop)]
-pub(crate) struct Prepared<'a> {
+pub(crate) struct IndexedKind<'a> {
     kind: &'a Kind,
     /// For each invocation its events, bit k for event k.
     own: Vec<u64>,
@@ -23,25 +23,25 @@ pub(crate) struct Prepared<'a> {
     legal: Vec<u32>,
 }
 
-impl<'a> Model for Prepared<'a> {
-    ghost use Rattle.qc_cert.specs.Prepared.{IsPrepared};
+impl<'a> Model for IndexedKind<'a> {
+    ghost use Rattle.qc_cert.specs.IndexedKind.{IsIndexedKind};
     ghost use Rattle.qc_table.specs.declared.kind.Kind.{Kind};
 
     ghost Value = { Kind };
 
     ghost view = { λ p. p.kind.now };
 
-    ghost invariant = { λ p. IsPrepared p.kind.now p.own.items p.legal.items };
+    ghost invariant = { λ p. IsIndexedKind p.kind.now p.own.items p.legal.items };
 }
 
-impl<'a> Prepared<'a> {
+impl<'a> IndexedKind<'a> {
     /// This type.
-    pub(crate) fn new(alloc: Global, kind: &'a Kind) -> Result<Prepared<'a>, OutOfMemory>
+    pub(crate) fn new(alloc: Global, kind: &'a Kind) -> Result<IndexedKind<'a>, OutOfMemory>
         ensures { IfOk result (λ p. p ≡ kind.now) }
     {
         let own = own_events(alloc, kind)?;
         let legal = legal_responses(alloc, kind)?;
-        Ok(Prepared { kind, own, legal })
+        Ok(IndexedKind { kind, own, legal })
     }
 
     /// The type alone.

@@ -1,6 +1,6 @@
 use Rattle.std.proofs.Common.{◌≡◌, ◌+◌, ◌*◌, length}
 use Rattle.qc_cert.specs.Vocabulary.{AreLegal}
-use Rattle.qc_cert.proofs.prepared.add_state.Given as goal
+use Rattle.qc_cert.proofs.indexed_kind.add_state.Given as goal
 
 abbrev pub invariant-invs : goal.invariant-invs
 invariant-invs l = record {

@@ -1,6 +1,6 @@
 use Rattle.std.proofs.Common.{◌≡◌, ◌*◌, length}
 use Rattle.qc_cert.specs.Vocabulary.{AreLegal}
-use Rattle.qc_cert.proofs.prepared.legal_responses.Given as goal
+use Rattle.qc_cert.proofs.indexed_kind.legal_responses.Given as goal
 
 abbrev pub invariant-states : goal.invariant-states
 invariant-states l = record {

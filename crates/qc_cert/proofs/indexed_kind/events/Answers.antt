@@ -1,8 +1,8 @@
 use Rattle.std.proofs.Common.{◌≡◌, ◌+◌, sym, subst, ◌∙◌}
 use Rattle.qc_cert.proofs.Told.{AreBelow, below_passed, below_with}
 use Rattle.qc_cert.specs.Vocabulary.{inv_of}
-use Rattle.qc_cert.proofs.prepared.events.Goals as goal
-use Rattle.qc_cert.proofs.prepared.events.Goals.{then-inv_of-inv, else-inv_of-inv}
+use Rattle.qc_cert.proofs.indexed_kind.events.Goals as goal
+use Rattle.qc_cert.proofs.indexed_kind.events.Goals.{then-inv_of-inv, else-inv_of-inv}
 
 pub loop-event-preserved : goal.loop-event-preserved
 loop-event-preserved c =

@@ -1,6 +1,6 @@
 use Rattle.std.proofs.Common.{◌≡◌, length}
 use Rattle.qc_cert.specs.Vocabulary.{AreOwn}
-use Rattle.qc_cert.proofs.prepared.own_events.Given as goal
+use Rattle.qc_cert.proofs.indexed_kind.own_events.Given as goal
 
 abbrev pub invariant-invs : goal.invariant-invs
 invariant-invs l = record {

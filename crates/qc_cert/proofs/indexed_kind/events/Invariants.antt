@@ -1,7 +1,7 @@
 use Rattle.std.proofs.Common.{◌≡◌, ◌<◌, ℕ, true}
 use Rattle.qc_cert.specs.Vocabulary.{inv_of}
 use Rattle.qc_table.specs.Vocabulary.{has}
-use Rattle.qc_cert.proofs.prepared.events.Given as goal
+use Rattle.qc_cert.proofs.indexed_kind.events.Given as goal
 
 abbrev pub invariant-loop-event : goal.invariant-loop-event
 invariant-loop-event l = record {

@@ -24,6 +24,6 @@ AreLegal kind sets =
     → AreAllowed kind state inv (slice_index_or sets (state * most_invocations + inv) 0)
 
 -- what is told of a type once
-pub record IsPrepared (kind : Kind) (own legal : List ℕ) : Type 0 where
+pub record IsIndexedKind (kind : Kind) (own legal : List ℕ) : Type 0 where
   pub events : AreOwn kind own
   pub responses : AreLegal kind legal
