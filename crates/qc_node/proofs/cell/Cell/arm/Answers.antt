@@ -10,7 +10,8 @@ invariant_of-self-2 g c =
     c.self.inside.pass =
     subst (λ (b : Bool). IsCell g.N.RunName.tells g.N.RunName.table g.N.RunName.declaration b c.self.inside.process
     c.self.inside.pass) c.if-self.false c.self.invariant in
-    let is : c.in-Some-Armed.field-0 ≡ controls.Armed c.in-Some-Armed.field-0-0 c.in-Some-Armed.kind c.in-Some-Armed.at =
+    let is : c.in-Some-Armed.field-0
+    ≡ controls.Armed c.in-Some-Armed.field-0-0 c.in-Some-Armed.kind c.in-Some-Armed.at =
     first_of (assumption (c.in-Some-Armed.field-0-is), cc (c.in-Some-Armed.field-0-is), cc, search rules) in
     subst (λ (b : Bool). IsCell g.N.RunName.tells g.N.RunName.table g.N.RunName.declaration b c.arm-2.new.self
     c.arm.new.pass) (sym c.if-self.false)
