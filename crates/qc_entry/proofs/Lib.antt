@@ -6,3 +6,4 @@ pub mod Without
 pub mod Members
 pub mod Walks
 mod OneObject
+pub mod Logs

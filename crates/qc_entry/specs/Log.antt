@@ -34,6 +34,11 @@ has_line lines line = list_any (λ l. is_eq (line_cmp l line)) lines
 abbrev pub without : List Line → List Line → List Line
 without lines others = filter (λ l. not (has_line others l)) lines
 
+-- the log of lines in any order: in line order, each once
+abbrev pub log_of : List Line → List Line
+log_of [] = []
+log_of (l ∷ ls) = union (l ∷ []) (log_of ls)
+
 -- a list is sorted and has just the lines of either list
 pub record IsUnion (xs ys zs : List Line) : Type 0 where
   pub ascending : IsAscending zs

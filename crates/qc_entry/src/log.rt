@@ -2,7 +2,7 @@
 
 ghost use Rattle.std.specs.Prelude.{◌≡◌, ◌∷◌, [], OnOk, OnErr, IfOk, unwrap_or};
 ghost use Rattle.qc_entry.specs.Line.{IsAscending};
-ghost use Rattle.qc_entry.specs.Log.{union, of_object, since_stamp, without};
+ghost use Rattle.qc_entry.specs.Log.{log_of, union, of_object, since_stamp, without};
 
 use crate::Line;
 use crate::slices::{all_are_of, behind, both, later, merged, of_one, rest_of};
@@ -38,6 +38,21 @@ impl Log {
         Ok(Log {
             lines: Vec::new(alloc),
         })
+    }
+
+    /// The log of lines in any order, each once: those of either half, merged.
+    pub fn of_lines(alloc: Global, lines: &[Line]) -> Result<Log, OutOfMemory>
+        ensures { IfOk result (λ l. l ≡ log_of lines.now) }
+    {
+        if lines.len() < 2 {
+            return Ok(Log {
+                lines: Vec::from_slice(alloc, lines)?,
+            });
+        }
+        let (front, rest) = lines.split_at(lines.len() / 2);
+        let mut log = Log::of_lines(alloc, front)?;
+        log.merge(&Log::of_lines(alloc, rest)?)?;
+        Ok(log)
     }
 
     /// The lines, in order.

@@ -14,12 +14,12 @@ use Rattle.std.proofs.lemmas.Map.Keys.{le_from_not_gt}
 use Rattle.qc_stamp.specs.declared.stamp.TxId.{TxId}
 use Rattle.qc_stamp.specs.Vocabulary.{tx_cmp}
 use Rattle.qc_stamp.proofs.Orders.{transactions_are_ordered, same_tx_itself, same_tx_is}
-use Rattle.qc_lock.specs.declared.places.Place.{Place}
+use Rattle.qc_lock.specs.declared.holder_set.HolderKey.{HolderKey}
 use Rattle.qc_lock.specs.Vocabulary.{IsFirst, holder_at, is_there, place_cmp, same_tx}
 use Rattle.qc_lock.proofs.NumberedEntries.{cmp_self, nat_self}
 use Rattle.qc_list.proofs.Numbers.{cmp_same}
 
-abbrev pub place : ℕ → ℕ → TxId → Place
+abbrev pub place : ℕ → ℕ → TxId → HolderKey
 place object number tx = record { object = object; number = number; tx = tx }
 
 -- the order of places
@@ -37,7 +37,7 @@ at_once a b up down = let low : a ≤ b = le_from_not_gt a b up in let high : b 
     omega arith
 
 -- what stands between two places of one object and number is of these
-between : (object number : ℕ) (p : Place) (x z : TxId) → is_gt (place_cmp (place object number x) p) ≡ false
+between : (object number : ℕ) (p : HolderKey) (x z : TxId) → is_gt (place_cmp (place object number x) p) ≡ false
     → is_gt (place_cmp p (place object number z)) ≡ false → (p.object ≡ object) × (p.number ≡ number)
 between object number p x z up down =
     let here : object ≡ p.object = at_once object p.object (first_most (nat_cmp object p.object) _ up)
@@ -72,23 +72,23 @@ none_before x y client life number =
 
 -- ranges
 
-abbrev pub From : Bound Place → Place → Type 0
+abbrev pub From : Bound HolderKey → HolderKey → Type 0
 From lo p = IsFromStart place_cmp lo p
 
 not_greater : (o : Ordering) → is_gt o ≡ false → o ≡ Greater → ⊥
 not_greater o most is = both_ways (is_gt o) most (ap is_gt is)
 
-pub none_found : (places : BTreeSet Place) (object number : ℕ) (lo : Bound Place) (test : TxId → Bool)
+pub none_found : (places : BTreeSet HolderKey) (object number : ℕ) (lo : Bound HolderKey) (test : TxId → Bool)
     → ((tx : TxId) → test tx ≡ true → From lo (place object number tx))
     → IsKeyRangeOf place_cmp lo Unbounded places []
     → IsFirst places object number test None
 none_found places object number lo test from range =
     λ tx passes. range.5 refl (place object number tx) (from tx passes, tt)
 
-pub one_found : (places : BTreeSet Place) (object number : ℕ) (lo : Bound Place) (start : TxId) (test : TxId → Bool)
-    (p : Place) (rest : List Place)
+pub one_found : (places : BTreeSet HolderKey) (object number : ℕ) (lo : Bound HolderKey) (start : TxId) (test : TxId → Bool)
+    (p : HolderKey) (rest : List HolderKey)
     → ((tx : TxId) → test tx ≡ true → From lo (place object number tx))
-    → ((q : Place) → From lo q → is_gt (place_cmp (place object number start) q) ≡ false)
+    → ((q : HolderKey) → From lo q → is_gt (place_cmp (place object number start) q) ≡ false)
     → ((tx : TxId) → From lo (place object number tx) → test tx ≡ true)
     → IsKeyRangeOf place_cmp lo Unbounded places (p ∷ rest)
     → IsFirst places object number test (holder_at p object number)
@@ -121,7 +121,7 @@ one_found places object number lo start test p rest from low back range =
 
 -- where the first is the transaction itself, the next after it
 
-pub beside_next : (places : BTreeSet Place) (object number : ℕ) (tx : TxId) (next : Option TxId)
+pub beside_next : (places : BTreeSet HolderKey) (object number : ℕ) (tx : TxId) (next : Option TxId)
     → IsFirst places object number (λ other. true) (Some tx)
     → IsFirst places object number (λ other. is_lt (tx_cmp tx other)) next
     → IsFirst places object number (λ other. not (same_tx other tx)) next

@@ -8,7 +8,7 @@ use Rattle.std.specs.declared.cmp.Ordering.TheVariants.{Less, Equal, Greater}
 use Rattle.std.proofs.lemmas.Bool.{both_ways, or_cases, or_left, or_right}
 use Rattle.qc_stamp.specs.declared.stamp.TxId.{TxId}
 use Rattle.qc_list.specs.Vocabulary.{by_order, inserted}
-use Rattle.qc_lock.specs.declared.places.Place.{Place}
+use Rattle.qc_lock.specs.declared.holder_set.HolderKey.{HolderKey}
 use Rattle.qc_lock.specs.declared.held.Held.{Held}
 use Rattle.qc_lock.specs.Vocabulary.{AreSmall, IsIndex, Narrows, Widens, entry_of, has_line, has_read, held_of}
 use Rattle.qc_lock.specs.Vocabulary.{is_there, same_tx, with_entry, without_held}
@@ -70,7 +70,7 @@ fold_any cmp p xs (o ∷ os) passes = by (or_cases (list_any p (inserted cmp xs 
 
 -- places are small in number as they are added and dropped
 
-small_wide : (before after : BTreeSet Place) (tx : TxId) (test : ℕ → ℕ → Bool) (all : Bool) → AreSmall before
+small_wide : (before after : BTreeSet HolderKey) (tx : TxId) (test : ℕ → ℕ → Bool) (all : Bool) → AreSmall before
     → Widens before after tx test all → AreSmall after
 small_wide before after tx test all small widens =
     λ other a b there. by other a b there (is_there before a b other) refl where
@@ -79,14 +79,14 @@ small_wide before after tx test all small widens =
       by other a b there true is = small other a b is
       by other a b there false is = (widens.within other a b there is).2
 
-small_narrow : (before after : BTreeSet Place) (tx : TxId) (test spared : ℕ → ℕ → Bool) → AreSmall before
+small_narrow : (before after : BTreeSet HolderKey) (tx : TxId) (test spared : ℕ → ℕ → Bool) → AreSmall before
     → Narrows before after tx test spared → AreSmall after
 small_narrow before after tx test spared small narrows =
     λ other a b there. small other a b (and_first (is_there before a b other) _ (sym (narrows other a b) ∙ there))
 
 -- places of other transactions
 
-widens_other : (before after : BTreeSet Place) (tx other : TxId) (test : ℕ → ℕ → Bool) (all : Bool) (a b : ℕ)
+widens_other : (before after : BTreeSet HolderKey) (tx other : TxId) (test : ℕ → ℕ → Bool) (all : Bool) (a b : ℕ)
     → Widens before after tx test all → same_tx other tx ≡ false → is_there after a b other ≡ is_there before a b other
 widens_other before after tx other test all a b widens apart =
     by (is_there before a b other) (is_there after a b other) refl refl where
@@ -97,7 +97,7 @@ widens_other before after tx other test all a b widens apart =
           (subst (λ u. same_tx u tx ≡ true) (sym (widens.within other a b is was).0) (same_tx_itself tx)))
       by false false was is = refl
 
-narrows_other : (before after : BTreeSet Place) (tx other : TxId) (test spared : ℕ → ℕ → Bool) (a b : ℕ)
+narrows_other : (before after : BTreeSet HolderKey) (tx other : TxId) (test spared : ℕ → ℕ → Bool) (a b : ℕ)
     → Narrows before after tx test spared → same_tx other tx ≡ false
     → is_there after a b other ≡ is_there before a b other
 narrows_other before after tx other test spared a b narrows apart =
@@ -107,7 +107,7 @@ narrows_other before after tx other test spared a b narrows apart =
       whole true = refl
       whole false = refl
 
-narrows_own : (before after : BTreeSet Place) (tx : TxId) (test spared : ℕ → ℕ → Bool) (a b : ℕ)
+narrows_own : (before after : BTreeSet HolderKey) (tx : TxId) (test spared : ℕ → ℕ → Bool) (a b : ℕ)
     → Narrows before after tx test spared → is_there after a b tx ≡
     (is_there before a b tx && not (test a b && not (spared a b)))
 narrows_own before after tx test spared a b narrows = narrows tx a b
@@ -115,7 +115,7 @@ narrows_own before after tx test spared a b narrows = narrows tx a b
 
 -- after want of memory: what was added goes
 
-pub index_undone : (places wide after : BTreeSet Place) (tx : TxId) (was : TxId → ℕ → ℕ → Bool) (given : ℕ → ℕ → Bool)
+pub index_undone : (places wide after : BTreeSet HolderKey) (tx : TxId) (was : TxId → ℕ → ℕ → Bool) (given : ℕ → ℕ → Bool)
     (all : Bool)
     → IsIndex places was → Widens places wide tx given all → Narrows wide after tx given (was tx) → IsIndex after was
 index_undone places wide after tx was given all index widens narrows = record {
@@ -145,7 +145,7 @@ index_undone places wide after tx was given all index widens narrows = record {
 
 -- once all is added: of the transaction's own, what it doesn't hold any more goes
 
-pub index_done : (places wide mid after : BTreeSet Place) (tx : TxId) (was now : TxId → ℕ → ℕ → Bool)
+pub index_done : (places wide mid after : BTreeSet HolderKey) (tx : TxId) (was now : TxId → ℕ → ℕ → Bool)
     (given : ℕ → ℕ → Bool)
     → IsIndex places was → Widens places wide tx given true → Narrows wide mid tx given (now tx)
     → Narrows mid after tx (was tx) (now tx)
@@ -194,7 +194,7 @@ index_done places wide mid after tx was now given index widens first second othe
 
 -- where the transaction held nothing before, nothing is left to go
 
-pub narrows_empty : (places : BTreeSet Place) (tx : TxId) (test spared : ℕ → ℕ → Bool) → ((a b : ℕ) → test a b ≡ false)
+pub narrows_empty : (places : BTreeSet HolderKey) (tx : TxId) (test spared : ℕ → ℕ → Bool) → ((a b : ℕ) → test a b ≡ false)
     → Narrows places places tx test spared
 narrows_empty places tx test spared none = λ other a b.
     bools (is_there places a b other) (same_tx other tx)
@@ -207,7 +207,7 @@ narrows_empty places tx test spared none = λ other a b.
 
 -- once a transaction holds nothing
 
-pub index_dropped : (places after : BTreeSet Place) (tx : TxId) (was now : TxId → ℕ → ℕ → Bool)
+pub index_dropped : (places after : BTreeSet HolderKey) (tx : TxId) (was now : TxId → ℕ → ℕ → Bool)
     → IsIndex places was → Narrows places after tx (was tx) (now tx)
     → ((other : TxId) (a b : ℕ) → same_tx other tx ≡ false → now other a b ≡ was other a b)
     → ((a b : ℕ) → now tx a b ≡ false)
@@ -235,7 +235,7 @@ abbrev pub Of : (Held → ℕ → ℕ → Bool) → List Held → TxId → ℕ �
 Of part held tx = part (held_of held tx)
 
 pub put_done : (part : Held → ℕ → ℕ → Bool) (held : List Held) (e : Held) (given : ℕ → ℕ → Bool)
-    (places wide mid after : BTreeSet Place)
+    (places wide mid after : BTreeSet HolderKey)
     → IsIndex places (Of part held) → Widens places wide e.tx given true
     → Narrows wide mid e.tx given (Of part (with_entry held e) e.tx)
     → Narrows mid after e.tx (Of part held e.tx) (Of part (with_entry held e) e.tx)
@@ -246,7 +246,7 @@ put_done part held e given places wide mid after index widens first second withi
     (λ other a b apart. ap (λ h. part h a b) (held-put_other held e other (other_tx_sym other e.tx apart)))
     (λ a b passes. within a b (sym (ap (λ h. part h a b) (held-put held e)) ∙ passes))
 
-pub taken_done : (part : Held → ℕ → ℕ → Bool) (held : List Held) (tx : TxId) (places after : BTreeSet Place)
+pub taken_done : (part : Held → ℕ → ℕ → Bool) (held : List Held) (tx : TxId) (places after : BTreeSet HolderKey)
     → ((a b : ℕ) → part (record { tx = tx; locks = []; own = [] }) a b ≡ false)
     → IsIndex places (Of part held) → Narrows places after tx (Of part held tx) (Of part (without_held held tx) tx)
     → IsIndex after (Of part (without_held held tx))

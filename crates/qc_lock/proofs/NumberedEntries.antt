@@ -18,7 +18,7 @@ use Rattle.qc_stamp.specs.declared.stamp.TxId.{TxId}
 use Rattle.qc_stamp.specs.Vocabulary.{tx_cmp}
 use Rattle.qc_stamp.proofs.Orders.{transactions_are_ordered, same_tx_itself, same_tx_is}
 use Rattle.qc_lock.specs.Vocabulary.{AreBelow, number_of, one_of, put_one}
-use Rattle.qc_lock.specs.Numbered.{same_tx}
+use Rattle.qc_lock.specs.TransactionMap.{same_tx}
 use Rattle.qc_list.proofs.Options.{none_some}
 
 -- orders

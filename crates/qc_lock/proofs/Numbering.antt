@@ -7,7 +7,7 @@ use Rattle.std.specs.Ordering.{nat_cmp}
 use Rattle.qc_stamp.specs.declared.stamp.TxId.{TxId}
 use Rattle.qc_stamp.specs.Vocabulary.{tx_cmp}
 use Rattle.qc_lock.specs.Vocabulary.{AreBelow, AreNumbered, IsOneForEach, number_of}
-use Rattle.qc_lock.specs.Numbered.{same_tx}
+use Rattle.qc_lock.specs.TransactionMap.{same_tx}
 use Rattle.qc_lock.proofs.Ones.{once-put, once-filter}
 use Rattle.qc_lock.proofs.NumberedEntries.{tx_same, values_known, number_known}
 use Rattle.qc_lock.proofs.Numbers.{below_known, values_new, number_new, below_more, below_put, values_taken}

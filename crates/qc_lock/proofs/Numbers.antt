@@ -10,7 +10,7 @@ use Rattle.std.specs.declared.cmp.Ordering.TheVariants.{Less, Equal, Greater}
 use Rattle.std.proofs.lemmas.Map.Keys.{sorted_tail}
 use Rattle.qc_stamp.specs.declared.stamp.TxId.{TxId}
 use Rattle.qc_lock.specs.Vocabulary.{AreBelow, AreOfOthers, IsOneForEach, number_of, one_of, put_one, without_one}
-use Rattle.qc_lock.specs.Numbered.{same_tx}
+use Rattle.qc_lock.specs.TransactionMap.{same_tx}
 use Rattle.qc_lock.proofs.NumberedEntries.{nat_self, below_greater, some_is, Rises, later, number_below, number_none}
 use Rattle.qc_stamp.proofs.Orders.{same_tx_is}
 use Rattle.qc_list.proofs.Options.{none_some}

@@ -4,7 +4,7 @@ use Rattle.std.proofs.Common.{subst}
 use Rattle.qc_stamp.specs.declared.stamp.TxId.{TxId}
 use Rattle.qc_lock.specs.declared.held.Held.{Held}
 use Rattle.qc_lock.specs.Vocabulary.{AreOfOthers, IsOneForEach, one_of, put_one, without_one}
-use Rattle.qc_lock.specs.Numbered.{same_tx}
+use Rattle.qc_lock.specs.TransactionMap.{same_tx}
 use Rattle.qc_stamp.proofs.Orders.{same_tx_itself, same_tx_is, other_tx_sym}
 
 others-put : {A : Type 0} (tx_of : A → TxId) (tx : TxId) (xs : List A) (one : A) → same_tx (tx_of one) tx ≡ false

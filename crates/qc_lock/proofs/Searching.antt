@@ -15,7 +15,7 @@ use Rattle.qc_entry.specs.declared.line.ReadLock.{ReadLock}
 use Rattle.qc_table.specs.Vocabulary.{depends}
 use Rattle.qc_lock.specs.declared.clash.Clash.{Clash}
 use Rattle.qc_lock.specs.declared.held.Held.{Held}
-use Rattle.qc_lock.specs.declared.places.Place.{Place}
+use Rattle.qc_lock.specs.declared.holder_set.HolderKey.{HolderKey}
 use Rattle.qc_lock.specs.Vocabulary.{AreOfOthers, In, IsAppendConflict, IsAppendPlaced, IsFirst, IsIndex, IsPlaced}
 use Rattle.qc_lock.specs.Vocabulary.{IsReadConflict, IsReadPlaced, IsSingle, IsSmallest, append_clash, clash_cmp}
 use Rattle.qc_lock.specs.Vocabulary.{entry_of, has_line, has_read, held_of, is_there, lines_held, read_clash}
@@ -29,18 +29,18 @@ use Rattle.qc_stamp.proofs.Orders.{same_tx_itself, same_tx_is}
 
 -- one invocation with one event
 
-pub none_depends : (relation : List ℕ) (places : BTreeSet Place) (tx : TxId) (object number inv event : ℕ)
+pub none_depends : (relation : List ℕ) (places : BTreeSet HolderKey) (tx : TxId) (object number inv event : ℕ)
     → depends relation inv event ≡ false → IsSmallest (IsPlaced relation places tx object number inv event) None
 none_depends relation places tx object number inv event apart =
     λ d placed. both_ways (depends relation inv event) apart placed.depended
 
-pub none_holds : (relation : List ℕ) (places : BTreeSet Place) (tx : TxId) (object number inv event : ℕ)
+pub none_holds : (relation : List ℕ) (places : BTreeSet HolderKey) (tx : TxId) (object number inv event : ℕ)
     → IsFirst places object number (λ other. not (same_tx other tx)) None
     → IsSmallest (IsPlaced relation places tx object number inv event) None
 none_holds relation places tx object number inv event none =
     λ d placed. both_ways (is_there places object number d.holder) (none d.holder (ap not placed.another)) placed.there
 
-pub one_holds : (relation : List ℕ) (places : BTreeSet Place) (tx : TxId) (object number inv event : ℕ) (holder : TxId)
+pub one_holds : (relation : List ℕ) (places : BTreeSet HolderKey) (tx : TxId) (object number inv event : ℕ) (holder : TxId)
     → depends relation inv event ≡ true
     → IsFirst places object number (λ other. not (same_tx other tx)) (Some holder)
     → IsSmallest (IsPlaced relation places tx object number inv event)
@@ -123,7 +123,7 @@ told_as d tx inv event h i e = λ j. record { holder = sym h j; inv = i j; event
 
 -- reads
 
-read_conflict : (relation : List ℕ) (held : List Held) (places : BTreeSet Place) (tx : TxId) (object inv : ℕ)
+read_conflict : (relation : List ℕ) (held : List Held) (places : BTreeSet HolderKey) (tx : TxId) (object inv : ℕ)
     (d : Clash) → IsIndex places (lines_held held)
     → IsReadPlaced relation places tx object inv d → IsReadConflict relation held tx object inv d
 read_conflict relation held places tx object inv d index found =
@@ -146,7 +146,7 @@ read_conflict relation held places tx object inv d index found =
       told = told_as d holder.0.tx inv line.0.event holder.2 placed.inv_is (placed.event_is ∙ sym event_is);
     }
 
-read_placed : (relation : List ℕ) (held : List Held) (places : BTreeSet Place) (tx : TxId) (object inv : ℕ) (d : Clash)
+read_placed : (relation : List ℕ) (held : List Held) (places : BTreeSet HolderKey) (tx : TxId) (object inv : ℕ) (d : Clash)
     → IsSingle held → IsIndex places (lines_held held)
     → IsReadConflict relation held tx object inv d → IsReadPlaced relation places tx object inv d
 read_placed relation held places tx object inv d single index c =
@@ -167,7 +167,7 @@ read_placed relation held places tx object inv d single index c =
       },
     )
 
-pub read_found : (relation : List ℕ) (held : List Held) (places : BTreeSet Place) (tx : TxId) (object inv : ℕ)
+pub read_found : (relation : List ℕ) (held : List Held) (places : BTreeSet HolderKey) (tx : TxId) (object inv : ℕ)
     (answer : Option Clash) → IsSingle held → IsIndex places (lines_held held)
     → IsSmallest (IsReadPlaced relation places tx object inv) answer → answer ≡ read_clash relation held tx object inv
 read_found relation held places tx object inv answer single index least =
@@ -179,7 +179,7 @@ read_found relation held places tx object inv answer single index least =
 
 -- appends
 
-append_conflict : (relation : List ℕ) (held : List Held) (places : BTreeSet Place) (tx : TxId) (own : List OwnLine)
+append_conflict : (relation : List ℕ) (held : List Held) (places : BTreeSet HolderKey) (tx : TxId) (own : List OwnLine)
     (d : Clash) → IsIndex places (reads_held held)
     → IsAppendPlaced relation places tx own d → IsAppendConflict relation held tx own d
 append_conflict relation held places tx own d index found =
@@ -205,7 +205,7 @@ append_conflict relation held places tx own d index found =
       told = told_as d holder.0.tx lock.0.inv line.event holder.2 (placed.inv_is ∙ sym inv_is) placed.event_is;
     }
 
-append_placed : (relation : List ℕ) (held : List Held) (places : BTreeSet Place) (tx : TxId) (own : List OwnLine)
+append_placed : (relation : List ℕ) (held : List Held) (places : BTreeSet HolderKey) (tx : TxId) (own : List OwnLine)
     (d : Clash) → IsSingle held → IsIndex places (reads_held held)
     → IsAppendConflict relation held tx own d → IsAppendPlaced relation places tx own d
 append_placed relation held places tx own d single index c =
@@ -230,7 +230,7 @@ append_placed relation held places tx own d single index c =
       ),
     )
 
-pub append_found : (relation : List ℕ) (held : List Held) (places : BTreeSet Place) (tx : TxId) (own : List OwnLine)
+pub append_found : (relation : List ℕ) (held : List Held) (places : BTreeSet HolderKey) (tx : TxId) (own : List OwnLine)
     (answer : Option Clash) → IsSingle held → IsIndex places (reads_held held)
     → IsSmallest (IsAppendPlaced relation places tx own) answer → answer ≡ append_clash relation held tx own
 append_found relation held places tx own answer single index least =

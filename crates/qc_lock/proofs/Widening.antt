@@ -12,7 +12,7 @@ use Rattle.std.proofs.lemmas.List.{take-append-drop}
 use Rattle.std.proofs.lemmas.List.Folds.{list_any-append}
 use Rattle.qc_stamp.specs.declared.stamp.TxId.{TxId}
 use Rattle.qc_stamp.specs.Vocabulary.{tx_cmp}
-use Rattle.qc_lock.specs.declared.places.Place.{Place}
+use Rattle.qc_lock.specs.declared.holder_set.HolderKey.{HolderKey}
 use Rattle.qc_lock.specs.Vocabulary.{Narrows, Sets, Widens, is_there, place_cmp, same_tx}
 use Rattle.qc_lock.proofs.Holding.{place}
 use Rattle.qc_lock.proofs.NumberedEntries.{tx_same}
@@ -38,7 +38,7 @@ place_same object number a b tx other =
     ∙ ap (λ t. (object == a) && t) (then_eq (nat_cmp number b) _
     ∙ ap (λ t. t && is_eq (tx_cmp tx other)) (cmp_is_eq number b) ∙ ap (λ t. (number == b) && t) (tx_same tx other))
 
-sets_at : (before after : BTreeSet Place) (object number : ℕ) (tx : TxId) (there : Bool)
+sets_at : (before after : BTreeSet HolderKey) (object number : ℕ) (tx : TxId) (there : Bool)
     → Sets before after object number tx there → (a b : ℕ) (other : TxId)
     → is_there after a b other ≡ cond ((object == a) && ((number == b) && same_tx tx other)) there
     (is_there before a b other)
@@ -47,14 +47,14 @@ sets_at before after object number tx there sets a b other = sets (place a b oth
 
 -- more places
 
-pub widens_none : (places : BTreeSet Place) (tx : TxId) → Widens places places tx (λ a b. false) true
+pub widens_none : (places : BTreeSet HolderKey) (tx : TxId) → Widens places places tx (λ a b. false) true
 widens_none places tx = record {
   kept = λ other a b there. there;
   within = λ other a b there gone. absurd (both_ways (is_there places a b other) gone there);
   done = λ all a b never. absurd (let no_case : ⊥ = cc in no_case);
 }
 
-pub widens_more : (before mid after : BTreeSet Place) (tx : TxId) (test more : ℕ → ℕ → Bool) (object number : ℕ)
+pub widens_more : (before mid after : BTreeSet HolderKey) (tx : TxId) (test more : ℕ → ℕ → Bool) (object number : ℕ)
     → number < 256
     → Widens before mid tx test true → Sets mid after object number tx true → Grows test more object number
     → Widens before after tx more true
@@ -102,7 +102,7 @@ widens_more before mid after tx test more object number small widens sets grows 
       (subst (λ t. (t && same_tx tx tx) ≡ true) (sym parts.1) (same_tx_itself tx)))
 
 -- some of the places, where the next found no memory
-pub widens_part : (before mid after : BTreeSet Place) (tx : TxId) (test more : ℕ → ℕ → Bool)
+pub widens_part : (before mid after : BTreeSet HolderKey) (tx : TxId) (test more : ℕ → ℕ → Bool)
     → Widens before mid tx test true → after.keys ≡ mid.keys → ((a b : ℕ) → test a b ≡ true → more a b ≡ true)
     → Widens before after tx more false
 widens_part before mid after tx test more widens same grows = record {
@@ -124,7 +124,7 @@ part_passes p n xs passes =
 
 -- fewer places
 
-pub narrows_none : (places : BTreeSet Place) (tx : TxId) (spared : ℕ → ℕ → Bool)
+pub narrows_none : (places : BTreeSet HolderKey) (tx : TxId) (spared : ℕ → ℕ → Bool)
     → Narrows places places tx (λ a b. false) spared
 narrows_none places tx spared = λ other a b. by (is_there places a b other) (same_tx other tx) where
   by : (t s : Bool) → t ≡ (t && not (s && false))
@@ -132,7 +132,7 @@ narrows_none places tx spared = λ other a b. by (is_there places a b other) (sa
   by true false = refl
   by false s = refl
 
-pub narrows_more : (before mid after : BTreeSet Place) (tx : TxId) (test more spared : ℕ → ℕ → Bool) (object number : ℕ)
+pub narrows_more : (before mid after : BTreeSet HolderKey) (tx : TxId) (test more spared : ℕ → ℕ → Bool) (object number : ℕ)
     → spared object number ≡ false
     → Narrows before mid tx test spared → Sets mid after object number tx false → Grows test more object number
     → Narrows before after tx more spared
@@ -172,7 +172,7 @@ narrows_more before mid after tx test more spared object number apart narrows se
         turned true is = sym (subst (λ u. same_tx u x ≡ true) (same_tx_is x y is) (same_tx_itself x))
         turned false is = sym (other_tx_sym x y is)
 
-pub narrows_spared : (before mid : BTreeSet Place) (tx : TxId) (test more spared : ℕ → ℕ → Bool) (object number : ℕ)
+pub narrows_spared : (before mid : BTreeSet HolderKey) (tx : TxId) (test more spared : ℕ → ℕ → Bool) (object number : ℕ)
     → spared object number ≡ true
     → Narrows before mid tx test spared → Grows test more object number → Narrows before mid tx more spared
 narrows_spared before mid tx test more spared object number kept narrows grows = λ other a b.

@@ -8,7 +8,7 @@ use Rattle.qc_entry.specs.declared.line.OwnLine.{OwnLine}
 use Rattle.qc_entry.specs.declared.line.ReadLock.{ReadLock}
 pub use Rattle.qc_list.specs.Order.{inserted}
 pub use Rattle.qc_stamp.specs.Order.{same_tx}
-use Rattle.qc_lock.specs.Numbered.{one_of, put_one, without_one}
+use Rattle.qc_lock.specs.TransactionMap.{one_of, put_one, without_one}
 use Rattle.qc_lock.specs.declared.held.Held.{Held}
 
 -- whether two locks are the same

@@ -1,7 +1,7 @@
 pub mod Clash
 pub mod Conflict
 pub mod Held
-pub mod Numbered
-pub mod Places
+pub mod TransactionMap
+pub mod HolderSets
 pub mod Sound
 pub mod Vocabulary

@@ -3,7 +3,7 @@ use Rattle.std.specs.Prelude.{◌+◌, ◌<◌, List, [], ◌∷◌, length}
 use Rattle.qc_list.specs.Vocabulary.{Ascends}
 use Rattle.qc_lock.specs.declared.held.Held.{Held}
 use Rattle.qc_lock.specs.Held.{lock_cmp, own_cmp}
-use Rattle.qc_lock.specs.Numbered.{IsOneForEach}
+use Rattle.qc_lock.specs.TransactionMap.{IsOneForEach}
 
 -- the locks and own lines of each entry ascend
 abbrev pub AreSorted : List Held → Type 0

@@ -4,9 +4,9 @@ ghost use Rattle.std.specs.Prelude.{◌≡◌};
 ghost use Rattle.qc_lock.specs.declared.clash.LockFault.TheVariants.{OutOfMemory};
 ghost use Rattle.qc_lock.specs.Clash.{clash_cmp};
 ghost use Rattle.qc_lock.specs.Conflict.{IsSmallest};
-ghost use Rattle.qc_lock.specs.Places.{AreSmall, IsAppendPlaced, IsLinePlaced, IsPlaced, IsReadPlaced, smaller_of};
+ghost use Rattle.qc_lock.specs.HolderSets.{AreSmall, IsAppendPlaced, IsLinePlaced, IsPlaced, IsReadPlaced, smaller_of};
 
-use crate::places::{Places, holder_beside};
+use crate::holder_set::{HolderSet, holder_beside};
 use qc_entry::OwnLine;
 use qc_list::OutOfMemory;
 use qc_stamp::TxId;
@@ -66,7 +66,7 @@ fn smaller_of(a: Option<Clash>, b: Option<Clash>) -> Option<Clash>
 /// number.
 #[inline(always)]
 fn clash_at(
-    places: &Places,
+    places: &HolderSet,
     relation: &Relation,
     tx: TxId,
     object: u8,
@@ -86,7 +86,7 @@ fn clash_at(
 /// The smallest clash of a read with own lines, by their places. Looked up are
 /// only the events on which its invocation depends.
 pub(crate) fn read_clash(
-    lines: &Places,
+    lines: &HolderSet,
     relation: &Relation,
     tx: TxId,
     object: u8,
@@ -109,7 +109,7 @@ pub(crate) fn read_clash(
 }
 
 /// The smallest clash of an own line with read locks, by their places.
-fn line_clash(locks: &Places, relation: &Relation, tx: TxId, line: &OwnLine) -> Option<Clash>
+fn line_clash(locks: &HolderSet, relation: &Relation, tx: TxId, line: &OwnLine) -> Option<Clash>
     requires { AreSmall locks.now }
     ensures { IsSmallest (IsLinePlaced relation.now locks.now tx line.now) result }
 {
@@ -125,7 +125,7 @@ fn line_clash(locks: &Places, relation: &Relation, tx: TxId, line: &OwnLine) -> 
 
 /// The smallest clash of own lines with read locks, by their places.
 pub(crate) fn append_clash(
-    locks: &Places,
+    locks: &HolderSet,
     relation: &Relation,
     tx: TxId,
     own: &[OwnLine],

@@ -3,9 +3,9 @@
 ghost use Rattle.std.specs.Prelude.{◌≡◌};
 ghost use Rattle.qc_entry.specs.declared.line.OwnLine.{OwnLine};
 ghost use Rattle.qc_lock.specs.Held.{held_of};
-ghost use Rattle.qc_lock.specs.Places.{has_line, has_read};
+ghost use Rattle.qc_lock.specs.HolderSets.{has_line, has_read};
 
-use crate::numbered::{Numbered, OfTransaction};
+use crate::transaction_map::{OfTransaction, TransactionMap};
 use qc_entry::{OwnLine, Owns, ReadLock, Reads};
 use qc_stamp::TxId;
 
@@ -30,9 +30,9 @@ impl OfTransaction for Held {
 
 /// The entries of those that hold something, seen as the list of them in their
 /// order.
-pub(crate) type Entries = Numbered<Held>;
+pub(crate) type Entries = TransactionMap<Held>;
 
-impl Numbered<Held> {
+impl TransactionMap<Held> {
     /// A transaction's read locks.
     pub(crate) fn locks_of(&self, tx: TxId) -> &[ReadLock]
         ensures { result.now ≡ (held_of self.now tx).locks }

@@ -18,17 +18,17 @@
 //! are trees. A read looks once for each event on which its invocation depends,
 //! and an append once for each invocation that depends on one of its lines.
 //!
-//! `Numbered` keeps what transactions have, one each, in the order in which they
+//! `TransactionMap` keeps what transactions have, one each, in the order in which they
 //! came to have it: the entries here, and what a site has promised.
 #![tactic(auto)]
 
 mod clash;
 mod held;
+mod holder_set;
 mod laws;
 mod locks;
-mod numbered;
-mod places;
 mod sorted;
+mod transaction_map;
 
 pub use clash::{Clash, LockFault};
 pub use held::Held;
@@ -38,4 +38,4 @@ pub use laws::{
     transactions_hold_what_is_given,
 };
 pub use locks::{Locks, locks_are_sound};
-pub use numbered::{Numbered, OfTransaction};
+pub use transaction_map::{OfTransaction, TransactionMap};

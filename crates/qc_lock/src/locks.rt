@@ -7,12 +7,12 @@ ghost use Rattle.qc_lock.specs.Clash.{read_clash, append_clash, IsTold};
 ghost use Rattle.qc_lock.specs.Held.{lock_cmp, own_cmp, held_of, has_lock, is_held};
 ghost use Rattle.qc_lock.specs.Held.{with_entry, with_held, without_held};
 ghost use Rattle.qc_list.specs.Order.{Ascends};
-ghost use Rattle.qc_lock.specs.Places.{has_line, has_read, lines_held, reads_held};
+ghost use Rattle.qc_lock.specs.HolderSets.{has_line, has_read, lines_held, reads_held};
 ghost use Rattle.qc_lock.specs.Sound.{IsSound};
 
 use crate::clash::{self, Clash, LockFault};
 use crate::held::{Entries, Held};
-use crate::places::Index;
+use crate::holder_set::Index;
 use crate::sorted::with_all;
 use qc_entry::{OwnLine, Prepared, ReadLock};
 use qc_list::OutOfMemory;
@@ -33,7 +33,7 @@ pub struct Locks {
 impl Model for Locks {
     ghost use Rattle.std.specs.Prelude.{List};
     ghost use Rattle.qc_lock.specs.declared.held.Held.{Held};
-    ghost use Rattle.qc_lock.specs.Places.{AreIndexed};
+    ghost use Rattle.qc_lock.specs.HolderSets.{AreIndexed};
 
     ghost Value = { List Held };
 
@@ -162,7 +162,7 @@ impl Locks {
 
     /// Puts an entry in the place of its transaction's, or last where there is
     /// none. It holds only what the transaction held before, and what is given.
-    /// Places that nothing needs in the end, as after want of memory, go.
+    /// Keys that nothing needs in the end, as after want of memory, go.
     fn put(&mut self, entry: Held, locks: &[ReadLock], own: &[OwnLine]) -> Result<(), OutOfMemory>
         requires full { 0 < length entry.locks + length entry.own }
         requires locks { Ascends lock_cmp entry.locks }

@@ -12,14 +12,14 @@ use crate::clock::clock_after;
 use qc_decl::Declaration;
 use qc_entry::{Log, Prepared};
 use qc_list::OutOfMemory;
-use qc_lock::{Locks, Numbered};
+use qc_lock::{Locks, TransactionMap};
 use qc_msg::{FIRST_EPOCH, Message, Turn};
 use qc_stamp::{Clock, FIRST_LIFE};
 use std::alloc::Global;
 use std::marker::Model;
 
 /// Promises, at most one of a transaction, in the order in which they were made.
-pub type Promises = Numbered<Prepared>;
+pub type Promises = TransactionMap<Prepared>;
 
 /// What a site's records give as it rises.
 #[derive(Drop)]

@@ -7,7 +7,7 @@ use Rattle.qc_list.specs.Vocabulary.{In}
 use Rattle.qc_list.proofs.Members.{In-second, In-unfiltered, In-either}
 use Rattle.qc_entry.proofs.Union.{ascending-union}
 use Rattle.theory_marks.specs.Laws.{ClientLaws, ExchangeLaws, HadLine, IsTrueLog, IsWaiting}
-use Rattle.theory_marks.proofs.Logs.{ascending-log, of_log}
+use Rattle.qc_entry.proofs.Logs.{ascending-log, of_log}
 use Rattle.theory_marks.specs.Acts.{Allowed, CountRead, counts_read, first_life, known_after}
 use Rattle.theory_marks.specs.Exchange.{Client, Exchange, ReadGrant, Request, count_of, had}
 use Rattle.theory_marks.proofs.Clients.{first_other, first_same, had_with, other_waits, put_other}

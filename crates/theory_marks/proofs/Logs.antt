@@ -1,42 +1,11 @@
 -- Lists of lines, and the logs that have the same ones.
-use Rattle.std.proofs.Common.{◌≡◌, ℕ, ◌≤◌, ◌==◌, inl, inr, Bool, true, false, cond, ◌&&◌, nat_le, List, [], ◌∷◌, ◌++◌}
+use Rattle.std.proofs.Common.{◌≡◌, ℕ, ◌≤◌, ◌==◌, Bool, true, false, cond, ◌&&◌, nat_le, List, ◌++◌}
 use Rattle.std.proofs.Common.{length, drop, refl, sym, ap, ◌∙◌, subst, eqb-true, le-leb}
 use Rattle.qc_entry.specs.declared.line.Line.{Line}
-use Rattle.qc_entry.specs.Vocabulary.{IsAscending, of_object, union}
-use Rattle.qc_list.specs.Vocabulary.{In}
-use Rattle.qc_list.proofs.Members.{In-first, In-second, In-either}
-use Rattle.qc_entry.proofs.Union.{ascending-union, in_either, in_first, in_second}
-use Rattle.qc_entry.proofs.Members.{ascending-same}
+use Rattle.qc_entry.specs.Vocabulary.{of_object, union}
+use Rattle.qc_entry.proofs.Logs.{log-append}
 use Rattle.theory_marks.specs.Marks.{Arrivals, KnownLog, Mark, learned, lines_told, log_of, mark_of, told}
 use Rattle.theory_marks.proofs.Lists.{fronts, of-append}
-
-pub ascending-log : (xs : List Line) → IsAscending (log_of xs)
-ascending-log [] = tt
-ascending-log (x ∷ xs) = ascending-union (x ∷ []) (log_of xs) (tt, tt) (ascending-log xs)
-
-pub in_log : (l : Line) (xs : List Line) → In l xs → In l (log_of xs)
-in_log l [] h = absurd h
-in_log l (x ∷ xs) (inl e) = in_first l (x ∷ []) (log_of xs) (inl e)
-in_log l (x ∷ xs) (inr h) = in_second l (x ∷ []) (log_of xs) (in_log l xs h)
-
-pub of_log : (l : Line) (xs : List Line) → In l (log_of xs) → In l xs
-of_log l [] h = h
-of_log l (x ∷ xs) h =
-    elim (in_either l (x ∷ []) (log_of xs) h)
-    [ inl (inl e) ↦ inl e | inl (inr n) ↦ absurd n | inr t ↦ inr (of_log l xs t) ]
-
-pub log-append : (xs ys : List Line) → union (log_of xs) (log_of ys) ≡ log_of (xs ++ ys)
-log-append xs ys =
-    ascending-same (union (log_of xs) (log_of ys)) (log_of (xs ++ ys))
-    (ascending-union (log_of xs) (log_of ys) (ascending-log xs) (ascending-log ys)) (ascending-log (xs ++ ys))
-    (λ l h. in_log l (xs ++ ys)
-    (elim (in_either l (log_of xs) (log_of ys) h)
-    [ inl a ↦ In-first l xs ys (of_log l xs a) | inr b ↦ In-second l xs ys (of_log l ys b) ]))
-    (λ l h. elim (In-either l xs ys (of_log l (xs ++ ys) h)) [
-      | inl a ↦ in_first l (log_of xs) (log_of ys) (in_log l xs a)
-      | inr b ↦ in_second l (log_of xs) (log_of ys)
-          (in_log l ys b)
-    ])
 
 -- What a counted answer makes known is all that the site had: `then` is the site of the mark, `by` the one that
 -- answered.

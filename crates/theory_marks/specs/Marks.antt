@@ -2,6 +2,7 @@
 use Rattle.std.specs.Prelude.{ℕ, ◌==◌, ◌&&◌, nat_le, Bool, if◌then◌else◌, List, [], ◌∷◌, ◌++◌, length, drop}
 use Rattle.qc_entry.specs.declared.line.Line.{Line}
 use Rattle.qc_entry.specs.Vocabulary.{of_object, union, without}
+pub use Rattle.qc_entry.specs.Vocabulary.{log_of}
 
 -- A site: its life, the epoch that it has installed, and the lines of its log in the order in which they joined it
 -- since it rose or installed, whichever came later. Those that joined in one turn stand in line order.
@@ -13,11 +14,6 @@ pub record Arrivals : Type 0 where
 -- the lines that the list lacks, which are given in line order, join it in one turn
 abbrev pub with_arrivals : List Line → List Line → List Line
 with_arrivals arrived lines = arrived ++ without lines arrived
-
--- lines in line order, each once
-abbrev pub log_of : List Line → List Line
-log_of [] = []
-log_of (l ∷ ls) = union (l ∷ []) (log_of ls)
 
 -- how much of a site's log of an object a client was told
 pub record Mark : Type 0 where

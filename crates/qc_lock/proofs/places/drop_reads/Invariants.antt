@@ -1,6 +1,0 @@
-use Rattle.std.proofs.Common.{take}
-use Rattle.qc_lock.specs.Vocabulary.{Narrows, has_read}
-use Rattle.qc_lock.proofs.places.drop_reads.Given as goal
-
-abbrev pub invariant-locks : goal.invariant-locks
-invariant-locks l = Narrows l.initial.places l.places l.tx (has_read (take l.lock-index l.locks)) (has_read l.kept)
