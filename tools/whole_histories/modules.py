@@ -74,7 +74,7 @@ VARIANTS = (
 
 
 # What messages and records carry, by its fields.
-PAYLOADS = ("grant_with", "read_of", "snapshot_with", "start_with")
+PAYLOADS = ("whole_grant", "first_read", "snapshot_with", "start_with")
 
 
 def words_of(text):

@@ -60,7 +60,7 @@ def prepared(p):
 
 def answer(a):
     fields = {
-        "Granted": lambda: (term("grant_with", a.life, a.clock, listed(map(line, a.log))),),
+        "Granted": lambda: (term("whole_grant", a.life, a.clock, listed(map(line, a.log))),),
         "Clash": lambda: (tx(a.holder), a.inv, a.event),
         "Closed": lambda: (a.epoch,),
         "Behind": lambda: (a.epoch,),
@@ -77,7 +77,7 @@ def answer(a):
 
 def want(q):
     if kind(q) == "Read":
-        return term("wants.Read", term("read_of", q.object, q.inv))
+        return term("wants.Read", term("first_read", q.object, q.inv))
     if kind(q) == "Append":
         return term("wants.Append", q.object, listed(map(line, q.view)), listed(map(own_line, q.own)))
     return "wants.Prepare"

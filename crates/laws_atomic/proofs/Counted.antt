@@ -6,12 +6,11 @@ use Rattle.std.specs.Prelude.{is_none}
 use Rattle.std.specs.List.{find}
 use Rattle.qc_stamp.specs.declared.stamp.TxId.{TxId}
 use Rattle.qc_list.specs.Vocabulary.{In}
-use Rattle.qc_entry.specs.declared.line.Line.{Line}
 use Rattle.qc_msg.specs.declared.message.Answer.{Answer}
 use Rattle.qc_msg.specs.declared.message.Answer.TheVariants as answers
 use Rattle.qc_msg.specs.declared.message.Want.{Want}
 use Rattle.qc_msg.specs.declared.message.Want.TheVariants.{Read, Append, Prepare}
-use Rattle.qc_msg.specs.Vocabulary.{grant_with}
+use Rattle.qc_msg.specs.declared.payload.Grant.{Grant}
 use Rattle.qc_promise.specs.Vocabulary.{Account, ClientRequest, Current, counted, counted_for, granted, is_append}
 use Rattle.qc_promise.specs.Vocabulary.{is_open, is_prepare, lived, promised, taken_for, told_by, with_read}
 use Rattle.laws_due.proofs.OpenRequests.{IsFound, found}
@@ -74,15 +73,14 @@ nothing_told w d = record {
   current = all_itself w d.current;
 }
 
-grant_told : (d : Account) (site life clock : ℕ) (log : List Line) (w : Want)
-    → IsTold w d (granted d site life clock log w)
-grant_told d site life clock log (Read read) = record {
+grant_told : (d : Account) (site : ℕ) (x : Grant) (w : Want) → IsTold w d (granted d site x w)
+grant_told d site x (Read read) = record {
   client = refl;
   command = refl;
   requests = refl;
   written = refl;
   clock = omega arith;
-  current = changed (Read read) (λ (t : Current). with_read (lived t site life) read.object log)
+  current = changed (Read read) (λ (t : Current). with_read (lived t site x.life) read.object x.log)
       (λ t. record {
         tx = refl;
         epoch = refl;
@@ -92,16 +90,16 @@ grant_told d site life clock log (Read read) = record {
         grants = λ is. absurd (let never : ⊥ = cc in never);
       }) d.current;
 }
-grant_told d site life clock log (Append object view own) = record {
+grant_told d site x (Append object view own) = record {
   client = refl;
   command = refl;
   requests = refl;
   written = refl;
   clock = omega arith;
-  current = changed (Append object view own) (λ (t : Current). lived t site life)
+  current = changed (Append object view own) (λ (t : Current). lived t site x.life)
       (λ t. record { tx = refl; epoch = refl; ops = refl; own = refl; doomed = refl; grants = λ is. refl }) d.current;
 }
-grant_told d site life clock log Prepare = nothing_told Prepare d
+grant_told d site x Prepare = nothing_told Prepare d
 
 promise_told : (d : Account) (clock : ℕ) (w : Want) → IsTold w d (promised d clock w)
 promise_told d clock (Read read) = nothing_told (Read read) d
@@ -117,7 +115,7 @@ promise_told d clock Prepare = record {
 
 pub told : (d : Account) (q : ClientRequest) (answer : Option Answer) → IsTold q.want d (told_by d q answer)
 told d q None = nothing_told q.want d
-told d q (Some (answers.Granted grant)) = grant_told d q.site grant.life grant.clock grant.log q.want
+told d q (Some (answers.Granted grant)) = grant_told d q.site grant q.want
 told d q (Some (answers.Clash holder inv event)) = nothing_told q.want d
 told d q (Some (answers.Closed epoch)) =
     record {
@@ -220,22 +218,21 @@ not_found n (p ∷ qs) none o = by (is_open n p) refl none o.among (not_found n 
 abbrev pub AsksForGrants : ℕ → List ClientRequest → Type 0
 AsksForGrants n qs = (q : ClientRequest) → In q qs → q.number ≡ n → q.taken ≡ None → is_prepare q.want ≡ false
 
-granted_passes : (d : Account) (site life clock : ℕ) (log : List Line) (w : Want) → is_prepare w ≡ false
-    → clock ≤ (granted d site life clock log w).clock
-granted_passes d site life clock log (Read read) is = omega arith
-granted_passes d site life clock log (Append object view own) is = omega arith
-granted_passes d site life clock log Prepare is = absurd (let never : ⊥ = cc in never)
+granted_passes : (d : Account) (site : ℕ) (x : Grant) (w : Want) → is_prepare w ≡ false
+    → x.clock ≤ (granted d site x w).clock
+granted_passes d site x (Read read) is = omega arith
+granted_passes d site x (Append object view own) is = omega arith
+granted_passes d site x Prepare is = absurd (let never : ⊥ = cc in never)
 
 -- the clock passes that of a grant which counts
-pub passes : (n : ℕ) (d : Account) (life clock : ℕ) (log : List Line) → IsOpen n d.requests → AsksForGrants n d.requests
-    → clock ≤ (counted d n (Some (answers.Granted (grant_with life clock log)))).clock
-passes n d life clock log o asks = by (find (is_open n) d.requests) refl
+pub passes : (n : ℕ) (d : Account) (x : Grant) → IsOpen n d.requests → AsksForGrants n d.requests
+    → x.clock ≤ (counted d n (Some (answers.Granted x))).clock
+passes n d x o asks = by (find (is_open n) d.requests) refl
   where
     by : (f : Option ClientRequest) → find (is_open n) d.requests ≡ f
-        → clock ≤ (counted_for d n (Some (answers.Granted (grant_with life clock log))) f).clock
+        → x.clock ≤ (counted_for d n (Some (answers.Granted x)) f).clock
     by None none = absurd (not_found n d.requests none o)
     by (Some q) is =
         let f : IsFound n d.requests q = found n d.requests q is in
-        granted_passes (record d
-        { requests = taken_for n (Some (answers.Granted (grant_with life clock log))) d.requests }) q.site
-        life clock log q.want (asks q f.among f.number_is (none_taken q.taken f.open_still))
+        granted_passes (record d { requests = taken_for n (Some (answers.Granted x)) d.requests }) q.site x q.want
+        (asks q f.among f.number_is (none_taken q.taken f.open_still))

@@ -47,7 +47,7 @@ module _ (decl : Declaration) (number : ℕ) where
   at_first s (inputs.Got e) calm w =
       state_cases (IsAtFirst number) decl (passed s e.message) e.from e.number e.message
       (record { number_is = w.number_is; life_is = w.life_is; epoch_is = w.epoch_is; is_open = w.is_open })
-      (λ tx epoch life object inv is. record {
+      (λ tx epoch life r is. record {
         number_is = w.number_is;
         life_is = w.life_is;
         epoch_is = w.epoch_is;

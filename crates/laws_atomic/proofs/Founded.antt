@@ -10,20 +10,20 @@ use Rattle.qc_msg.specs.declared.message.Answer.TheVariants.{Granted}
 use Rattle.qc_msg.specs.declared.message.Envelope.{Envelope}
 use Rattle.qc_msg.specs.declared.message.Message.TheVariants.{Answer, Request}
 use Rattle.qc_msg.specs.declared.message.Want.{Want}
+use Rattle.qc_msg.specs.declared.payload.Grant.{Grant}
 use Rattle.qc_msg.specs.declared.record.Record.TheVariants as records
 use Rattle.qc_msg.specs.declared.step.Input.TheVariants as inputs
 use Rattle.qc_msg.specs.Vocabulary.{Deed, Sends, Takes, Writes}
-use Rattle.qc_msg.specs.Vocabulary.{grant_with}
 use Rattle.qc_promise.specs.Vocabulary.{is_prepare}
 use Rattle.laws_atomic.proofs.Seeing.{IsUpTo}
 
 pub record AreFounded (commits : List Commit) (ds : List Deed) : Type 0 where
   pub wrote : (c : Commit) → In (Writes (records.Commit c)) ds → In c commits
-  pub lines : (e : Envelope) → In (Takes (inputs.Got e)) ds → (to life clock : ℕ) (log : List Line)
-      → e.message ≡ Answer to (Granted (grant_with life clock log))
-      → (l : Line) → In l log → IsUpTo commits l.tx clock
-  pub asked : (e : Envelope) → In (Takes (inputs.Got e)) ds → (to life clock : ℕ) (log : List Line)
-      → e.message ≡ Answer to (Granted (grant_with life clock log))
+  pub lines : (e : Envelope) → In (Takes (inputs.Got e)) ds → (to : ℕ) (x : Grant)
+      → e.message ≡ Answer to (Granted x)
+      → (l : Line) → In l x.log → IsUpTo commits l.tx x.clock
+  pub asked : (e : Envelope) → In (Takes (inputs.Got e)) ds → (to : ℕ) (x : Grant)
+      → e.message ≡ Answer to (Granted x)
       → (site : ℕ) (tx : TxId) (epoch at : ℕ) (want : Want) → In (Sends to site (Request tx epoch at want)) ds
       → is_prepare want ≡ false
 
@@ -31,7 +31,7 @@ pub founded-first : (commits : List Commit) (xs ys : List Deed) → AreFounded c
 founded-first commits xs ys f = record {
   wrote = λ c among. f.wrote c (In-first (Writes (records.Commit c)) xs ys among);
   lines = λ e among. f.lines e (In-first (Takes (inputs.Got e)) xs ys among);
-  asked = λ e among to life clock log is site tx epoch at want sent. f.asked e
-      (In-first (Takes (inputs.Got e)) xs ys among) to life clock log is site tx epoch at want
+  asked = λ e among to x is site tx epoch at want sent. f.asked e
+      (In-first (Takes (inputs.Got e)) xs ys among) to x is site tx epoch at want
       (In-first (Sends to site (Request tx epoch at want)) xs ys sent);
 }

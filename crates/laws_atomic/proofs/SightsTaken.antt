@@ -1,5 +1,5 @@
 -- What a client takes keeps its sight and the account of its deeds in agreement.
-use Rattle.std.proofs.Common.{[], ◌≡◌, ◌≢◌, ℕ, ◌+◌, ◌==◌, ◌||◌, not, Bool, true, false, cond, List, ◌∷◌, ◌++◌, ◌⊎◌, inl}
+use Rattle.std.proofs.Common.{[], ◌≡◌, ◌≢◌, ℕ, ◌==◌, ◌||◌, not, Bool, true, false, cond, List, ◌∷◌, ◌++◌, ◌⊎◌, inl}
 use Rattle.std.proofs.Common.{inr, filter, map, Some, None, refl, sym, ap, ◌∙◌, subst, eq-eqb, eqb-true}
 use Rattle.std.specs.List.{list_any}
 use Rattle.qc_stamp.specs.declared.stamp.TxId.{TxId}
@@ -10,7 +10,7 @@ use Rattle.qc_entry.specs.declared.record.Commit.{Commit}
 use Rattle.qc_msg.specs.declared.message.Answer.{Answer}
 use Rattle.qc_msg.specs.declared.message.Answer.TheVariants as answers
 use Rattle.qc_msg.specs.declared.step.Command.{Command}
-use Rattle.qc_msg.specs.Vocabulary.{grant_with}
+use Rattle.qc_msg.specs.declared.payload.Grant.{Grant}
 use Rattle.qc_promise.specs.Vocabulary.{Account, HasBefore, Sight, Status, answered, counted, is_begun, sees, waits}
 use Rattle.qc_promise.specs.Seen.{granted}
 use Rattle.laws_atomic.proofs.Counted.{AsksForGrants, IsCounted, IsOpen, counts, passes}
@@ -114,11 +114,8 @@ module _ (commits : List Commit) (tx : TxId) (d : Account) (s : Sight) (wrote : 
 
   -- a grant's lines have records that its clock has passed, and none of its requests was for a promise
   pub record IsFounded (n : ℕ) (answer : Answer) : Type 0 where
-    pub lines : (life clock : ℕ) (log : List Line) → answer ≡ answers.Granted (grant_with life clock log) → (l : Line)
-        → In l log
-        → IsUpTo commits l.tx clock
-    pub asked : (life clock : ℕ) (log : List Line) → answer ≡ answers.Granted (grant_with life clock log)
-        → AsksForGrants n d.requests
+    pub lines : (x : Grant) → answer ≡ answers.Granted x → (l : Line) → In l x.log → IsUpTo commits l.tx x.clock
+    pub asked : (x : Grant) → answer ≡ answers.Granted x → AsksForGrants n d.requests
 
   of_lines : (clock : ℕ) (log : List Line) → ((l : Line) → In l log → IsUpTo commits l.tx clock) → (t : TxId)
       → In t (map (λ (l : Line). l.tx) log) → IsUpTo commits t clock
@@ -130,8 +127,8 @@ module _ (commits : List Commit) (tx : TxId) (d : Account) (s : Sight) (wrote : 
       → In t (map (λ (l : Line). l.tx) (granted answer)) → IsUpTo commits t (counted d n (Some answer)).clock
   of_answer n (answers.Granted grant) f o t among =
       higher commits t grant.clock (counted d n (Some (answers.Granted grant))).clock
-      (passes n d grant.life grant.clock grant.log o (f.asked grant.life grant.clock grant.log refl))
-      (of_lines grant.clock grant.log (f.lines grant.life grant.clock grant.log refl) t among)
+      (passes n d grant o (f.asked grant refl))
+      (of_lines grant.clock grant.log (f.lines grant refl) t among)
   of_answer n (answers.Clash holder inv event) f o t among = absurd among
   of_answer n (answers.Closed epoch) f o t among = absurd among
   of_answer n (answers.Behind epoch) f o t among = absurd among

@@ -14,6 +14,7 @@ use Rattle.qc_msg.specs.declared.message.Outcome.{Outcome}
 use Rattle.qc_msg.specs.declared.message.Outcome.TheVariants as outcomes
 use Rattle.qc_msg.specs.declared.message.Want.{Want}
 use Rattle.qc_msg.specs.declared.message.Want.TheVariants.{Read, Append, Prepare}
+use Rattle.qc_msg.specs.declared.payload.ReadRequest.{ReadRequest}
 use Rattle.qc_msg.specs.declared.step.Input.{Input}
 use Rattle.qc_msg.specs.declared.step.Input.TheVariants as inputs
 use Rattle.qc_msg.specs.Vocabulary.{quiet}
@@ -30,16 +31,15 @@ one_of : (t : Bool) (m n : SiteMove) → Silent m → Silent n → Silent (if t 
 one_of true m n first second = first
 one_of false m n first second = second
 
-reads_silent : (decl : Declaration) (s : SiteState) (from number : ℕ) (tx : TxId) (object inv : ℕ) (o : Option Conflict)
-    → Silent (reads_by decl s from number tx object inv o)
-reads_silent decl s from number tx object inv None = refl
-reads_silent decl s from number tx object inv (Some c) = refl
+reads_silent : (decl : Declaration) (s : SiteState) (from number : ℕ) (tx : TxId) (r : ReadRequest)
+    (o : Option Conflict) → Silent (reads_by decl s from number tx r o)
+reads_silent decl s from number tx r None = refl
+reads_silent decl s from number tx r (Some c) = refl
 
 grants_silent : (decl : Declaration) (s : SiteState) (from number : ℕ) (tx : TxId) (want : Want)
     → Silent (grants decl s from number tx want)
 grants_silent decl s from number tx (Read read) =
-    reads_silent decl s from number tx read.object read.inv
-    (read_clash (relation_at decl read.object) s.held tx read.object read.inv)
+    reads_silent decl s from number tx read (read_clash (relation_at decl read.object) s.held tx read.object read.inv)
 grants_silent decl s from number tx (Append object view own) = by (append_clash (relation_at decl object) s.held tx own)
   where
     by : (o : Option Conflict) → Silent (appends_by decl s from number tx view own o)

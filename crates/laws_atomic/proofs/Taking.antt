@@ -93,12 +93,12 @@ module _ (decl : Declaration) (client : ℕ) (commits : List Commit) (tx : TxId)
         by (messages.Answer to answer) is =
             answer_sees commits tx account_of s wrote st w (unwritten_of decl account_of c tied) to answer
             (record {
-              lines = λ life clock log same. f.lines e (In-last (Takes (inputs.Got e)) ds) to life clock log
-                  (is ∙ ap (λ (x : Answer). messages.Answer to x) same);
-              asked = λ life clock log same q among number untaken.
+              lines = λ x same. f.lines e (In-last (Takes (inputs.Got e)) ds) to x
+                  (is ∙ ap (λ (a : Answer). messages.Answer to a) same);
+              asked = λ x same q among number untaken.
                   (let a : IsAwaited ds q = open_requests_were_sent decl client ds q among untaken in
-                  f.asked e (In-last (Takes (inputs.Got e)) ds) to life clock log
-                  (is ∙ ap (λ (x : Answer). messages.Answer to x) same) q.site a.tx a.epoch q.life q.want
+                  f.asked e (In-last (Takes (inputs.Got e)) ds) to x
+                  (is ∙ ap (λ (a : Answer). messages.Answer to a) same) q.site a.tx a.epoch q.life q.want
                   (In-first (Sends to q.site (messages.Request a.tx a.epoch q.life q.want)) ds
                   (Takes (inputs.Got e) ∷ [])
                   (subst (λ (k : ℕ). In (Sends k q.site (messages.Request a.tx a.epoch q.life q.want)) ds) number

@@ -8,7 +8,7 @@ use Rattle.qc_decl.specs.Vocabulary.{first_site, read_need_of}
 use Rattle.qc_decl.specs.declared.declaration.Declaration.{Declaration}
 use Rattle.qc_msg.specs.declared.message.Answer.{Answer}
 use Rattle.qc_msg.specs.declared.message.Want.TheVariants.{Read}
-use Rattle.qc_msg.specs.Vocabulary.{read_of}
+use Rattle.qc_msg.specs.Vocabulary.{first_read}
 use Rattle.qc_msg.specs.declared.step.Command.TheVariants as commands
 use Rattle.qc_plan.specs.declared.standing.Asked.{Asked}
 use Rattle.qc_plan.specs.declared.standing.Verdict.TheVariants as verdicts
@@ -92,7 +92,7 @@ goes_of decl d c (rests r) = asks_none r.requests
 goes_of decl d c (reads r) =
     does_read (record { object = r.object; inv = r.inv; t = r.t; runs = r.runs; all = of_reads d.requests r.reads })
   where
-    of_reads : (qs : List ClientRequest) → Every (λ (q : ClientRequest). q.want ≡ Read (read_of r.object r.inv)) qs
+    of_reads : (qs : List ClientRequest) → Every (λ (q : ClientRequest). q.want ≡ Read (first_read r.object r.inv)) qs
         → Every (λ (q : ClientRequest). is_read q.want ≡ true) qs
     of_reads [] all = tt
     of_reads (q ∷ qs) all = (ap is_read all.0, of_reads qs all.1)

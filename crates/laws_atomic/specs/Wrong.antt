@@ -11,7 +11,7 @@ use Rattle.qc_msg.specs.declared.record.Record.TheVariants as records
 use Rattle.qc_msg.specs.declared.reply.Reply.TheVariants.{Began, Committed, Dropped}
 use Rattle.qc_msg.specs.declared.step.Step.TheVariants.{Got, Lost, Sent, Told, Wrote}
 use Rattle.qc_msg.specs.Vocabulary.{Entry, marked}
-use Rattle.qc_msg.specs.Vocabulary.{grant_with, read_of}
+use Rattle.qc_msg.specs.Vocabulary.{first_read, whole_grant}
 use Rattle.qc_stamp.specs.declared.stamp.Stamp.{Stamp}
 use Rattle.qc_stamp.specs.declared.stamp.TxId.{TxId}
 
@@ -48,10 +48,10 @@ abbrev pub begins : TxId → Entry
 begins tx = marked 1 (Told (Began tx))
 
 abbrev pub asks : Entry
-asks = marked 1 (Sent 0 0 (Request first 1 0 (Read (read_of 0 0))))
+asks = marked 1 (Sent 0 0 (Request first 1 0 (Read (first_read 0 0))))
 
 abbrev pub is_granted : Entry
-is_granted = marked 0 (Sent 1 1 (Answer 0 (Granted (grant_with 1 5 (line ∷ [])))))
+is_granted = marked 0 (Sent 1 1 (Answer 0 (Granted (whole_grant 1 5 (line ∷ [])))))
 
 abbrev pub hears : Entry
 hears = marked 1 (Got 1)

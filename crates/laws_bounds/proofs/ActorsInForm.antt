@@ -1,5 +1,5 @@
 -- An actor in form goes on so for each input, each post and each rise.
-use Rattle.std.proofs.Common.{◌≡◌, ℕ, ◌-◌, ◌^◌, ◌<◌, ◌≤◌, Bool, true, false, cond, List, [], ◌∷◌, fold, map, length}
+use Rattle.std.proofs.Common.{◌≡◌, ℕ, ◌-◌, ◌^◌, ◌<◌, ◌≤◌, Bool, true, false, List, [], ◌∷◌, fold, map, length}
 use Rattle.std.proofs.Common.{take, Option, inl, inr, refl, sym, subst, arith}
 use Rattle.std.specs.Prelude.{option_to_list}
 use Rattle.std.specs.List.{AllByRecursion as Every}
@@ -65,7 +65,8 @@ module _ (decl : Declaration) where
       by : (site client : Bool) → is_client decl a ≡ client → StateInForm a (new_by decl a site client)
       by false false is = record { decided = tt; doing = tt }
       by true client is = record {
-        form = record { epoch = (omega arith, omega arith); began = tt; log = tt; held = tt; prepared = tt };
+        form =
+            record { epoch = (omega arith, omega arith); began = tt; log = tt; arrived = tt; held = tt; prepared = tt };
         sorted = record {
           began = tt;
           log = tt;

@@ -1,5 +1,5 @@
 -- An actor that names declared things goes on so for each input, each post and each rise.
-use Rattle.std.proofs.Common.{◌≡◌, ℕ, ◌-◌, ◌<◌, ◌≤◌, ◌&&◌, nat_le, nat_lt, Bool, true, false, cond, List, [], ◌∷◌, ◌++◌}
+use Rattle.std.proofs.Common.{◌≡◌, ℕ, ◌-◌, ◌<◌, ◌≤◌, ◌&&◌, nat_le, nat_lt, Bool, true, false, List, [], ◌∷◌, ◌++◌}
 use Rattle.std.proofs.Common.{fold, map, take, Option, inl, inr, refl, sym, subst, arith}
 use Rattle.std.specs.Prelude.{option_to_list}
 use Rattle.std.specs.List.{AllByRecursion as Every}
@@ -83,7 +83,7 @@ module _ (decl : Declaration) where
       by false false is other = (admin_high a is other, record { decided = tt; doing = tt })
       by true client is other = (
         site_low a is,
-        record { epoch = first; began = tt; log = tt; held = tt; prepared = tt },
+        record { epoch = first; began = tt; log = tt; arrived = tt; held = tt; prepared = tt },
       )
       by false true is other = (
         other,

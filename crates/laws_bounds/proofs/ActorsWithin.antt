@@ -1,6 +1,6 @@
 -- What an actor becomes, sends and writes for one input stays within a bound that what it takes keeps to, and one more;
 -- and what its post leaves is within the bound.
-use Rattle.std.proofs.Common.{ℕ, ◌+◌, ◌-◌, ◌≤◌, Bool, true, false, cond, List, [], ◌∷◌, ◌++◌, fold, Option, Some, None}
+use Rattle.std.proofs.Common.{ℕ, ◌+◌, ◌≤◌, Bool, true, false, List, [], ◌∷◌, ◌++◌, fold, Option, Some, None}
 use Rattle.std.proofs.Common.{arith}
 use Rattle.std.specs.Prelude.{option_to_list}
 use Rattle.std.specs.List.{AllByRecursion as Every}
@@ -80,7 +80,7 @@ pub new_within : (bound : ℕ) (decl : Declaration) (a : ℕ) → MoveWithin bou
 new_within bound decl a = record { state = by (is_site decl a) (is_client decl a); turn = quiet_within bound }
   where
     by : (site client : Bool) → StateWithin bound (new_by decl a site client)
-    by true client = record { clock = omega arith; began = tt; log = tt; prepared = tt }
+    by true client = record { clock = omega arith; began = tt; log = tt; arrived = tt; prepared = tt }
     by false true = record {
       front = record { clock = omega arith; count = omega arith; views = tt };
       desk = record { clock = omega arith; commits = tt };

@@ -1,5 +1,5 @@
 -- An answer that tells how a transaction stands is to an Ask about it: what is said of answers, mail and turns.
-use Rattle.std.proofs.Common.{ℕ, ◌+◌, ◌-◌, List, ◌++◌}
+use Rattle.std.proofs.Common.{ℕ, List, ◌++◌}
 use Rattle.std.specs.List.{AllByRecursion as Every}
 use Rattle.qc_list.proofs.Members.{every-weaker}
 use Rattle.qc_core.specs.declared.actor.Actor.{Actor}

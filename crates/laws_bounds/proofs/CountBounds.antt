@@ -108,7 +108,7 @@ module _ (decl : Declaration) (a : ℕ) where
       let same : s.life ≤ s.life + 1 = omega arith in
       let closed : s.life + 1 ≤ s.life + 1 = omega arith in
       state_cases (λ (t : SiteState). t.life ≤ s.life + 1) decl (passed s e.message) e.from e.number e.message same
-      (λ tx epoch life object inv is. same) (λ tx epoch life object view own is. same) (λ tx. same)
+      (λ tx epoch life r is. same) (λ tx epoch life object view own is. same) (λ tx. same)
       (λ tx verdict is final. same) (λ tx stamp p is. same) (λ k is. closed) (λ k clock lines is later. same)
   site_life s (inputs.Lost number) = omega arith
 

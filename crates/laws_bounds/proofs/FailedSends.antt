@@ -30,7 +30,7 @@ module _ (decl : Declaration) (s : SiteState) (from number : ℕ) (low : from < 
 
   granted : (tx : TxId) (want : Want) → Short (grants decl s from number tx want)
   granted tx (Read read) =
-      read_cases Short decl s from number tx read.object read.inv (λ free. record { few = omega arith; receivers = tt })
+      read_cases Short decl s from number tx read (λ free. record { few = omega arith; receivers = tt })
       (λ c clash. record { few = omega arith; receivers = tt })
   granted tx (Append object view own) =
       append_cases Short decl s from number tx object view own (λ free. record { few = omega arith; receivers = tt })

@@ -1,14 +1,14 @@
 -- Records that fit their actor name declared things; so where what rises fits, all that is said does, and each Ask is
 -- about a transaction of a declared client, whatever records were lost.
-use Rattle.std.proofs.Common.{◌≡◌, ◌<◌, ◌≤◌, ℕ, ◌+◌, true, List, [], ◌∷◌, ◌++◌, Bool, arith}
+use Rattle.std.proofs.Common.{◌<◌, ◌≤◌, ℕ, ◌+◌, List, [], ◌∷◌, Bool, arith}
 use Rattle.std.specs.List.{AllByRecursion as Every}
 use Rattle.qc_list.proofs.Members.{every-weaker}
 use Rattle.qc_core.specs.Vocabulary.{IsLawfulWithFalls}
-use Rattle.qc_decl.specs.Vocabulary.{IsAccepted, actors, administrator}
+use Rattle.qc_decl.specs.Vocabulary.{IsAccepted}
 use Rattle.qc_decl.specs.declared.declaration.Declaration.{Declaration}
 use Rattle.laws_due.specs.Vocabulary.{AsksKnown, IsKnown}
 use Rattle.qc_entry.specs.declared.line.Line.{Line}
-use Rattle.qc_fit.specs.Vocabulary.{IsFit, IsLineDeclared, fits}
+use Rattle.qc_fit.specs.Vocabulary.{IsFit, IsLineDeclared}
 use Rattle.qc_fit.proofs.Words.{fits_is_as_said}
 use Rattle.qc_msg.specs.Vocabulary.{Entry, mail}
 use Rattle.qc_msg.specs.declared.message.Envelope.{Envelope}
@@ -20,7 +20,7 @@ use Rattle.qc_script.specs.Vocabulary.{IsScriptFor, RunsWithFalls}
 use Rattle.qc_script.specs.declared.script.Script.{Script}
 use Rattle.laws_bounds.specs.Vocabulary.{AllFit}
 use Rattle.laws_bounds.proofs.HistoriesNamed.{AllNamed, run_named_by}
-use Rattle.laws_bounds.proofs.Names.{AreNamed, LineNamed, LinesNamed, MailNamed, MessageNamed, RecordNamed}
+use Rattle.laws_bounds.proofs.Names.{AreNamed, LineNamed, LinesNamed, MessageNamed, RecordNamed}
 
 module _ (decl : Declaration) where
   lines_fit : (lines : List Line) → Every (IsLineDeclared decl) lines → LinesNamed decl lines

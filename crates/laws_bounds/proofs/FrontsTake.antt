@@ -11,7 +11,6 @@ use Rattle.qc_front.specs.Vocabulary.{read_with, reading_takes, resp_of, standin
 use Rattle.qc_front.proofs.Sending.{called_sent, takes_sent}
 use Rattle.qc_msg.specs.declared.message.Answer.{Answer}
 use Rattle.qc_msg.specs.declared.message.Message.{Message}
-use Rattle.qc_msg.specs.declared.message.Message.TheVariants as messages
 use Rattle.qc_msg.specs.declared.message.Outcome.{Outcome}
 use Rattle.qc_msg.specs.declared.message.Want.{Want}
 use Rattle.qc_msg.specs.declared.step.Command.{Command}

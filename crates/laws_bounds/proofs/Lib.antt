@@ -58,6 +58,7 @@ pub mod Shown
 pub mod Forms
 pub mod Orders
 pub mod HeldInForm
+pub mod SiteForms
 pub mod SitesInForm
 pub mod SitesTake
 pub mod SitesRisen

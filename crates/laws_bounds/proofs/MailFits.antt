@@ -114,7 +114,7 @@ module _ (decl : Declaration) (s : SiteState) (from number : ℕ) (each : AreByC
 
   granted : (tx : TxId) (want : Want) → Fits (grants decl s from number tx want)
   granted tx (Read read) =
-      read_cases Fits decl s from number tx read.object read.inv
+      read_cases Fits decl s from number tx read
       (λ free. record { sends = ((tt, tt), tt); failed_sends = tt })
       (λ c clash. record { sends = ((tt, tt), (tt, tt)); failed_sends = tt })
   granted tx (Append object view own) =

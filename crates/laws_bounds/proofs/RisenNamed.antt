@@ -1,8 +1,9 @@
 -- A site, and a client, that rises by records which name declared things knows, holds and has promised such, and sends
 -- such messages.
-use Rattle.std.proofs.Common.{◌≡◌, ℕ, ◌<◌, List, [], ◌∷◌, map, Option, Some, None, refl}
+use Rattle.std.proofs.Common.{◌≡◌, ℕ, List, [], ◌∷◌, map, Option, Some, None, refl}
 use Rattle.std.specs.List.{AllByRecursion as Every}
 use Rattle.std.specs.Option.{option_map_or}
+use Rattle.qc_entry.proofs.Union.{every-union}
 use Rattle.qc_decl.specs.declared.declaration.Declaration.{Declaration}
 use Rattle.qc_entry.specs.declared.record.Prepared.{Prepared}
 use Rattle.qc_fit.specs.Vocabulary.{HasPlan}
@@ -46,6 +47,7 @@ module _ (decl : Declaration) where
         epoch = k.epoch;
         began = k.began;
         log = k.lines;
+        arrived = every-union (LineNamed decl) (kept_by rs).began (kept_by rs).lines k.began k.lines;
         held = promises_held decl (kept_by rs).promises k.promises;
         prepared = k.promises;
       }

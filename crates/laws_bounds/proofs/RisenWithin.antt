@@ -1,6 +1,6 @@
 -- What a site, a client and the administrator are by records within a bound, and what they do as they rise, is within
 -- it.
-use Rattle.std.proofs.Common.{ℕ, ◌-◌, ◌≤◌, max, not, Bool, true, false, List, [], ◌∷◌, ◌++◌, fold, map, take}
+use Rattle.std.proofs.Common.{ℕ, ◌≤◌, max, not, Bool, true, false, List, [], ◌∷◌, ◌++◌, fold, map, take}
 use Rattle.std.proofs.Common.{Option, Some, None, arith}
 use Rattle.std.specs.List.{AllByRecursion as Every}
 use Rattle.std.specs.Option.{option_map_or}
@@ -184,7 +184,13 @@ module _ (bound : ℕ) where
       by true client =
           let w : KeptWithin (kept_by (rs ++ records.Life ∷ [])) = site_within a rs all in
           record {
-            state = record { clock = w.clock; began = w.began; log = w.lines; prepared = w.promises };
+            state = record {
+              clock = w.clock;
+              began = w.began;
+              log = w.lines;
+              arrived = every-union (λ (l : Line). l.stamp.clock ≤ bound) _ _ w.began w.lines;
+              prepared = w.promises;
+            };
             turn = record {
               sends = inquiries_within decl (take most_inquiries
                   (in_order (map (λ (p : Prepared). p.tx) (kept_by rs).promises)));

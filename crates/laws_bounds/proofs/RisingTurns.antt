@@ -1,5 +1,5 @@
 -- A rising turn asks about at most as many transactions as it has records, and asks clients; who rises asks few sites.
-use Rattle.std.proofs.Common.{◌≡◌, ℕ, zero, suc, Ordering, Less, Equal, Greater, ◌+◌, ◌-◌, ◌<◌, ◌≤◌, not, Bool, true}
+use Rattle.std.proofs.Common.{◌≡◌, ℕ, zero, suc, Ordering, Less, Equal, Greater, ◌+◌, ◌<◌, ◌≤◌, not, Bool, true}
 use Rattle.std.proofs.Common.{false, cond, List, [], ◌∷◌, filter, fold, length, map, take, refl, arith, length-append}
 use Rattle.std.proofs.Common.{sym, subst}
 use Rattle.std.specs.List.{AllByRecursion as Every}

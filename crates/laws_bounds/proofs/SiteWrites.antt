@@ -32,7 +32,7 @@ module _ (bound : ℕ) (decl : Declaration) (s : SiteState) (from number : ℕ) 
 
   granted : (tx : TxId) (want : Want) → Writes (grants decl s from number tx want)
   granted tx (Read read) =
-      read_cases Writes decl s from number tx read.object read.inv (λ free. record { failed_sends = tt; write = tt })
+      read_cases Writes decl s from number tx read (λ free. record { failed_sends = tt; write = tt })
       (λ c clash. record { failed_sends = tt; write = tt })
   granted tx (Append object view own) =
       append_cases Writes decl s from number tx object view own (λ free. record { failed_sends = tt; write = tt })

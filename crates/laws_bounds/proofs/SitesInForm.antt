@@ -1,7 +1,7 @@
 -- A site that knows, holds and has promised what is in form goes on so, sends such messages and writes such records,
 -- which are no longer than a journal's record may be.
 use Rattle.std.proofs.Common.{◌≡◌, ℕ, ◌<◌, ◌≤◌, ◌==◌, ◌&&◌, nat_le, nat_lt, not, Bool, true, false, List, [], ◌∷◌}
-use Rattle.std.proofs.Common.{Option, Some, None, refl, arith}
+use Rattle.std.proofs.Common.{Option, Some, None, refl, arith, length}
 use Rattle.std.specs.Prelude.{option_to_list}
 use Rattle.std.specs.List.{AllByRecursion as Every}
 use Rattle.std.proofs.lemmas.Bool.{leb-true, ltb-true}
@@ -9,9 +9,10 @@ use Rattle.qc_list.proofs.Members.{every-append, every-filter}
 use Rattle.qc_list.proofs.Order.{ascends-filter}
 use Rattle.qc_decl.specs.Vocabulary.{most_clients, most_record_bytes}
 use Rattle.qc_decl.specs.declared.declaration.Declaration.{Declaration}
-use Rattle.qc_entry.specs.Vocabulary.{IsAscending, has_line, line_cmp, without}
+use Rattle.qc_entry.specs.Vocabulary.{IsAscending, has_line, is_current, line_cmp, lines_told, without}
 use Rattle.qc_entry.specs.declared.line.Line.{Line}
 use Rattle.qc_entry.specs.declared.record.Prepared.{Prepared}
+use Rattle.qc_entry.proofs.Logs.{ascending-log}
 use Rattle.qc_entry.proofs.Union.{ascending-union, every-union}
 use Rattle.qc_lock.specs.declared.clash.Clash.{Clash as Conflict}
 use Rattle.qc_lock.specs.declared.held.Held.{Held}
@@ -30,7 +31,7 @@ use Rattle.qc_record.specs.Vocabulary.{IsTx, IsWithin}
 use Rattle.qc_site.specs.Vocabulary.{IsSiteSorted, SiteMove, SiteState, answers, clashing, closes, dropped, fault_of}
 use Rattle.qc_site.specs.Vocabulary.{finishes, grants, installs, is_prepared, known, learned, lines_of, moved}
 use Rattle.qc_site.specs.Vocabulary.{names_declared, names_object, prepares, promise_cmp, promise_of, promised}
-use Rattle.qc_site.specs.Vocabulary.{requested, shut_answer, site_at, votes}
+use Rattle.qc_site.specs.Vocabulary.{arrived_of, arriving, fresh, requested, shut_answer, site_at, votes}
 use Rattle.qc_site.proofs.RequestCases.{append_cases, choose, close_rows, fault_is, join_cases, read_cases}
 use Rattle.qc_stamp.specs.declared.stamp.TxId.{TxId}
 use Rattle.qc_stamp.specs.Vocabulary.{same_tx}
@@ -38,23 +39,10 @@ use Rattle.laws_bounds.proofs.Forms.{AnswerInForm, LineInForm, MessageInForm, Or
 use Rattle.laws_bounds.proofs.Forms.{SendsInForm, StartInForm, VerdictInForm, WantInForm, WriteInForm}
 use Rattle.laws_bounds.proofs.HeldInForm.{FoundInForm, HeldInForm, found_form, has_form, held_form, lines_form}
 use Rattle.laws_bounds.proofs.HeldInForm.{promises_held}
+pub use Rattle.laws_bounds.proofs.SiteForms.{SiteInForm, SiteMoveInForm}
 use Rattle.laws_bounds.proofs.SiteCases.{site_cases}
+use Rattle.laws_turns.proofs.ToldLines.{every-told}
 use Rattle.laws_bounds.proofs.HeldNamed.{every-all_inserted}
-
-pub record SiteInForm (s : SiteState) : Type 0 where
-  pub epoch : IsWithin 1 8 s.epoch
-  pub began : Every LineInForm s.began
-  pub log : Every LineInForm s.log
-  pub held : Every HeldInForm s.held
-  pub prepared : Every PromiseInForm s.prepared
-
--- a move
-
-pub record SiteMoveInForm (m : SiteMove) : Type 0 where
-  pub site : SiteInForm m.site
-  pub sends : SendsInForm m.turn.sends
-  pub failed_sends : SendsInForm m.turn.failed_sends
-  pub write : Every WriteInForm (option_to_list m.turn.write)
 
 module _ (decl : Declaration) (s : SiteState) (from number : ℕ) (w : SiteInForm s) where
   answered : (answer : Answer) → AnswerInForm answer → SiteMoveInForm (moved s (answers from number answer))
@@ -74,6 +62,12 @@ module _ (decl : Declaration) (s : SiteState) (from number : ℕ) (w : SiteInFor
       every-union LineInForm s.log (without lines s.began) w.log
       (every-filter LineInForm (λ (l : Line). not (has_line s.began l)) lines all)
 
+  arrives : (lines : List Line) → Every LineInForm lines → Every LineInForm (arriving s lines)
+  arrives lines all =
+      every-append LineInForm s.arrived (fresh s lines) w.arrived
+      (every-filter LineInForm (λ (l : Line). not (has_line s.log l)) (without lines s.began)
+      (every-filter LineInForm (λ (l : Line). not (has_line s.began l)) lines all))
+
   module _ (sorted : IsSiteSorted s) where
     known_ascends : IsAscending (known s)
     known_ascends = ascending-union s.began s.log sorted.began sorted.log
@@ -91,6 +85,7 @@ module _ (decl : Declaration) (s : SiteState) (from number : ℕ) (w : SiteInFor
                 epoch = w.epoch;
                 began = w.began;
                 log = w.log;
+                arrived = w.arrived;
                 held = w.held;
                 prepared =
                     every-append PromiseInForm s.prepared (promise_of s tx ∷ []) w.prepared
@@ -131,13 +126,14 @@ module _ (decl : Declaration) (s : SiteState) (from number : ℕ) (w : SiteInFor
     granted : (tx : TxId) (want : Want) → IsTx tx → WantInForm want
         → SiteMoveInForm (grants decl s from number tx want)
     granted tx (Read read) its here =
-        read_cases SiteMoveInForm decl s from number tx read.object read.inv
+        read_cases SiteMoveInForm decl s from number tx read
         (λ free. record {
           site =
               record {
                 epoch = w.epoch;
                 began = w.began;
                 log = w.log;
+                arrived = w.arrived;
                 held =
                     held_form s.held tx (record { object = read.object; inv = read.inv } ∷ []) [] w.held
                     (record { object = here.object_is; inv = here.inv_is }, tt) tt;
@@ -145,8 +141,13 @@ module _ (decl : Declaration) (s : SiteState) (from number : ℕ) (w : SiteInFor
               };
           sends = (
             record {
-              each_is = every-filter LineInForm (λ (l : Line). l.object == read.object) (known s) all_known;
-              ascend = ascends-filter line_cmp (λ (l : Line). l.object == read.object) (known s) known_ascends;
+              each_is =
+                  every-told LineInForm s.life s.epoch (arrived_of s read.object) read.mark
+                  (every-filter LineInForm (λ (l : Line). l.object == read.object) s.arrived w.arrived);
+              ascend =
+                  ascending-log
+                  (lines_told (is_current s.life s.epoch (length (arrived_of s read.object)) read.mark)
+                  (arrived_of s read.object) read.mark.count);
             },
             tt,
           );
@@ -162,6 +163,7 @@ module _ (decl : Declaration) (s : SiteState) (from number : ℕ) (w : SiteInFor
                 epoch = w.epoch;
                 began = w.began;
                 log = learns view here.0.each_is;
+                arrived = arrives view here.0.each_is;
                 held = held_form s.held tx [] own w.held tt here.1;
                 prepared = w.prepared;
               };
@@ -179,6 +181,7 @@ module _ (decl : Declaration) (s : SiteState) (from number : ℕ) (w : SiteInFor
       epoch = w.epoch;
       began = w.began;
       log = w.log;
+      arrived = w.arrived;
       held = every-filter HeldInForm (λ (h : Held). not (same_tx h.tx tx)) s.held w.held;
       prepared = every-filter PromiseInForm (λ (q : Prepared). not (same_tx q.tx tx)) s.prepared w.prepared;
     }
@@ -194,6 +197,7 @@ module _ (decl : Declaration) (s : SiteState) (from number : ℕ) (w : SiteInFor
             epoch = w.epoch;
             began = w.began;
             log = learns (lines_of stamp tx p.own) (lines_form stamp tx p.own here found.tx_is found.own);
+            arrived = arrives (lines_of stamp tx p.own) (lines_form stamp tx p.own here found.tx_is found.own);
             held = rest.held;
             prepared = rest.prepared;
           };
@@ -248,6 +252,7 @@ module _ (decl : Declaration) (s : SiteState) (from number : ℕ) (w : SiteInFor
             epoch = w.epoch;
             began = w.began;
             log = w.log;
+            arrived = w.arrived;
             held = promises_held s.prepared w.prepared;
             prepared = w.prepared;
           };
@@ -262,8 +267,14 @@ module _ (decl : Declaration) (s : SiteState) (from number : ℕ) (w : SiteInFor
         choose SiteMoveInForm (nat_le k s.epoch) _ _ (λ known. answered says.Installed tt)
         (λ later. choose SiteMoveInForm (nat_le (epoch_length lines) most_record_bytes) _ _
         (λ fits. record {
-          site =
-              record { epoch = here.epoch_is; began = here.lines_are.each_is; log = tt; held = tt; prepared = tt };
+          site = record {
+            epoch = here.epoch_is;
+            began = here.lines_are.each_is;
+            log = tt;
+            arrived = here.lines_are.each_is;
+            held = tt;
+            prepared = tt;
+          };
           sends = (tt, tt);
           failed_sends = (tt, tt);
           write = ((here, leb-true (epoch_length lines) most_record_bytes fits), tt);

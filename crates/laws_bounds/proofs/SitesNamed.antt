@@ -27,8 +27,9 @@ use Rattle.qc_msg.specs.declared.step.Input.{Input}
 use Rattle.qc_msg.specs.declared.step.Input.TheVariants as inputs
 use Rattle.qc_msg.specs.Vocabulary.{quiet}
 use Rattle.qc_site.specs.Vocabulary.{SiteMove, SiteState, answers, clashing, closes, fault_of, finishes, grants}
+use Rattle.qc_site.specs.Vocabulary.{arrived_of, fresh}
 use Rattle.qc_site.specs.Vocabulary.{installs, known, learned, lines_of, moved, names_declared, names_object, passed}
-use Rattle.qc_site.specs.Vocabulary.{promise_cmp, promise_of, requested, shut_answer, site_at, site_takes}
+use Rattle.qc_site.specs.Vocabulary.{promise_cmp, promise_of, requested, shut_answer, site_at, site_takes, arriving}
 use Rattle.qc_site.proofs.RequestCases.{append_cases, choose, close_rows, fault_is, install_rows, join_cases}
 use Rattle.qc_site.proofs.RequestCases.{prepare_cases, read_cases}
 use Rattle.qc_stamp.specs.declared.stamp.TxId.{TxId}
@@ -38,12 +39,14 @@ use Rattle.laws_bounds.proofs.Names.{PromiseNamed, SendsNamed, WantNamed}
 use Rattle.laws_bounds.proofs.HeldNamed.{FoundNamed, HasNamed, HeldNamed, every-all_inserted, found_named, has_named}
 use Rattle.laws_bounds.proofs.HeldNamed.{promises_held, held_named, lines_named}
 use Rattle.laws_bounds.proofs.SiteCases.{site_cases}
+use Rattle.laws_turns.proofs.ToldLines.{every-told}
 
 module _ (decl : Declaration) where
   pub record SiteNamed (s : SiteState) : Type 0 where
     pub epoch : HasPlan decl s.epoch
     pub began : LinesNamed decl s.began
     pub log : LinesNamed decl s.log
+    pub arrived : LinesNamed decl s.arrived
     pub held : Every (HeldNamed decl) s.held
     pub prepared : Every (PromiseNamed decl) s.prepared
 
@@ -67,6 +70,12 @@ module _ (decl : Declaration) where
         every-union (LineNamed decl) s.log (without lines s.began) w.log
         (every-filter (LineNamed decl) (λ (l : Line). not (has_line s.began l)) lines named)
 
+    arrives : (lines : List Line) → LinesNamed decl lines → LinesNamed decl (arriving s lines)
+    arrives lines named =
+        every-append (LineNamed decl) s.arrived (fresh s lines) w.arrived
+        (every-filter (LineNamed decl) (λ (l : Line). not (has_line s.log l)) (without lines s.began)
+        (every-filter (LineNamed decl) (λ (l : Line). not (has_line s.began l)) lines named))
+
     answered : (answer : Answer) → AnswerNamed decl answer → Moves (moved s (answers from number answer))
     answered answer here = record { site = w; sends = (here, tt); failed_sends = tt; write = tt }
 
@@ -79,19 +88,24 @@ module _ (decl : Declaration) where
     granted : (tx : TxId) (want : Want) → tx.client < decl.clients → WantNamed decl want
         → Moves (grants decl s from number tx want)
     granted tx (Read read) low here =
-        read_cases Moves decl s from number tx read.object read.inv
+        read_cases Moves decl s from number tx read
         (λ free. record {
           site =
               record {
                 epoch = w.epoch;
                 began = w.began;
                 log = w.log;
+                arrived = w.arrived;
                 held =
                     held_named decl s.held tx (record { object = read.object; inv = read.inv } ∷ []) [] w.held low
                     (here, tt) tt;
                 prepared = w.prepared;
               };
-          sends = (every-filter (LineNamed decl) (λ (l : Line). l.object == read.object) (known s) all_known, tt);
+          sends = (
+            every-told (LineNamed decl) s.life s.epoch (arrived_of s read.object) read.mark
+                (every-filter (LineNamed decl) (λ (l : Line). l.object == read.object) s.arrived w.arrived),
+            tt,
+          );
           failed_sends = tt;
           write = tt;
         })
@@ -104,6 +118,7 @@ module _ (decl : Declaration) where
                 epoch = w.epoch;
                 began = w.began;
                 log = learns view here.0;
+                arrived = arrives view here.0;
                 held = held_named decl s.held tx [] own w.held low tt here.1;
                 prepared = w.prepared;
               };
@@ -121,6 +136,7 @@ module _ (decl : Declaration) where
                 epoch = w.epoch;
                 began = w.began;
                 log = w.log;
+                arrived = w.arrived;
                 held = w.held;
                 prepared =
                     every-append (PromiseNamed decl) s.prepared (promise_of s tx ∷ []) w.prepared
@@ -154,6 +170,7 @@ module _ (decl : Declaration) where
             epoch = w.epoch;
             began = w.began;
             log = w.log;
+            arrived = w.arrived;
             held = every-filter (HeldNamed decl) (λ (h : Held). not (same_tx h.tx tx)) s.held w.held;
             prepared = every-filter (PromiseNamed decl) (λ (q : Prepared). not (same_tx q.tx tx)) s.prepared w.prepared;
           };
@@ -167,6 +184,7 @@ module _ (decl : Declaration) where
             epoch = w.epoch;
             began = w.began;
             log = learns (lines_of stamp tx p.own) (lines_named decl stamp tx p.own found.client found.own);
+            arrived = arrives (lines_of stamp tx p.own) (lines_named decl stamp tx p.own found.client found.own);
             held = every-filter (HeldNamed decl) (λ (h : Held). not (same_tx h.tx tx)) s.held w.held;
             prepared = every-filter (PromiseNamed decl) (λ (q : Prepared). not (same_tx q.tx tx)) s.prepared w.prepared;
           };
@@ -179,6 +197,7 @@ module _ (decl : Declaration) where
         epoch = w.epoch;
         began = w.began;
         log = w.log;
+        arrived = w.arrived;
         held = every-filter (HeldNamed decl) (λ (h : Held). not (same_tx h.tx tx)) s.held w.held;
         prepared = every-filter (PromiseNamed decl) (λ (q : Prepared). not (same_tx q.tx tx)) s.prepared w.prepared;
       };
@@ -216,6 +235,7 @@ module _ (decl : Declaration) where
             epoch = w.epoch;
             began = w.began;
             log = w.log;
+            arrived = w.arrived;
             held = promises_held decl s.prepared w.prepared;
             prepared = w.prepared;
           };
@@ -229,7 +249,7 @@ module _ (decl : Declaration) where
     installed_named k clock lines planned named =
         install_rows Moves s from number k clock lines (answered says.Installed tt) (answered (says.Behind s.epoch) tt)
         (record {
-          site = record { epoch = planned; began = named; log = tt; held = tt; prepared = tt };
+          site = record { epoch = planned; began = named; log = tt; arrived = named; held = tt; prepared = tt };
           sends = (tt, tt);
           failed_sends = (tt, tt);
           write = ((is_site, planned, named), tt);
@@ -250,6 +270,7 @@ module _ (decl : Declaration) where
         epoch = w.epoch;
         began = w.began;
         log = w.log;
+        arrived = w.arrived;
         held = w.held;
         prepared = w.prepared;
       }) e.message here

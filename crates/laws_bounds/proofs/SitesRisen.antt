@@ -2,6 +2,7 @@
 use Rattle.std.proofs.Common.{◌≡◌, ℕ, ◌≤◌, List, [], ◌∷◌, ◌++◌, map, Option, Some, None, refl, arith}
 use Rattle.std.specs.List.{AllByRecursion as Every}
 use Rattle.std.specs.Option.{option_map_or}
+use Rattle.qc_entry.proofs.Union.{every-union}
 use Rattle.qc_list.proofs.Members.{every-In, every-append}
 use Rattle.qc_decl.specs.declared.declaration.Declaration.{Declaration}
 use Rattle.qc_entry.specs.declared.record.Prepared.{Prepared}
@@ -46,6 +47,7 @@ site_form a rs all =
       epoch = k.epoch;
       began = k.began;
       log = k.lines;
+      arrived = every-union LineInForm (kept_by rs).began (kept_by rs).lines k.began k.lines;
       held = promises_held (kept_by rs).promises k.promises;
       prepared = k.promises;
     }

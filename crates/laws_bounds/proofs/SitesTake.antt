@@ -42,6 +42,7 @@ module _ (decl : Declaration) (few : decl.clients ≤ most_clients) where
         epoch = w.form.epoch;
         began = w.form.began;
         log = w.form.log;
+        arrived = w.form.arrived;
         held = w.form.held;
         prepared = w.form.prepared;
       })

@@ -35,12 +35,12 @@ pub told_cases : (d : Account) (q : ClientRequest) (answer : Option Answer) (P :
     → ((epoch : ℕ) → option_and_then closed_in answer ≡ Some epoch → P (record d { known = max d.known epoch }))
     → P (told_by d q answer)
 told_cases d q answer P same clocked changed closed =
-    mapped P (λ (g : Grant). granted d q.site g.life g.clock g.log q.want)
+    mapped P (λ (g : Grant). granted d q.site g q.want)
     (option_map_or (λ (epoch : ℕ). record d { known = max d.known epoch }) (option_and_then closed_in answer)
     (option_map_or (λ (clock : ℕ). promised d clock q.want) (option_and_then promised_in answer) d))
     (option_and_then granted_in answer) (λ g. grants g q.want) (by (option_and_then closed_in answer) refl)
   where
-    grants : (g : Grant) (w : Want) → P (granted d q.site g.life g.clock g.log w)
+    grants : (g : Grant) (w : Want) → P (granted d q.site g w)
     grants g (Read read) =
         changed (max d.clock g.clock)
         (λ (t : Current). accounting.with_read (accounting.lived t q.site g.life) read.object g.log) (λ t. refl)

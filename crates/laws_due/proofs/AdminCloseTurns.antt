@@ -1,5 +1,5 @@
 -- An answer to a Close of the administrator's, or that one is lost: the round goes on, or he stays as he was.
-use Rattle.std.proofs.Common.{◌≡◌, ◌≤◌, ℕ, ◌+◌, ◌==◌, false, List, [], ◌++◌, drop, Option, Some, None, refl, sym, ap}
+use Rattle.std.proofs.Common.{◌≡◌, ◌≤◌, ℕ, ◌==◌, false, List, [], ◌++◌, drop, Option, Some, None, refl, sym, ap}
 use Rattle.std.proofs.Common.{◌∙◌, subst}
 use Rattle.qc_decl.specs.declared.declaration.Declaration.{Declaration}
 use Rattle.qc_plan.specs.Vocabulary.{RoundState, note, verdict, wanted}
@@ -8,7 +8,7 @@ use Rattle.qc_msg.specs.declared.message.Answer.{Answer}
 use Rattle.qc_msg.specs.Vocabulary.{site_called, without_call}
 use Rattle.qc_promise.specs.Vocabulary.{AdminAccount, AdminRequest, admin_counted, asks, close_round, closes}
 use Rattle.qc_promise.specs.Vocabulary.{decided_epoch, fresh_round}
-use Rattle.qc_epoch.specs.Vocabulary.{Admin, Closing, ShutSite, doing, standing_of, with_shut_of}
+use Rattle.qc_epoch.specs.Vocabulary.{Admin, Closing, ShutSite, standing_of, with_shut_of}
 use Rattle.qc_epoch.specs.Conduct as conduct
 use Rattle.laws_due.specs.Vocabulary.{AreApart}
 use Rattle.laws_due.proofs.AdminRequests.{IsCalled, called, calls_taken, length_taken, none_called, map_taken, sites_of}

@@ -7,7 +7,7 @@ use Rattle.std.proofs.lemmas.Bool.{eqb-true}
 use Rattle.qc_decl.specs.Vocabulary.{administrator}
 use Rattle.qc_decl.specs.declared.declaration.Declaration.{Declaration}
 use Rattle.laws_turns.specs.Vocabulary.{asked_in_all, call_in}
-use Rattle.qc_msg.specs.Vocabulary.{Deed, Falls, Rises, Sends, Takes, Tells, Writes, by, deeds_as, epoch_in, sends_of}
+use Rattle.qc_msg.specs.Vocabulary.{Deed, Falls, Rises, Sends, Takes, Tells, Writes, deeds_as, epoch_in, sends_of}
 use Rattle.qc_msg.specs.Vocabulary.{tells_of, writes_of}
 use Rattle.qc_msg.specs.declared.record.Record.{Record}
 use Rattle.qc_msg.specs.declared.reply.Reply.{Reply}

@@ -3,7 +3,7 @@ use Rattle.std.proofs.Common.{◌≡◌, ◌≤◌, ℕ, ◌==◌, false, Option
 use Rattle.qc_decl.specs.declared.declaration.Declaration.{Declaration}
 use Rattle.qc_msg.specs.declared.message.Answer.{Answer}
 use Rattle.qc_promise.specs.Vocabulary.{AdminAccount, admin_counted}
-use Rattle.qc_epoch.specs.Vocabulary.{Admin, Asking, Closing, Doing, Installing, Resting, doing}
+use Rattle.qc_epoch.specs.Vocabulary.{Admin, Asking, Closing, Doing, Installing, Resting}
 use Rattle.qc_epoch.specs.Conduct as conduct
 use Rattle.laws_due.proofs.AdminStages.{Base, Stage}
 use Rattle.laws_due.proofs.AdminGoes.{Goes, quiet_goes}

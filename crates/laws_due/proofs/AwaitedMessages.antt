@@ -1,5 +1,5 @@
 -- A request that is awaited stays so through each message that comes or goes; requests to who falls are lost.
-use Rattle.std.proofs.Common.{[], ◌≡◌, ℕ, ◌-◌, ◌==◌, ◌⊎◌, not, Bool, true, false, cond, if◌then◌else◌, inl, inr, List}
+use Rattle.std.proofs.Common.{[], ◌≡◌, ℕ, ◌==◌, ◌⊎◌, not, Bool, true, false, cond, if◌then◌else◌, inl, inr, List}
 use Rattle.std.proofs.Common.{◌∷◌, refl, sym, subst, Option, Some}
 use Rattle.std.specs.Prelude.{MatchOption}
 use Rattle.qc_list.specs.Vocabulary.{In}

@@ -1,6 +1,6 @@
 -- In each run with falls each open request of a client that is up is awaited, and each of the administrator: it is
 -- lost, or unanswered, or a copy of an answer is ready.
-use Rattle.std.proofs.Common.{[], ◌≡◌, ℕ, ◌-◌, ◌≤◌, Bool, true, List, refl, sym, ap, ◌∙◌, subst, arith}
+use Rattle.std.proofs.Common.{[], ◌≡◌, ℕ, ◌≤◌, Bool, true, List, refl, sym, ap, ◌∙◌, subst, arith}
 use Rattle.qc_list.specs.Vocabulary.{In}
 use Rattle.qc_core.proofs.ByNumber.{admin_new, admin_no_client, admin_no_site, admin_risen}
 use Rattle.qc_core.specs.declared.actor.Actor.{Actor}

@@ -7,7 +7,7 @@ use Rattle.std.specs.Option.{option_or}
 use Rattle.qc_list.specs.Vocabulary.{In}
 use Rattle.qc_commit.specs.declared.ballot.Ballot.{Ballot}
 use Rattle.qc_commit.specs.Votes as ballots
-use Rattle.qc_commit.specs.Vocabulary.{are_cast, blank, cast, vote_of}
+use Rattle.qc_commit.specs.Vocabulary.{are_cast, blank, vote_of}
 use Rattle.qc_msg.specs.declared.begun.Begun.{Begun}
 use Rattle.qc_msg.specs.declared.message.Answer.{Answer}
 use Rattle.qc_msg.specs.declared.message.Answer.TheVariants as answers

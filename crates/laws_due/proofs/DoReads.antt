@@ -27,7 +27,7 @@ use Rattle.qc_msg.specs.declared.reply.Half.TheVariants as halves
 use Rattle.qc_msg.specs.declared.reply.Reply.TheVariants as replies
 use Rattle.qc_msg.specs.declared.step.Command.TheVariants as commands
 use Rattle.qc_msg.specs.Vocabulary.{calls_from, sending, with_site}
-use Rattle.qc_msg.specs.Vocabulary.{read_of}
+use Rattle.qc_msg.specs.Vocabulary.{first_read}
 use Rattle.qc_promise.specs.Vocabulary.{Account, ClientRequest, Current, answer_of, answer_row, command_asks, doomed_if}
 use Rattle.qc_promise.specs.Vocabulary.{is_append, is_next_voter, is_read, read_row, requests_for, with_absent}
 use Rattle.laws_due.specs.Vocabulary.{Goes, IsOpenIn, Ties, calls_in, front_of, reads, transaction_of}
@@ -37,8 +37,16 @@ use Rattle.laws_due.proofs.Asks.{asking}
 use Rattle.laws_due.proofs.Halves.{round_asked, round_at, round_from}
 use Rattle.laws_due.proofs.Requests.{calls_half, calls_more, calls_new, every_new, request_at, requests_from}
 use Rattle.laws_due.proofs.Turns.{Asked as Asking, asks_go, client_at, doomed_begun, rest_ties, rested, tells_goes}
+use Rattle.qc_entry.specs.Vocabulary.{no_mark}
+use Rattle.qc_promise.specs.Vocabulary.{reads_as}
 use Rattle.laws_due.proofs.Views.{answer_same}
 use Rattle.laws_due.proofs.ReadRequests.{IsRead, none_append, open_read, noted_met, noted_open, no_open}
+
+-- a Read by a client that was told nothing
+reads_itself : (object inv : ℕ) → reads_as object inv no_mark (first_read object inv) ≡ true
+reads_itself object inv =
+    ap (λ (b : Bool). b && ((inv == inv) && true)) (eq-eqb object object refl)
+    ∙ ap (λ (b : Bool). b && true) (eq-eqb inv inv refl)
 
 module _ (decl : Declaration) (number : ℕ) (d : Account) (desk : Desk) (t : Current) (asked : List ℕ)
     (views : List View) (object inv : ℕ) (k : Runs decl d desk t views) where
@@ -52,7 +60,7 @@ module _ (decl : Declaration) (number : ℕ) (d : Account) (desk : Desk) (t : Cu
   round qs = round_at decl d t is_read (read_need_of decl t.epoch object inv) qs
 
   abbrev want : Want
-  want = Read (read_of object inv)
+  want = Read (first_read object inv)
 
   pub reads_tie : (asked_now : List ℕ) (qs : List ClientRequest) → Every (IsRead object inv) qs
       → Ties decl (run d t object inv qs)
@@ -89,13 +97,9 @@ module _ (decl : Declaration) (number : ℕ) (d : Account) (desk : Desk) (t : Cu
       × ((filter (λ (q : ClientRequest). is_append q.want) (qs ++ request_at n t want site ∷ []) ≡ [])
       × IsNext decl d t is_read (read_need_of decl t.epoch object inv) (qs ++ request_at n t want site ∷ []) ss)
   step n site ss qs p = (
-    ap (λ (b : Bool). (b && (inv == inv))
+    ap (λ (b : Bool). b
         && (is_next_voter decl (run d t object inv qs) t is_read (read_need_of decl t.epoch object inv) site
-        && (length (requests_for is_append (run d t object inv qs)) == 0))) (eq-eqb object object refl)
-        ∙ ap
-        (λ (b : Bool). b
-        && (is_next_voter decl (run d t object inv qs) t is_read (read_need_of decl t.epoch object inv) site
-        && (length (requests_for is_append (run d t object inv qs)) == 0))) (eq-eqb inv inv refl)
+        && (length (requests_for is_append (run d t object inv qs)) == 0))) (reads_itself object inv)
         ∙ ap (λ (b : Bool). b && (length (requests_for is_append (run d t object inv qs)) == 0))
         (next_voter decl d t is_read (read_need_of decl t.epoch object inv) qs site ss p.1)
         ∙ ap (λ (hs : List ClientRequest). length hs == 0) p.0,

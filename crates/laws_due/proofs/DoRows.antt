@@ -1,5 +1,5 @@
 -- What holds while a `do` runs: its account, the sites that it asks next, and its row where nothing refuses it at once.
-use Rattle.std.proofs.Common.{[], ◌≡◌, ℕ, ◌+◌, ◌&&◌, nat_le, Bool, true, false, cond, List, ◌∷◌, ◌++◌, length, Option}
+use Rattle.std.proofs.Common.{[], ◌≡◌, ℕ, ◌&&◌, nat_le, Bool, true, false, cond, List, ◌∷◌, ◌++◌, length, Option}
 use Rattle.std.proofs.Common.{Some, None, refl, ap, ◌∙◌, eq-eqb}
 use Rattle.std.specs.Ordering.{is_eq}
 use Rattle.std.specs.Cmp.Lexicographic.{pointwise}

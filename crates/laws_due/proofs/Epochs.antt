@@ -24,6 +24,7 @@ use Rattle.qc_msg.specs.declared.step.Input.{Input}
 use Rattle.qc_msg.specs.declared.step.Input.TheVariants as inputs
 use Rattle.qc_msg.specs.declared.turn.Posting.{Posting}
 use Rattle.qc_msg.specs.declared.turn.Turn.{Turn}
+use Rattle.qc_msg.specs.declared.payload.ReadRequest.{ReadRequest}
 use Rattle.qc_msg.specs.Vocabulary.{Deed, Falls, Rises, Sends, Takes, Tells, Writes, closed_in, quiet, sending}
 use Rattle.qc_msg.specs.Vocabulary.{Answered, answer_in, closing_in, installing_in, start_with}
 use Rattle.qc_site.specs.Vocabulary.{SiteMove, SiteState, appends_by, closed, closed_fault, fault_of, finishes, grants}
@@ -81,7 +82,7 @@ pub site_stays_planned : (decl : Declaration) (s : SiteState) (from number : ℕ
     → SitePlanned decl s → SitePlanned decl (site_on decl s from number m).site
 site_stays_planned decl s from number m told w =
     state_cases (SitePlanned decl) decl (passed s m) from number m (record { epoch = w.epoch; closed = w.closed })
-    (λ tx epoch life object inv is. record { epoch = w.epoch; closed = w.closed })
+    (λ tx epoch life r is. record { epoch = w.epoch; closed = w.closed })
     (λ tx epoch life object view own is. record { epoch = w.epoch; closed = w.closed })
     (λ tx. record { epoch = w.epoch; closed = w.closed })
     (λ tx verdict is final. record { epoch = w.epoch; closed = w.closed })
@@ -126,10 +127,10 @@ prepares_planned decl s from number tx =
     (if_two (Answers decl) (is_prepared s.prepared tx) _ (promises s from number (promise_of s tx))
     (says decl _ (tt, tt)) (promises_planned decl s from number (promise_of s tx)))
 
-reads_planned : (decl : Declaration) (s : SiteState) (from number : ℕ) (tx : TxId) (object inv : ℕ)
-    (o : Option Conflict) → Answers decl (reads_by decl s from number tx object inv o)
-reads_planned decl s from number tx object inv None = says decl _ (tt, tt)
-reads_planned decl s from number tx object inv (Some c) = says decl _ (tt, (tt, tt))
+reads_planned : (decl : Declaration) (s : SiteState) (from number : ℕ) (tx : TxId) (r : ReadRequest)
+    (o : Option Conflict) → Answers decl (reads_by decl s from number tx r o)
+reads_planned decl s from number tx r None = says decl _ (tt, tt)
+reads_planned decl s from number tx r (Some c) = says decl _ (tt, (tt, tt))
 
 appends_planned : (decl : Declaration) (s : SiteState) (from number : ℕ) (tx : TxId) (view : List Line)
     (own : List OwnLine) (o : Option Conflict) → Answers decl (appends_by decl s from number tx view own o)
@@ -139,7 +140,7 @@ appends_planned decl s from number tx view own (Some c) = says decl _ (tt, (tt, 
 grants_planned : (decl : Declaration) (s : SiteState) (from number : ℕ) (tx : TxId) (want : Want)
     → Answers decl (grants decl s from number tx want)
 grants_planned decl s from number tx (Read read) =
-    reads_planned decl s from number tx read.object read.inv
+    reads_planned decl s from number tx read
     (read_clash (relation_at decl read.object) s.held tx read.object read.inv)
 grants_planned decl s from number tx (Append object view own) =
     appends_planned decl s from number tx view own (append_clash (relation_at decl object) s.held tx own)

@@ -6,7 +6,6 @@ use Rattle.std.specs.List.{find, AllByRecursion as Every}
 use Rattle.qc_list.proofs.Members.{every-In}
 use Rattle.qc_decl.specs.declared.declaration.Declaration.{Declaration}
 use Rattle.qc_decl.specs.Vocabulary.{append_need_of, read_need_of}
-use Rattle.qc_entry.specs.declared.line.Line.{Line}
 use Rattle.qc_plan.specs.declared.standing.Verdict.TheVariants as verdicts
 use Rattle.qc_plan.specs.Vocabulary.{RoundState, all_noted, note, verdict}
 use Rattle.qc_view.specs.declared.view.View.{View}
@@ -23,7 +22,7 @@ use Rattle.qc_msg.specs.declared.message.Answer.{Answer}
 use Rattle.qc_msg.specs.declared.message.Answer.TheVariants as answers
 use Rattle.qc_msg.specs.declared.message.Want.{Want}
 use Rattle.qc_msg.specs.declared.message.Want.TheVariants.{Read, Append, Prepare}
-use Rattle.qc_msg.specs.Vocabulary.{without_call, grant_with, closed_in, granted_in, promised_in}
+use Rattle.qc_msg.specs.Vocabulary.{without_call, closed_in, granted_in, promised_in}
 use Rattle.qc_promise.specs.Vocabulary.{Account, ClientRequest, Current, answer_of, append_row, counted, counted_for}
 use Rattle.qc_promise.specs.Vocabulary.{is_append, is_open, is_read, lived, standing_of, taken_for, told_by}
 use Rattle.laws_due.specs.Vocabulary.{AreApart, Goes, IsOpenIn, calls_in, front_of, transaction_of}
@@ -147,19 +146,19 @@ module _ (decl : Declaration) (number : ℕ) (d : Account) (desk : Desk) (t : Cu
                 desk_kept d (record d { known = max d.known epoch }) desk k.desk_is refl (omega arith) (omega arith);
           }
 
-  agrants : (n life clock : ℕ) (log : List Line) (q : ClientRequest) → find (is_open n) qs ≡ Some q
+  agrants : (n : ℕ) (g : Grant) (q : ClientRequest) → find (is_open n) qs ≡ Some q
       → Goes decl number
-      (run (record d { clock = max d.clock clock }) (lived t q.site life) object inv
-      (taken_for n (Some (answers.Granted (grant_with life clock log))) qs))
+      (run (record d { clock = max d.clock g.clock }) (lived t q.site g.life) object inv
+      (taken_for n (Some (answers.Granted g)) qs))
       (by_front ahere
-      (append_counts decl (learns anow (Some (answers.Granted (grant_with life clock log)))) ax object inv event
+      (append_counts decl (learns anow (Some (answers.Granted g))) ax object inv event
       (calls_in qs)
-      around n q.site (Some (answers.Granted (grant_with life clock log)))))
-  agrants n life clock log q is =
-      aon_with (record d { clock = max d.clock clock }) (lived t q.site life) kept chosen (λ hs. refl) (λ rs. refl) n
-      (Some (answers.Granted (grant_with life clock log))) q is
+      around n q.site (Some (answers.Granted g))))
+  agrants n g q is =
+      aon_with (record d { clock = max d.clock g.clock }) (lived t q.site g.life) kept chosen (λ hs. refl)
+      (λ rs. refl) n (Some (answers.Granted g)) q is
     where
-      kept : Runs decl (record d { clock = max d.clock clock }) desk (lived t q.site life) views
+      kept : Runs decl (record d { clock = max d.clock g.clock }) desk (lived t q.site g.life) views
       kept =
           record {
             live = k.live;
@@ -167,7 +166,7 @@ module _ (decl : Declaration) (number : ℕ) (d : Account) (desk : Desk) (t : Cu
             records = k.records;
             logs = k.logs;
             desk_is =
-                desk_kept d (record d { clock = max d.clock clock }) desk k.desk_is refl (omega arith) (omega arith);
+                desk_kept d (record d { clock = max d.clock g.clock }) desk k.desk_is refl (omega arith) (omega arith);
           }
 
   acounts_go : (n : ℕ) (q : ClientRequest) → find (is_open n) qs ≡ Some q → (w : Want) → is_append w ≡ true
@@ -193,7 +192,7 @@ module _ (decl : Declaration) (number : ℕ) (d : Account) (desk : Desk) (t : Cu
       (fronts.appends decl (learned_of anow g c)
       (option_map_or (λ (z : Grant). front_lived ax q.site z.life) g ax) object inv event
       (without_call (calls_in qs) n) (note around q.site (standing_of a)))))
-      (λ a. astays n a q is) (λ g. agrants n g.life g.clock g.log q is) (λ epoch. acloses n epoch q is)
+      (λ a. astays n a q is) (λ g. agrants n g q is) (λ epoch. acloses n epoch q is)
       (λ clock. astays n (Some (answers.Yes clock)) q is) answer)
 
   pub appending_goes : (n : ℕ) (answer : Option Answer)

@@ -5,7 +5,6 @@ use Rattle.std.specs.List.{find, AllByRecursion as Every}
 use Rattle.qc_list.proofs.Members.{every-In, every-weaker}
 use Rattle.qc_decl.specs.declared.declaration.Declaration.{Declaration}
 use Rattle.qc_decl.specs.Vocabulary.{read_need_of}
-use Rattle.qc_entry.specs.declared.line.Line.{Line}
 use Rattle.qc_plan.specs.Vocabulary.{RoundState, all_noted, note}
 use Rattle.qc_view.specs.declared.view.View.{View}
 use Rattle.qc_commit.specs.declared.desk.Desk.{Desk}
@@ -23,7 +22,7 @@ use Rattle.qc_msg.specs.declared.message.Answer.{Answer}
 use Rattle.qc_msg.specs.declared.message.Answer.TheVariants as answers
 use Rattle.qc_msg.specs.declared.message.Want.{Want}
 use Rattle.qc_msg.specs.declared.message.Want.TheVariants.{Read}
-use Rattle.qc_msg.specs.Vocabulary.{without_call, grant_with, read_of, closed_in, granted_in, promised_in}
+use Rattle.qc_msg.specs.Vocabulary.{without_call, first_read, closed_in, granted_in, promised_in}
 use Rattle.qc_promise.specs.Vocabulary.{Account, ClientRequest, Current, counted, counted_for, is_open, is_read, lived}
 use Rattle.qc_promise.specs.Vocabulary.{read_row, standing_of, taken_for, told_by, with_read}
 use Rattle.laws_due.specs.Vocabulary.{AreApart, Goes, IsBegun, IsOpenIn, calls_in, front_of, transaction_of}
@@ -110,51 +109,52 @@ module _ (decl : Declaration) (number : ℕ) (d : Account) (desk : Desk) (t : Cu
                 desk_kept d (record d { known = max d.known epoch }) desk k.desk_is refl (omega arith) (omega arith);
           }
 
-  grants : (n life clock : ℕ) (log : List Line) (q : ClientRequest) → find (is_open n) qs ≡ Some q
+  grants : (n : ℕ) (g : Grant) (q : ClientRequest) → find (is_open n) qs ≡ Some q
       → Goes decl number
-      (run (record d { clock = max d.clock clock }) (with_read (lived t q.site life) object log) object inv
-      (taken_for n (Some (answers.Granted (grant_with life clock log))) qs))
+      (run (record d { clock = max d.clock g.clock }) (with_read (lived t q.site g.life) object g.log) object inv
+      (taken_for n (Some (answers.Granted g)) qs))
       (by_front here
-      (fronts.reads decl (learns now (Some (answers.Granted (grant_with life clock log))))
-      (read_with x q.site object (Some (answers.Granted (grant_with life clock log)))) object inv
+      (fronts.reads decl (learns now (Some (answers.Granted g)))
+      (read_with x q.site object (Some (answers.Granted g))) object inv
       (without_call (calls_in qs) n)
-      (note round q.site (standing_of (Some (answers.Granted (grant_with life clock log)))))))
-  grants n life clock log q is =
+      (note round q.site (standing_of (Some (answers.Granted g))))))
+  grants n g q is =
       subst (λ (y : Transaction). Goes decl number
-      (run e u object inv (taken_for n (Some (answers.Granted (grant_with life clock log))) qs))
+      (run e u object inv (taken_for n (Some (answers.Granted g)) qs))
       (by_front here
-      (fronts.reads decl (learns now (Some (answers.Granted (grant_with life clock log)))) y object inv
+      (fronts.reads decl (learns now (Some (answers.Granted g))) y object inv
       (without_call (calls_in qs) n)
-      (note round q.site (standing_of (Some (answers.Granted (grant_with life clock log))))))))
+      (note round q.site (standing_of (Some (answers.Granted g)))))))
       (sym b.is) (on_with e u y.begun.asked y.views kept (λ rs. refl) n
-      (Some (answers.Granted (grant_with life clock log))) q is)
+      (Some (answers.Granted g)) q is)
     where
       e : Account
-      e = record d { clock = max d.clock clock }
+      e = record d { clock = max d.clock g.clock }
 
       u : Current
-      u = with_read (lived t q.site life) object log
+      u = with_read (lived t q.site g.life) object g.log
 
       y : Transaction
-      y = with_granted (transaction_of (lived t q.site life) asked views) object log
+      y = with_granted (transaction_of (lived t q.site g.life) asked views) object g.log
 
-      b : IsBegun (with_read (lived t q.site life) object log)
-          (with_granted (transaction_of (lived t q.site life) asked views) object log)
-      b = granted_begun (lived t q.site life) asked views object log k.logs
+      b : IsBegun (with_read (lived t q.site g.life) object g.log)
+          (with_granted (transaction_of (lived t q.site g.life) asked views) object g.log)
+      b = granted_begun (lived t q.site g.life) asked views object g.log k.logs
 
-      kept : Runs decl (record d { clock = max d.clock clock }) desk (with_read (lived t q.site life) object log)
-          (with_granted (transaction_of (lived t q.site life) asked views) object log).views
+      kept : Runs decl (record d { clock = max d.clock g.clock }) desk (with_read (lived t q.site g.life) object g.log)
+          (with_granted (transaction_of (lived t q.site g.life) asked views) object g.log).views
       kept = record {
         live = k.live;
         room = k.room;
         records =
             subst (λ (z : Transaction). RecordsHold decl z.views z.own z.begun.ops) b.is
-            (read_recorded decl x q.site object (Some (answers.Granted (grant_with life clock log))) k.records);
+            (read_recorded decl x q.site object (Some (answers.Granted g)) k.records);
         logs = b.logs;
-        desk_is = desk_kept d (record d { clock = max d.clock clock }) desk k.desk_is refl (omega arith) (omega arith);
+        desk_is =
+            desk_kept d (record d { clock = max d.clock g.clock }) desk k.desk_is refl (omega arith) (omega arith);
       }
 
-  counts_go : (n : ℕ) (q : ClientRequest) → find (is_open n) qs ≡ Some q → q.want ≡ Read (read_of object inv)
+  counts_go : (n : ℕ) (q : ClientRequest) → find (is_open n) qs ≡ Some q → q.want ≡ Read (first_read object inv)
       → (answer : Option Answer)
       → Goes decl number (told_by (run d t object inv (taken_for n answer qs)) q answer)
       (by_front here (read_counts decl (learns now answer) x object inv (calls_in qs) round n q.site answer))
@@ -167,12 +167,12 @@ module _ (decl : Declaration) (number : ℕ) (d : Account) (desk : Desk) (t : Cu
       (sym want)
       (taken_cases
       (λ (o : Option Answer) (g : Option Grant) (c : Option ℕ) (y : Option ℕ). Goes decl number
-      (told_of (run d t object inv (taken_for n o qs)) q.site (Read (read_of object inv)) g c y)
+      (told_of (run d t object inv (taken_for n o qs)) q.site (Read (first_read object inv)) g c y)
       (by_front here
       (fronts.reads decl (learned_of now g c)
       (option_map_or (λ (v : Grant). with_granted (front_lived x q.site v.life) object v.log) g x) object inv
       (without_call (calls_in qs) n) (note round q.site (standing_of o)))))
-      (λ o. stays n o q is) (λ g. grants n g.life g.clock g.log q is) (λ epoch. closes n epoch q is)
+      (λ o. stays n o q is) (λ g. grants n g q is) (λ epoch. closes n epoch q is)
       (λ clock. stays n (Some (answers.Yes clock)) q is) answer)
 
   pub reading_goes : (n : ℕ) (answer : Option Answer)

@@ -6,7 +6,7 @@ use Rattle.qc_core.proofs.ByNumber.{client_risen}
 use Rattle.qc_core.specs.declared.actor.Actor.{Actor}
 use Rattle.qc_core.specs.declared.actor.Actor.TheVariants as actors
 use Rattle.qc_core.specs.Vocabulary.{ActorMove, IsLawfulWithFalls, Lives, MayReach, MayTake, actor_after, actor_takes}
-use Rattle.qc_core.specs.Vocabulary.{by_client, is_running, is_up, up_at, with_record}
+use Rattle.qc_core.specs.Vocabulary.{by_client, is_running, is_up, with_record}
 use Rattle.qc_core.specs.Lives as lives
 use Rattle.qc_client.specs.declared.client.Client.{Client}
 use Rattle.qc_decl.specs.declared.declaration.Declaration.{Declaration}

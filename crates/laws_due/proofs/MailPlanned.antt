@@ -1,5 +1,5 @@
 -- In a run with falls nobody tells of an epoch without a plan, nor writes a record of one, where nobody rises with one.
-use Rattle.std.proofs.Common.{[], ◌≡◌, ℕ, ◌+◌, ◌-◌, ◌==◌, Bool, true, false, cond, List, ◌∷◌, ◌++◌, length, Option}
+use Rattle.std.proofs.Common.{[], ◌≡◌, ℕ, ◌+◌, ◌==◌, Bool, true, false, cond, List, ◌∷◌, ◌++◌, length, Option}
 use Rattle.std.proofs.Common.{Some, None, slice_get, refl, sym, subst, append_assoc}
 use Rattle.std.specs.Prelude.{option_to_list}
 use Rattle.std.specs.List.{AllByRecursion as Every}

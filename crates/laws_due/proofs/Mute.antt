@@ -26,6 +26,7 @@ use Rattle.qc_msg.specs.declared.step.Input.{Input}
 use Rattle.qc_msg.specs.declared.step.Input.TheVariants as inputs
 use Rattle.qc_msg.specs.declared.turn.Posting.{Posting}
 use Rattle.qc_msg.specs.declared.turn.Turn.{Turn}
+use Rattle.qc_msg.specs.declared.payload.ReadRequest.{ReadRequest}
 use Rattle.qc_msg.specs.Vocabulary.{Deed, Falls, Rises, Sends, Takes, Tells, Writes, quiet, sends_of, tells_of}
 use Rattle.qc_msg.specs.Vocabulary.{turn_deeds, writes_of, commit_of}
 use Rattle.qc_site.specs.Vocabulary.{SiteMove, SiteState, answers, appends_by, fault_of, finishes, grants, is_prepared}
@@ -53,10 +54,10 @@ pub record IsMute (turn : Turn) : Type 0 where
 mute_quiet : IsMute quiet
 mute_quiet = record { told = refl; write = tt }
 
-reads_mute : (decl : Declaration) (s : SiteState) (from number : ℕ) (tx : TxId) (object inv : ℕ) (o : Option Conflict)
-    → IsMute (reads_by decl s from number tx object inv o).turn
-reads_mute decl s from number tx object inv None = record { told = refl; write = tt }
-reads_mute decl s from number tx object inv (Some c) = record { told = refl; write = tt }
+reads_mute : (decl : Declaration) (s : SiteState) (from number : ℕ) (tx : TxId) (r : ReadRequest) (o : Option Conflict)
+    → IsMute (reads_by decl s from number tx r o).turn
+reads_mute decl s from number tx r None = record { told = refl; write = tt }
+reads_mute decl s from number tx r (Some c) = record { told = refl; write = tt }
 
 prepares_mute : (s : SiteState) (from number : ℕ) (tx : TxId) → IsMute (prepares s from number tx).turn
 prepares_mute s from number tx = by (not (is_held s.held tx)) (is_prepared s.prepared tx)
@@ -74,7 +75,7 @@ prepares_mute s from number tx = by (not (is_held s.held tx)) (is_prepared s.pre
 grants_mute : (decl : Declaration) (s : SiteState) (from number : ℕ) (tx : TxId) (want : Want)
     → IsMute (grants decl s from number tx want).turn
 grants_mute decl s from number tx (Read read) =
-    reads_mute decl s from number tx read.object read.inv
+    reads_mute decl s from number tx read
     (read_clash (relation_at decl read.object) s.held tx read.object read.inv)
 grants_mute decl s from number tx (Append object view own) = by (append_clash (relation_at decl object) s.held tx own)
   where

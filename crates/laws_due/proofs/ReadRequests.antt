@@ -12,7 +12,7 @@ use Rattle.qc_front.specs.declared.transaction.Transaction.{Transaction}
 use Rattle.qc_msg.specs.declared.message.Answer.{Answer}
 use Rattle.qc_msg.specs.declared.message.Want.{Want}
 use Rattle.qc_msg.specs.declared.message.Want.TheVariants.{Read}
-use Rattle.qc_msg.specs.Vocabulary.{read_of}
+use Rattle.qc_msg.specs.Vocabulary.{first_read}
 use Rattle.qc_promise.specs.Vocabulary.{Account, ClientRequest, Current, asked_by, is_append, is_read, standing_of}
 use Rattle.laws_due.specs.Vocabulary.{IsOpenIn, call_of, calls_in, transaction_of}
 use Rattle.laws_due.proofs.DoRows.{Runs}
@@ -20,7 +20,7 @@ use Rattle.laws_due.proofs.DoRows.{Runs}
 -- requests of one invocation are no Appends
 
 abbrev pub IsRead : ℕ → ℕ → ClientRequest → Type 0
-IsRead object inv q = q.want ≡ Read (read_of object inv)
+IsRead object inv q = q.want ≡ Read (first_read object inv)
 
 pub none_append : (object inv : ℕ) (qs : List ClientRequest) → Every (IsRead object inv) qs
     → filter (λ (q : ClientRequest). is_append q.want) qs ≡ []

@@ -10,7 +10,7 @@ use Rattle.qc_client.specs.declared.client.Client.{Client}
 use Rattle.qc_commit.specs.declared.desk.Desk.{Desk}
 use Rattle.qc_core.specs.declared.actor.Actor.TheVariants as actors
 use Rattle.qc_core.specs.Vocabulary.{IsLawfulWithFalls, actor_after, is_running}
-use Rattle.qc_decl.specs.Vocabulary.{controller, is_client}
+use Rattle.qc_decl.specs.Vocabulary.{is_client}
 use Rattle.qc_decl.specs.Actors as numbers
 use Rattle.qc_decl.specs.declared.declaration.Declaration.{Declaration}
 use Rattle.laws_due.proofs.Commanded.{run_askable}

@@ -1,5 +1,5 @@
 -- What the taker has ready is what it takes, or is ready still; whoever gets an actor's request is another.
-use Rattle.std.proofs.Common.{[], ◌≡◌, ℕ, ◌+◌, ◌<◌, ◌≤◌, ◌==◌, ◌⊎◌, Bool, true, false, if◌then◌else◌, inl, inr, List}
+use Rattle.std.proofs.Common.{[], ◌≡◌, ℕ, ◌<◌, ◌≤◌, ◌==◌, ◌⊎◌, Bool, true, false, if◌then◌else◌, inl, inr, List}
 use Rattle.std.proofs.Common.{◌∷◌, ◌++◌, drop, length, Some, slice_get, refl, sym, ap, ◌∙◌, subst}
 use Rattle.std.specs.Prelude.{slice_set}
 use Rattle.std.proofs.lemmas.Bool.{eq-eqb, eqb-true}
@@ -25,7 +25,7 @@ use Rattle.qc_msg.proofs.GrownMail.{mail-taken}
 use Rattle.qc_msg.proofs.DeedsGrow.{deeds-other}
 use Rattle.qc_script.specs.declared.script.Script.{Script}
 use Rattle.qc_script.specs.Vocabulary.{Inbox, RunsWithFalls, SentRequest, command_called, copy_taken, inbox, inbox_at}
-use Rattle.qc_script.specs.Vocabulary.{is_request, loss_taken, posts, ready, ready_in, request_numbers, rises}
+use Rattle.qc_script.specs.Vocabulary.{is_request, loss_taken, ready, ready_in, request_numbers}
 use Rattle.laws_due.proofs.Answering.{IsSpared, copies_left, same_if}
 use Rattle.laws_due.proofs.Somewhere.{AreSomewhere, AreToOthers, IsOther, IsSomewhere}
 use Rattle.qc_mailbox.proofs.Keeping.{inbox_after}

@@ -13,7 +13,7 @@ use Rattle.qc_promise.specs.Vocabulary.{Account, granted, promised}
 
 abbrev pub told_of : Account → ℕ → Want → Option Grant → Option ℕ → Option ℕ → Account
 told_of d site want grant closed promise =
-    option_map_or (λ (g : Grant). granted d site g.life g.clock g.log want) grant
+    option_map_or (λ (g : Grant). granted d site g want) grant
     (option_map_or (λ (epoch : ℕ). record d { known = max d.known epoch }) closed
     (option_map_or (λ (clock : ℕ). promised d clock want) promise d))
 

@@ -9,7 +9,7 @@ use Rattle.qc_msg.specs.declared.message.Want.TheVariants.{Read, Prepare}
 use Rattle.qc_msg.specs.declared.step.Command.{Command}
 use Rattle.qc_msg.specs.declared.step.Command.TheVariants as commands
 use Rattle.qc_msg.specs.Vocabulary.{life_of}
-use Rattle.qc_msg.specs.Vocabulary.{read_of}
+use Rattle.qc_msg.specs.Vocabulary.{first_read}
 use Rattle.qc_commit.specs.declared.desk.Desk.{Desk}
 use Rattle.qc_front.specs.declared.doing.Doing.TheVariants.{Idle, Reading, Appending}
 use Rattle.qc_front.specs.declared.transaction.Transaction.{Transaction}
@@ -59,7 +59,7 @@ pub record Reads (decl : Declaration) (d : Account) (c : Client) : Type 0 where
   pub x : Transaction
   pub runs : IsDo d t object inv
   pub begun : IsBegun t x
-  pub reads : Every (λ (q : ClientRequest). q.want ≡ Read (read_of object inv)) d.requests
+  pub reads : Every (λ (q : ClientRequest). q.want ≡ Read (first_read object inv)) d.requests
   pub front : c.front ≡ front_of d (Some x) (Reading object inv (calls_in d.requests)
       (round_of decl d t is_read (read_need_of decl t.epoch object inv)))
   pub desk : IsIdleDesk d c.desk

@@ -5,7 +5,6 @@ use Rattle.qc_list.specs.Vocabulary.{In}
 use Rattle.qc_stamp.specs.declared.stamp.TxId.{TxId}
 use Rattle.qc_decl.specs.declared.declaration.Declaration.{Declaration}
 use Rattle.qc_decl.specs.Vocabulary.{read_need_of}
-use Rattle.qc_entry.specs.declared.line.Line.{Line}
 use Rattle.qc_msg.specs.declared.message.Answer.TheVariants.{Granted}
 use Rattle.qc_msg.specs.declared.message.Message.{Message}
 use Rattle.qc_msg.specs.declared.message.Message.TheVariants as messages
@@ -13,7 +12,7 @@ use Rattle.qc_msg.specs.declared.message.Want.{Want}
 use Rattle.qc_msg.specs.declared.step.Input.{Input}
 use Rattle.qc_msg.specs.declared.step.Input.TheVariants as inputs
 use Rattle.qc_msg.specs.Vocabulary.{Deed, Falls, Rises, Sends, Takes, Tells, Writes, Answered, answer_in}
-use Rattle.qc_msg.specs.Vocabulary.{grant_with}
+use Rattle.qc_msg.specs.declared.payload.Grant.{Grant}
 use Rattle.qc_plan.specs.Vocabulary.{has_granted, weight}
 use Rattle.qc_promise.specs.Vocabulary.{Account, ClientRequest, Current, is_read, round_of, weights_of}
 use Rattle.laws_due.specs.Ties.{IsDo}
@@ -26,10 +25,8 @@ pub record IsWaiting (d : Account) : Type 0 where
 
 -- a request was granted
 pub record IsGranted (q : ClientRequest) : Type 0 where
-  pub life : ℕ
-  pub clock : ℕ
-  pub log : List Line
-  pub is : q.taken ≡ Some (Some (Granted (grant_with life clock log)))
+  pub grant : Grant
+  pub is : q.taken ≡ Some (Some (Granted grant))
 
 -- the sites that granted a half weigh what it needs
 abbrev pub IsEnough : Declaration → Account → Current → (Want → Bool) → ℕ → Type 0

@@ -1,22 +1,22 @@
 -- Whatever an answer, a message, a record, a command or a reply is, an account changes in one of a few ways: what holds
 -- of each of these holds of what it then is.
-use Rattle.std.proofs.Common.{◌≡◌, ◌+◌, ℕ, max, Bool, true, false, cond, List, [], ◌∷◌, ◌++◌, Option, Some, None, refl}
+use Rattle.std.proofs.Common.{◌≡◌, ◌+◌, ℕ, max, Bool, true, false, cond, [], ◌∷◌, ◌++◌, Option, Some, None, refl}
 use Rattle.std.specs.Prelude.{option_and_then}
 use Rattle.std.specs.Option.{option_map_or}
 use Rattle.qc_stamp.specs.declared.stamp.Stamp.{Stamp}
 use Rattle.qc_stamp.specs.declared.stamp.TxId.{TxId}
-use Rattle.qc_entry.specs.declared.line.Line.{Line}
 use Rattle.qc_decl.specs.declared.declaration.Declaration.{Declaration}
 use Rattle.qc_msg.specs.declared.message.Answer.{Answer}
 use Rattle.qc_msg.specs.declared.message.Answer.TheVariants as answers
 use Rattle.qc_msg.specs.declared.message.Message.{Message}
 use Rattle.qc_msg.specs.declared.message.Message.TheVariants as messages
 use Rattle.qc_msg.specs.declared.message.Want.{Want}
+use Rattle.qc_msg.specs.declared.payload.Grant.{Grant}
 use Rattle.qc_msg.specs.declared.reply.Half.{Half}
 use Rattle.qc_msg.specs.declared.reply.Reply.{Reply}
 use Rattle.qc_msg.specs.declared.reply.Reply.TheVariants as replies
 use Rattle.qc_msg.specs.declared.step.Command.{Command}
-use Rattle.qc_msg.specs.Vocabulary.{Invocation, do_in, grant_with}
+use Rattle.qc_msg.specs.Vocabulary.{Invocation, do_in}
 use Rattle.qc_promise.specs.Vocabulary.{Account, ClientRequest, Current, account_heard, account_sent, account_told_in}
 use Rattle.qc_promise.specs.Vocabulary.{answer_of, counted, found_absent, granted, is_asked_for, new_current, promised}
 use Rattle.qc_promise.specs.Vocabulary.{refused, responded, short_of, told_by, with_absent, with_current, with_response}
@@ -25,14 +25,12 @@ use Rattle.qc_promise.specs.Vocabulary.{refused, responded, short_of, told_by, w
 
 pub told_cases : (d : Account) (q : ClientRequest) (P : Option Answer → Account → Type 0)
     → ((answer : Option Answer) → P answer d)
-    → ((life clock : ℕ) (log : List Line)
-    → P (Some (answers.Granted (grant_with life clock log))) (granted d q.site life clock log q.want))
+    → ((g : Grant) → P (Some (answers.Granted g)) (granted d q.site g q.want))
     → ((epoch : ℕ) → P (Some (answers.Closed epoch)) (record d { known = max d.known epoch }))
     → ((clock : ℕ) → P (Some (answers.Yes clock)) (promised d clock q.want)) → (answer : Option Answer)
     → P answer (told_by d q answer)
 told_cases d q P same grant close promise None = same None
-told_cases d q P same grant close promise (Some (answers.Granted grant_here)) =
-    grant grant_here.life grant_here.clock grant_here.log
+told_cases d q P same grant close promise (Some (answers.Granted g)) = grant g
 told_cases d q P same grant close promise (Some (answers.Clash holder inv event)) = same _
 told_cases d q P same grant close promise (Some (answers.Closed epoch)) = close epoch
 told_cases d q P same grant close promise (Some (answers.Behind epoch)) = same _

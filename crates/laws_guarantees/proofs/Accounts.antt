@@ -8,7 +8,6 @@ use Rattle.std.proofs.lemmas.List.Folds.{list_any-append}
 use Rattle.qc_stamp.specs.declared.stamp.TxId.{TxId}
 use Rattle.qc_list.specs.Vocabulary.{In}
 use Rattle.qc_list.proofs.Members.{In-first}
-use Rattle.qc_entry.specs.declared.line.Line.{Line}
 use Rattle.qc_msg.specs.declared.begun.LifeAt.{LifeAt}
 use Rattle.qc_msg.specs.declared.message.Answer.{Answer}
 use Rattle.qc_msg.specs.declared.message.Answer.TheVariants as answers
@@ -16,9 +15,10 @@ use Rattle.qc_msg.specs.declared.message.Envelope.{Envelope}
 use Rattle.qc_msg.specs.declared.message.Message.TheVariants as messages
 use Rattle.qc_msg.specs.declared.message.Want.{Want}
 use Rattle.qc_msg.specs.declared.message.Want.TheVariants.{Read, Append, Prepare}
+use Rattle.qc_msg.specs.declared.payload.Grant.{Grant}
 use Rattle.qc_msg.specs.declared.step.Command.{Command}
 use Rattle.qc_msg.specs.declared.step.Input.TheVariants as inputs
-use Rattle.qc_msg.specs.Vocabulary.{Deed, Sends, Takes, has_granted, with_life, grant_with}
+use Rattle.qc_msg.specs.Vocabulary.{Deed, Sends, Takes, has_granted, with_life}
 use Rattle.qc_promise.specs.Vocabulary.{Account, ClientRequest, Current, granted, is_open, lived, promised, taken_for}
 use Rattle.qc_promise.specs.Vocabulary.{told_by, with_read}
 use Rattle.laws_guarantees.proofs.AccountCases.{told_cases}
@@ -42,10 +42,8 @@ pub record WasGranted (ds : List Deed) (tx : TxId) (site : ℕ) : Type 0 where
   pub named : ℕ
   pub want : Want
   pub asked : In (Sends number site (messages.Request tx epoch named want)) ds
-  pub life : ℕ
-  pub clock : ℕ
-  pub log : List Line
-  pub taken : WasTaken ds number (answers.Granted (grant_with life clock log))
+  pub grant : Grant
+  pub taken : WasTaken ds number (answers.Granted grant)
 
 pub record HasGrounds (ds : List Deed) (d : Account) : Type 0 where
   pub sent : (q : ClientRequest) → In q d.requests → (t : Current) × (d.current ≡ Some t) × WasSent ds q t.tx
@@ -77,10 +75,8 @@ granted_more ds x tx site g = record {
   named = g.named;
   want = g.want;
   asked = In-first (Sends g.number site (messages.Request tx g.epoch g.named g.want)) ds (x ∷ []) g.asked;
-  life = g.life;
-  clock = g.clock;
-  log = g.log;
-  taken = taken_more ds x g.number (answers.Granted (grant_with g.life g.clock g.log)) g.taken;
+  grant = g.grant;
+  taken = taken_more ds x g.number (answers.Granted g.grant) g.taken;
 }
 
 -- the same account
@@ -121,12 +117,11 @@ after_taken number answer q (p ∷ qs) among = by (is_open number p) refl among 
     by false at (inl same) more = inl (inl same)
     by o at (inr there) more = later (more there)
 
-granted_requests : (d : Account) (site life clock : ℕ) (log : List Line) (w : Want)
-    → ((granted d site life clock log w).requests ≡ d.requests)
-    × ((granted d site life clock log w).command ≡ d.command)
-granted_requests d site life clock log (Read read) = (refl, refl)
-granted_requests d site life clock log (Append object view own) = (refl, refl)
-granted_requests d site life clock log Prepare = (refl, refl)
+granted_requests : (d : Account) (site : ℕ) (g : Grant) (w : Want)
+    → ((granted d site g w).requests ≡ d.requests) × ((granted d site g w).command ≡ d.command)
+granted_requests d site g (Read read) = (refl, refl)
+granted_requests d site g (Append object view own) = (refl, refl)
+granted_requests d site g Prepare = (refl, refl)
 
 pub promised_requests : (d : Account) (clock : ℕ) (w : Want)
     → ((promised d clock w).requests ≡ d.requests) × ((promised d clock w).command ≡ d.command)
@@ -138,17 +133,15 @@ promised_requests d clock Prepare = (refl, refl, refl)
 pub told_requests : (d : Account) (p : ClientRequest) (answer : Option Answer)
     → ((told_by d p answer).requests ≡ d.requests) × ((told_by d p answer).command ≡ d.command)
 told_requests d p answer = told_cases d p (λ a e. (e.requests ≡ d.requests) × (e.command ≡ d.command))
-    (λ a. (refl, refl)) (λ life clock log. granted_requests d p.site life clock log p.want) (λ epoch. (refl, refl))
+    (λ a. (refl, refl)) (λ g. granted_requests d p.site g p.want) (λ epoch. (refl, refl))
     (λ clock.
     let r : ((promised d clock p.want).requests ≡ d.requests) × ((promised d clock p.want).command ≡ d.command)
     × ((promised d clock p.want).current ≡ d.current) = promised_requests d clock p.want in (r.0, r.1)) answer
 
 -- the answer grants
 pub record IsGrant (answer : Option Answer) : Type 0 where
-  pub life : ℕ
-  pub clock : ℕ
-  pub log : List Line
-  pub is : answer ≡ Some (answers.Granted (grant_with life clock log))
+  pub grant : Grant
+  pub is : answer ≡ Some (answers.Granted grant)
 
 -- the transaction is the same, and its lives too, but for the site of a request that is granted
 pub record IsSameBut (o : Option Current) (site : ℕ) (answer : Option Answer) (t : Current) : Type 0 where
@@ -182,39 +175,39 @@ one_life lives site life s has = by (has_granted lives site) has
           | inr new ↦ inr (last (site == s) refl new)
         ]
 
-changed : (o : Option Current) (site life clock : ℕ) (log : List Line) (change : Current → Current)
-    → ((x : Current) → ((change x).tx ≡ x.tx) × ((change x).lives ≡ with_life x.lives site life)) → (t : Current)
-    → option_map change o ≡ Some t → IsSameBut o site (Some (answers.Granted (grant_with life clock log))) t
-changed None site life clock log change keeps t is = absurd (let never : ⊥ = cc in never)
-changed (Some x) site life clock log change keeps t is =
+changed : (o : Option Current) (site : ℕ) (g : Grant) (change : Current → Current)
+    → ((x : Current) → ((change x).tx ≡ x.tx) × ((change x).lives ≡ with_life x.lives site g.life)) → (t : Current)
+    → option_map change o ≡ Some t → IsSameBut o site (Some (answers.Granted g)) t
+changed None site g change keeps t is = absurd (let never : ⊥ = cc in never)
+changed (Some x) site g change keeps t is =
     let same : t ≡ change x = cc in
     record {
       old = x;
       was = refl;
       tx = ap (λ (y : Current). y.tx) same ∙ (keeps x).0;
-      lives = λ s has. elim (one_life x.lives site life s
+      lives = λ s has. elim (one_life x.lives site g.life s
           (subst (λ (ls : List LifeAt). has_granted ls s ≡ true)
           (ap (λ (y : Current). y.lives) same ∙ (keeps x).1) has)) [
             | inl old ↦ inl old
-            | inr here ↦ inr (here, record { life = life; clock = clock; log = log; is = refl })
+            | inr here ↦ inr (here, record { grant = g; is = refl })
           ];
     }
 
 pub told_current : (d : Account) (p : ClientRequest) (answer : Option Answer) (t : Current)
     → (told_by d p answer).current ≡ Some t → IsSameBut d.current p.site answer t
 told_current d p answer t is = told_cases d p (λ a e. e.current ≡ Some t → IsSameBut d.current p.site a t)
-    (λ a is. same_but d.current p.site a t is) (λ life clock log is. by life clock log p.want is)
+    (λ a is. same_but d.current p.site a t is) (λ g is. by g p.want is)
     (λ epoch is. same_but d.current p.site (Some (answers.Closed epoch)) t is)
     (λ clock is. same_but d.current p.site (Some (answers.Yes clock)) t
     (sym (promised_requests d clock p.want).2 ∙ is)) answer is
   where
-    by : (life clock : ℕ) (log : List Line) (w : Want) → (granted d p.site life clock log w).current ≡ Some t
-        → IsSameBut d.current p.site (Some (answers.Granted (grant_with life clock log))) t
-    by life clock log (Read read) is = changed d.current p.site life clock log
-        (λ (x : Current). with_read (lived x p.site life) read.object log) (λ x. (refl, refl)) t is
-    by life clock log (Append object view own) is = changed d.current p.site life clock log
-        (λ (x : Current). lived x p.site life) (λ x. (refl, refl)) t is
-    by life clock log Prepare is = same_but d.current p.site (Some (answers.Granted (grant_with life clock log))) t is
+    by : (g : Grant) (w : Want) → (granted d p.site g w).current ≡ Some t
+        → IsSameBut d.current p.site (Some (answers.Granted g)) t
+    by g (Read read) is = changed d.current p.site g
+        (λ (x : Current). with_read (lived x p.site g.life) read.object g.log) (λ x. (refl, refl)) t is
+    by g (Append object view own) is = changed d.current p.site g
+        (λ (x : Current). lived x p.site g.life) (λ x. (refl, refl)) t is
+    by g Prepare is = same_but d.current p.site (Some (answers.Granted g)) t is
 
 -- a request that is open has the number, and nothing was taken for it
 

@@ -1,6 +1,6 @@
 -- What stands before a message in a part of a list is the same part of what stands before it in the list; what fits
 -- still does after more mail.
-use Rattle.std.proofs.Common.{[], ◌≡◌, ℕ, zero, suc, ◌+◌, ◌-◌, ◌<◌, ◌≤◌, inl, inr, Bool, true, false, cond, List, ◌∷◌}
+use Rattle.std.proofs.Common.{[], ◌≡◌, ℕ, zero, suc, ◌+◌, ◌<◌, ◌≤◌, inl, inr, Bool, true, false, cond, List, ◌∷◌}
 use Rattle.std.proofs.Common.{◌++◌, length, refl, sym, ap, ◌∙◌, subst, arith, Option, Some, None}
 use Rattle.std.specs.Prelude.{filter, take, MatchOption}
 use Rattle.std.specs.List.{AllByRecursion as Every}
@@ -11,7 +11,7 @@ use Rattle.qc_msg.specs.declared.message.Answer.{Answer}
 use Rattle.qc_msg.specs.declared.message.Envelope.{Envelope}
 use Rattle.qc_msg.specs.declared.message.Message.{Message}
 use Rattle.qc_msg.specs.declared.turn.Posting.{Posting}
-use Rattle.qc_msg.specs.Vocabulary.{by, envelopes, Answered, answer_in}
+use Rattle.qc_msg.specs.Vocabulary.{envelopes, Answered, answer_in}
 use Rattle.laws_turns.proofs.Numbered.{AreNumbered}
 use Rattle.laws_guarantees.specs.Vocabulary.{Fits, IfAnswered, IsAnswered, sent_to}
 use Rattle.laws_guarantees.proofs.ClientWords.{IsClientWord}

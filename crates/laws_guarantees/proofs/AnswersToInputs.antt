@@ -3,7 +3,6 @@ use Rattle.std.proofs.Common.{[], ◌≡◌, ℕ, List, ◌∷◌, inl, inr, Opt
 use Rattle.qc_stamp.specs.declared.stamp.TxId.{TxId}
 use Rattle.qc_list.specs.Vocabulary.{In}
 use Rattle.qc_entry.specs.declared.line.Line.{Line}
-use Rattle.qc_entry.specs.Vocabulary.{of_object}
 use Rattle.qc_entry.specs.declared.record.Prepared.{Prepared}
 use Rattle.qc_decl.specs.declared.declaration.Declaration.{Declaration}
 use Rattle.qc_msg.specs.declared.message.Answer.{Answer}
@@ -20,12 +19,12 @@ use Rattle.qc_msg.specs.declared.step.Input.TheVariants as inputs
 use Rattle.qc_msg.specs.declared.turn.Posting.{Posting}
 use Rattle.qc_msg.specs.declared.record.Record.TheVariants as records
 use Rattle.qc_site.specs.Vocabulary.{SiteMove, SiteState, answering, answers as answering_turn, appends, clashing}
-use Rattle.qc_site.specs.Vocabulary.{closed, closes, finishes, grants, installed, installs, joins, known, moved, passed}
-use Rattle.qc_site.specs.Vocabulary.{prepared_of, promise_of, promised, reads, recording, shut_answer, site_at}
+use Rattle.qc_site.specs.Vocabulary.{closed, closes, finishes, grant_told, grants, installed, installs, joins, moved}
+use Rattle.qc_site.specs.Vocabulary.{passed, prepared_of, promise_of, promised, reads, recording, shut_answer, site_at}
 use Rattle.qc_site.specs.Vocabulary.{site_takes, votes}
 use Rattle.qc_lock.specs.declared.clash.Clash.{Clash as Conflict}
 use Rattle.qc_msg.specs.Vocabulary.{quiet}
-use Rattle.qc_msg.specs.Vocabulary.{grant_with, start_with}
+use Rattle.qc_msg.specs.Vocabulary.{append_grant, start_with}
 use Rattle.qc_stamp.specs.declared.stamp.Stamp.{Stamp}
 use Rattle.qc_site.proofs.RequestCases.{append_cases, close_cases, prepare_cases, read_cases, request_cases}
 use Rattle.qc_site.proofs.Cases.{install_cases}
@@ -81,13 +80,13 @@ request_says decl s from number tx epoch life want =
     (λ is. by want)
   where
     by : (w : Want) → Says number Anything (grants decl s from number tx w)
-    by (Read read) = read_cases (Says number Anything) decl s from number tx read.object read.inv
-        (λ free. says_one Anything (reads s from number tx read.object read.inv) from number
-        (answers.Granted (grant_with s.life s.clock (of_object (known s) read.object))) refl tt)
+    by (Read read) = read_cases (Says number Anything) decl s from number tx read
+        (λ free. says_one Anything (reads s from number tx read) from number (answers.Granted (grant_told s read)) refl
+        tt)
         (λ c clash. says_clash Anything decl (moved s (clashing decl from number c)) from number c refl tt)
     by (Append object view own) = append_cases (Says number Anything) decl s from number tx object view own
         (λ free. says_one Anything (appends s from number tx view own) from number
-        (answers.Granted (grant_with s.life s.clock []))
+        (answers.Granted (append_grant s.life s.clock))
         refl tt) (λ c clash. says_clash Anything decl (moved s (clashing decl from number c)) from number c refl tt)
     by Prepare =
         prepare_cases (Says number Anything) s from number tx

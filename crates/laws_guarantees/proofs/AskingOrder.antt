@@ -1,9 +1,8 @@
 -- The sites of positive weight in a client's order, and the halves of a `do` as requests go to the next of them.
-use Rattle.std.proofs.Common.{[], ◌≡◌, ℕ, zero, suc, ◌+◌, max, Bool, true, false, cond, List, ◌∷◌, ◌++◌, map, length}
+use Rattle.std.proofs.Common.{[], ◌≡◌, ℕ, zero, suc, max, Bool, true, false, cond, List, ◌∷◌, ◌++◌, map, length}
 use Rattle.std.proofs.Common.{Option, Some, None, option_map, refl, sym, ap, ◌∙◌, eqb-true}
 use Rattle.std.specs.Prelude.{drop, filter, take}
 use Rattle.std.specs.List.{find}
-use Rattle.qc_entry.specs.declared.line.Line.{Line}
 use Rattle.qc_decl.specs.Vocabulary.{first_site}
 use Rattle.qc_decl.specs.declared.declaration.Declaration.{Declaration}
 use Rattle.qc_plan.specs.Vocabulary.{cyclic, first, weighing}
@@ -11,6 +10,7 @@ use Rattle.qc_msg.specs.declared.message.Answer.{Answer}
 use Rattle.qc_msg.specs.declared.message.Message.{Message}
 use Rattle.qc_msg.specs.declared.message.Want.{Want}
 use Rattle.qc_msg.specs.declared.message.Want.TheVariants.{Append, Prepare, Read}
+use Rattle.qc_msg.specs.declared.payload.Grant.{Grant}
 use Rattle.qc_msg.specs.declared.record.Record.{Record}
 use Rattle.qc_msg.specs.declared.step.Input.{Input}
 use Rattle.qc_msg.specs.declared.step.Input.TheVariants as inputs
@@ -87,20 +87,19 @@ pub record KeepsEpoch (d e : Account) : Type 0 where
   pub client : e.client ≡ d.client
   pub epoch : epoch_of e ≡ epoch_of d
 
-granted_epoch : (d : Account) (site life clock : ℕ) (log : List Line) (want : Want)
-    → KeepsEpoch d (granted d site life clock log want)
-granted_epoch d site life clock log (Read read) =
+granted_epoch : (d : Account) (site : ℕ) (g : Grant) (want : Want) → KeepsEpoch d (granted d site g want)
+granted_epoch d site g (Read read) =
     record {
       client = refl;
-      epoch = same_epoch (record d { clock = max d.clock clock })
-          (λ (t : Current). with_read (lived t site life) read.object log) (λ t. refl);
+      epoch = same_epoch (record d { clock = max d.clock g.clock })
+          (λ (t : Current). with_read (lived t site g.life) read.object g.log) (λ t. refl);
     }
-granted_epoch d site life clock log (Append object view own) =
+granted_epoch d site g (Append object view own) =
     record {
       client = refl;
-      epoch = same_epoch (record d { clock = max d.clock clock }) (λ (t : Current). lived t site life) (λ t. refl);
+      epoch = same_epoch (record d { clock = max d.clock g.clock }) (λ (t : Current). lived t site g.life) (λ t. refl);
     }
-granted_epoch d site life clock log Prepare = record { client = refl; epoch = refl }
+granted_epoch d site g Prepare = record { client = refl; epoch = refl }
 
 promised_epoch : (d : Account) (clock : ℕ) (want : Want) → KeepsEpoch d (promised d clock want)
 promised_epoch d clock (Read read) = record { client = refl; epoch = refl }
@@ -109,7 +108,7 @@ promised_epoch d clock Prepare = record { client = refl; epoch = refl }
 
 told_epoch : (d : Account) (q : ClientRequest) (answer : Option Answer) → KeepsEpoch d (told_by d q answer)
 told_epoch d q answer = told_cases d q (λ a e. KeepsEpoch d e) (λ a. record { client = refl; epoch = refl })
-    (λ life clock log. granted_epoch d q.site life clock log q.want) (λ epoch. record { client = refl; epoch = refl })
+    (λ g. granted_epoch d q.site g q.want) (λ epoch. record { client = refl; epoch = refl })
     (λ clock. promised_epoch d clock q.want) answer
 
 module _ (decl : Declaration) (half : Want → Bool) where

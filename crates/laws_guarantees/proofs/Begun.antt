@@ -16,6 +16,7 @@ use Rattle.qc_msg.specs.declared.message.Answer.{Answer}
 use Rattle.qc_msg.specs.declared.message.Message.{Message}
 use Rattle.qc_msg.specs.declared.message.Want.{Want}
 use Rattle.qc_msg.specs.declared.message.Want.TheVariants.{Read, Append, Prepare}
+use Rattle.qc_msg.specs.declared.payload.Grant.{Grant}
 use Rattle.qc_msg.specs.declared.step.Input.{Input}
 use Rattle.qc_msg.specs.declared.step.Input.TheVariants as inputs
 use Rattle.qc_front.specs.declared.front.Front.{Front}
@@ -91,27 +92,27 @@ changed (Some x) change keeps t is =
       lives = (keeps x).lives;
     })
 
-granted_kept : (d : Account) (site life clock : ℕ) (log : List Line) (w : Want) (t : Current)
-    → (granted d site life clock log w).current ≡ Some t → WasBegun d.current t
-granted_kept d site life clock log (Read read) t is =
-    changed d.current (λ (x : Current). with_read (lived x site life) read.object log)
+granted_kept : (d : Account) (site : ℕ) (g : Grant) (w : Want) (t : Current)
+    → (granted d site g w).current ≡ Some t → WasBegun d.current t
+granted_kept d site g (Read read) t is =
+    changed d.current (λ (x : Current). with_read (lived x site g.life) read.object g.log)
     (λ x. record {
       tx = refl;
       epoch = refl;
       ops = refl;
-      view = λ o l among. grows x.read_grants (record { object = read.object; log = log } ∷ []) o l among;
-      lives = life_added x.lives site life;
+      view = λ o l among. grows x.read_grants (record { object = read.object; log = g.log } ∷ []) o l among;
+      lives = life_added x.lives site g.life;
     }) t is
-granted_kept d site life clock log (Append object view own) t is =
-    changed d.current (λ (x : Current). lived x site life)
+granted_kept d site g (Append object view own) t is =
+    changed d.current (λ (x : Current). lived x site g.life)
     (λ x. record {
       tx = refl;
       epoch = refl;
       ops = refl;
       view = λ o l among. among;
-      lives = life_added x.lives site life;
+      lives = life_added x.lives site g.life;
     }) t is
-granted_kept d site life clock log Prepare t is = same d.current t is
+granted_kept d site g Prepare t is = same d.current t is
 
 promised_kept : (d : Account) (clock : ℕ) (w : Want) (t : Current) → (promised d clock w).current ≡ Some t
     → WasBegun d.current t
@@ -122,7 +123,7 @@ promised_kept d clock Prepare t is = same d.current t is
 told_kept : (d : Account) (q : ClientRequest) (answer : Option Answer) (t : Current)
     → (told_by d q answer).current ≡ Some t → WasBegun d.current t
 told_kept d q answer t is = told_cases d q (λ a e. e.current ≡ Some t → WasBegun d.current t)
-    (λ a is. same d.current t is) (λ life clock log is. granted_kept d q.site life clock log q.want t is)
+    (λ a is. same d.current t is) (λ g is. granted_kept d q.site g q.want t is)
     (λ epoch is. same d.current t is) (λ clock is. promised_kept d clock q.want t is) answer is
 
 counted_kept : (d : Account) (n : ℕ) (answer : Option Answer) (t : Current) → (counted d n answer).current ≡ Some t

@@ -7,13 +7,13 @@ use Rattle.std.proofs.lemmas.List.Sums.{fold-append}
 use Rattle.qc_decl.proofs.Clients.{client_within}
 use Rattle.qc_stamp.specs.declared.stamp.Stamp.{Stamp}
 use Rattle.qc_decl.specs.declared.declaration.Declaration.{Declaration}
-use Rattle.qc_entry.specs.declared.line.Line.{Line}
 use Rattle.qc_entry.specs.declared.record.Commit.{Commit as CommitRecord}
 use Rattle.qc_msg.specs.declared.message.Answer.{Answer}
 use Rattle.qc_msg.specs.declared.message.Answer.TheVariants as answers
 use Rattle.qc_msg.specs.declared.message.Message.{Message}
 use Rattle.qc_msg.specs.declared.message.Want.{Want}
 use Rattle.qc_msg.specs.declared.message.Want.TheVariants.{Read, Append, Prepare}
+use Rattle.qc_msg.specs.declared.payload.Grant.{Grant}
 use Rattle.qc_msg.specs.declared.record.Record.{Record}
 use Rattle.qc_msg.specs.declared.record.Record.TheVariants as records
 use Rattle.qc_msg.specs.declared.reply.Half.{Half}
@@ -45,11 +45,10 @@ use Rattle.laws_due.proofs.AccountCases.{written_cases}
 module _ (decl : Declaration) where
   -- a client's clock never falls
 
-  granted_clock : (d : Account) (site life clock : ℕ) (log : List Line) (w : Want)
-      → d.clock ≤ (granted d site life clock log w).clock
-  granted_clock d site life clock log (Read read) = omega arith
-  granted_clock d site life clock log (Append object view own) = omega arith
-  granted_clock d site life clock log Prepare = omega arith
+  granted_clock : (d : Account) (site : ℕ) (g : Grant) (w : Want) → d.clock ≤ (granted d site g w).clock
+  granted_clock d site g (Read read) = omega arith
+  granted_clock d site g (Append object view own) = omega arith
+  granted_clock d site g Prepare = omega arith
 
   promised_clock : (d : Account) (clock : ℕ) (w : Want) → d.clock ≤ (promised d clock w).clock
   promised_clock d clock (Read read) = omega arith
@@ -61,7 +60,7 @@ module _ (decl : Declaration) where
 
   told_clock : (d : Account) (q : ClientRequest) (answer : Option Answer) → d.clock ≤ (told_by d q answer).clock
   told_clock d q answer = told_cases d q (λ a e. d.clock ≤ e.clock) (λ a. same_clock d)
-      (λ life clock log. granted_clock d q.site life clock log q.want) (λ epoch. same_clock d)
+      (λ g. granted_clock d q.site g q.want) (λ epoch. same_clock d)
       (λ clock. promised_clock d clock q.want) answer
 
   counted_clock : (d : Account) (n : ℕ) (answer : Option Answer) → d.clock ≤ (counted d n answer).clock
@@ -128,11 +127,11 @@ module _ (decl : Declaration) where
 
   -- what counts, the clock passes
 
-  grant_passes : (d : Account) (site life told clock : ℕ) (log : List Line) (w : Want) → GrantTells clock told w
-      → clock ≤ (granted d site life told log w).clock
-  grant_passes d site life told clock log (Read read) is = omega arith
-  grant_passes d site life told clock log (Append object view own) is = omega arith
-  grant_passes d site life told clock log Prepare is = absurd is
+  grant_passes : (d : Account) (site clock : ℕ) (g : Grant) (w : Want) → GrantTells clock g.clock w
+      → clock ≤ (granted d site g w).clock
+  grant_passes d site clock g (Read read) is = omega arith
+  grant_passes d site clock g (Append object view own) is = omega arith
+  grant_passes d site clock g Prepare is = absurd is
 
   promise_passes : (d : Account) (told clock : ℕ) (w : Want) → PromiseTells clock told w
       → clock ≤ (promised d told w).clock
@@ -142,8 +141,7 @@ module _ (decl : Declaration) where
 
   told_passes : (d : Account) (q : ClientRequest) (answer : Answer) (clock : ℕ) → TellsClock clock q.want answer
       → clock ≤ (told_by d q (Some answer)).clock
-  told_passes d q (answers.Granted grant) clock is =
-      grant_passes d q.site grant.life grant.clock clock grant.log q.want is
+  told_passes d q (answers.Granted grant) clock is = grant_passes d q.site clock grant q.want is
   told_passes d q (answers.Clash holder inv event) clock is = absurd is
   told_passes d q (answers.Closed epoch) clock is = absurd is
   told_passes d q (answers.Behind epoch) clock is = absurd is

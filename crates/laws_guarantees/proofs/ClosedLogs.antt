@@ -12,8 +12,8 @@ use Rattle.qc_msg.specs.declared.message.Envelope.{Envelope}
 use Rattle.qc_msg.specs.declared.message.Message.{Message}
 use Rattle.qc_msg.specs.declared.message.Message.TheVariants as messages
 use Rattle.qc_msg.specs.declared.message.Want.TheVariants.{Read}
-use Rattle.qc_msg.specs.Vocabulary.{Entry, mail, written}
-use Rattle.qc_msg.specs.Vocabulary.{grant_with, read_of}
+use Rattle.qc_msg.specs.declared.payload.Grant.{Grant}
+use Rattle.qc_msg.specs.Vocabulary.{Entry, first_read, mail, written}
 use Rattle.theory_onecopy.specs.Vocabulary.{IsClosedLog, IsLogged}
 use Rattle.theory_machine.specs.Vocabulary.{OfGrant, site_after, state}
 use Rattle.theory_machine.proofs.ClaimLaws as claims
@@ -36,13 +36,13 @@ module _ (decl : Declaration) (script : Script) (accepted : IsAccepted decl) (so
     operation = k.operation;
   }
 
-  pub granted_logs_are_closed : (request answer : Envelope) (tx : TxId) (number epoch named object inv life clock : ℕ)
-      (log : List Line) → slice_get (mail h) number ≡ Some request
-      → request.message ≡ messages.Request tx epoch named (Read (read_of object inv))
-      → In answer (mail h) → answer.message ≡ messages.Answer number (Granted (grant_with life clock log))
-      → IsClosedLog decl (written h) log
-  granted_logs_are_closed request answer tx number epoch named object inv life clock log found asked sent is l m among
-      committed same before depends =
+  pub granted_logs_are_closed : (request answer : Envelope) (tx : TxId) (number epoch named object inv : ℕ)
+      (grant : Grant) → slice_get (mail h) number ≡ Some request
+      → request.message ≡ messages.Request tx epoch named (Read (first_read object inv))
+      → In answer (mail h) → answer.message ≡ messages.Answer number (Granted grant)
+      → IsClosedLog decl (written h) grant.log
+  granted_logs_are_closed request answer tx number epoch named object inv grant found asked sent is l m among committed
+      same before depends =
       by (subst (λ (x : Message). Backed decl (state (mirror decl script accepted sound h open_inputs run).acts)
       (stood decl script accepted sound h open_inputs run).net.mail answer.from answer.to x) is
       ((mirror decl script accepted sound h open_inputs run).agrees.mail answer
@@ -50,14 +50,14 @@ module _ (decl : Declaration) (script : Script) (accepted : IsAccepted decl) (so
       (sym (stood decl script accepted sound h open_inputs run).mail_is) sent)))
     where
       by : IsGrantTo decl (state (mirror decl script accepted sound h open_inputs run).acts)
-          (stood decl script accepted sound h open_inputs run).net.mail answer.from number life clock log → In m log
+          (stood decl script accepted sound h open_inputs run).net.mail answer.from number grant → In m grant.log
       by b =
-          let r : IsRequest (mail h) number request.to tx (Read (read_of object inv)) =
+          let r : IsRequest (mail h) number request.to tx (Read (first_read object inv)) =
           record { epoch = epoch; life = named; is = (request, found, refl, asked) } in
           let one : (answer.from ≡ request.to) × (b.tx ≡ tx)
-          × (b.want ≡ Read (read_of object inv)) =
+          × (b.want ≡ Read (first_read object inv)) =
           one_request decl script accepted sound h open_inputs run number answer.from
-          request.to b.tx tx b.want (Read (read_of object inv))
+          request.to b.tx tx b.want (Read (first_read object inv))
           (subst (λ (ms : List Envelope). IsRequest ms number answer.from b.tx b.want)
           (stood decl script accepted sound h open_inputs run).mail_is
           (record { epoch = b.epoch; life = b.named; is = b.request })) r in

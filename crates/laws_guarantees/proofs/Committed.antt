@@ -17,7 +17,7 @@ use Rattle.theory_onecopy.specs.Vocabulary.{Executed, IsOperation, committed_lin
 use Rattle.theory_onecopy.proofs.Lists.{Mapped, map_in}
 use Rattle.theory_onecopy.proofs.Runs.{table_is}
 use Rattle.qc_promise.specs.Vocabulary.{Current, view_of}
-use Rattle.theory_machine.specs.Vocabulary.{Aborted, Act, Active, AreInOrder, Committed, Granted, IsLive, IsOutcome}
+use Rattle.theory_machine.specs.Vocabulary.{Aborted, Act, Active, AreInOrder, Committed, IsLive, IsOutcome}
 use Rattle.theory_machine.specs.Vocabulary.{IsRun, LogLaws, StateLaws, Status, YesVote, op_of, state}
 use Rattle.theory_machine.specs.State as machine
 use Rattle.theory_machine.proofs.Keeps.{laws}

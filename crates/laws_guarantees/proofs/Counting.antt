@@ -5,15 +5,15 @@ use Rattle.std.specs.List.{find}
 use Rattle.qc_stamp.specs.declared.stamp.TxId.{TxId}
 use Rattle.qc_list.specs.Vocabulary.{In}
 use Rattle.qc_list.proofs.Members.{In-first, In-last}
-use Rattle.qc_entry.specs.declared.line.Line.{Line}
 use Rattle.qc_msg.specs.declared.message.Answer.{Answer}
 use Rattle.qc_msg.specs.declared.message.Answer.TheVariants as answers
 use Rattle.qc_msg.specs.declared.message.Envelope.{Envelope}
 use Rattle.qc_msg.specs.declared.message.Message.TheVariants as messages
 use Rattle.qc_msg.specs.declared.message.Want.{Want}
 use Rattle.qc_msg.specs.declared.message.Want.TheVariants.{Read, Append, Prepare}
+use Rattle.qc_msg.specs.declared.payload.Grant.{Grant}
 use Rattle.qc_msg.specs.declared.step.Input.TheVariants as inputs
-use Rattle.qc_msg.specs.Vocabulary.{Deed, Sends, Takes, grant_with, has_granted}
+use Rattle.qc_msg.specs.Vocabulary.{Deed, Sends, Takes, has_granted}
 use Rattle.qc_promise.specs.Vocabulary.{Account, ClientRequest, Current, counted, counted_for, granted, is_open, lived}
 use Rattle.qc_promise.specs.Vocabulary.{promised, taken_for, told_by, with_read}
 use Rattle.laws_guarantees.proofs.Accounts.{HasGrounds, IsGrant, IsSameBut, WasGranted, WasSent, WasTaken, after_taken}
@@ -68,19 +68,19 @@ counted_grounds ds x d number answer takes k = by (find (is_open number) d.reque
                 mapped None change t was is = let never : ⊥ = cc in never
                 mapped (Some y) change t was is = let never : ⊥ = cc in never
 
-                by_want : (d : Account) (site life clock : ℕ) (log : List Line) (w : Want) (t : Current)
-                    → d.current ≡ Some t → (granted d site life clock log w).current ≡ None → ⊥
-                by_want d site life clock log (Read read) t was is =
-                    mapped d.current (λ (y : Current). with_read (lived y site life) read.object log) t was is
-                by_want d site life clock log (Append object view own) t was is =
-                    mapped d.current (λ (y : Current). lived y site life) t was is
-                by_want d site life clock log Prepare t was is = let never : ⊥ = cc in never
+                by_want : (d : Account) (site : ℕ) (g : Grant) (w : Want) (t : Current)
+                    → d.current ≡ Some t → (granted d site g w).current ≡ None → ⊥
+                by_want d site g (Read read) t was is =
+                    mapped d.current (λ (y : Current). with_read (lived y site g.life) read.object g.log) t was is
+                by_want d site g (Append object view own) t was is =
+                    mapped d.current (λ (y : Current). lived y site g.life) t was is
+                by_want d site g Prepare t was is = let never : ⊥ = cc in never
 
                 never_none : (d : Account) (p : ClientRequest) (answer : Option Answer) (t : Current)
                     → d.current ≡ Some t → (told_by d p answer).current ≡ None → ⊥
                 never_none d p answer t was is = told_cases d p (λ a e. e.current ≡ None → ⊥)
                     (λ a none. let never : ⊥ = cc in never)
-                    (λ life clock log none. by_want d p.site life clock log p.want t was none)
+                    (λ g none. by_want d p.site g p.want t was none)
                     (λ epoch none. let never : ⊥ = cc in never)
                     (λ clock none.
                     let same : (promised d clock p.want).current ≡ d.current = (promised_requests d clock p.want).2 in
@@ -153,9 +153,7 @@ counted_grounds ds x d number answer takes k = by (find (is_open number) d.reque
                         (subst (λ (n : ℕ). In (Sends n site (messages.Request b.old.tx w.epoch p.life p.want)) ds)
                         (open_number number p f.1) (subst (λ (n : ℕ). In
                         (Sends p.number n (messages.Request b.old.tx w.epoch p.life p.want)) ds) new.0 w.is));
-                    life = g.life;
-                    clock = g.clock;
-                    log = g.log;
-                    taken = now_taken (answers.Granted (grant_with g.life g.clock g.log)) g.is;
+                    grant = g.grant;
+                    taken = now_taken (answers.Granted g.grant) g.is;
                   })
             ])

@@ -29,7 +29,6 @@ use Rattle.qc_promise.specs.Vocabulary.{ends_with, epoch_shown, grant_due, grant
 use Rattle.qc_promise.specs.Vocabulary.{is_declared, is_epoch, is_new_promise, is_promised, posted_due, promise_turn}
 use Rattle.qc_promise.specs.Vocabulary.{quiet_turn, recording_turn, refusal_due, request_turn, sending, shut_due}
 use Rattle.qc_promise.specs.Vocabulary.{telling_turn, turn_due}
-use Rattle.qc_script.specs.declared.script.Script.{Script}
 
 -- a Done is written only for a Decision with its clock
 

@@ -17,7 +17,7 @@ use Rattle.qc_msg.specs.declared.step.Command.{Command}
 use Rattle.qc_msg.specs.Vocabulary.{Deed, Falls, Rises, Sends, Takes, Tells, Writes, life_of, Requested, request_in}
 use Rattle.qc_promise.specs.Vocabulary.{Account, Current, account_at, account_fallen, account_sent, account_taken}
 use Rattle.qc_promise.specs.Vocabulary.{account_told, account_told_in, account_with, account_written, command_asks}
-use Rattle.qc_promise.specs.Vocabulary.{doomed_if, found_absent, is_append, is_asked_for, is_of, lived, new_account}
+use Rattle.qc_promise.specs.Vocabulary.{doomed_if, found_absent, is_append, is_asked_for, is_of, new_account}
 use Rattle.qc_promise.specs.Vocabulary.{refused, requests_for, short_of, with_absent}
 use Rattle.laws_due.specs.Vocabulary.{AreByRows, IsSendDue}
 use Rattle.laws_guarantees.specs.Vocabulary.{IsFirst}

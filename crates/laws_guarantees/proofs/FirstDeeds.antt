@@ -3,13 +3,13 @@ use Rattle.std.proofs.Common.{[], ◌≡◌, ℕ, max, Bool, true, false, cond, 
 use Rattle.std.specs.List.{AllByRecursion as Every, find}
 use Rattle.qc_list.proofs.Members.{every-append}
 use Rattle.qc_stamp.specs.Vocabulary.{first_life}
-use Rattle.qc_entry.specs.declared.line.Line.{Line}
 use Rattle.qc_decl.specs.declared.declaration.Declaration.{Declaration}
 use Rattle.qc_msg.specs.declared.begun.LifeAt.{LifeAt}
 use Rattle.qc_msg.specs.declared.message.Answer.{Answer}
 use Rattle.qc_msg.specs.declared.message.Message.{Message}
 use Rattle.qc_msg.specs.declared.message.Want.{Want}
 use Rattle.qc_msg.specs.declared.message.Want.TheVariants as wants
+use Rattle.qc_msg.specs.declared.payload.Grant.{Grant}
 use Rattle.qc_msg.specs.declared.record.Record.{Record}
 use Rattle.qc_msg.specs.declared.step.Command.{Command}
 use Rattle.qc_msg.specs.declared.step.Input.{Input}
@@ -57,15 +57,16 @@ one_life lives site life is first = by (has_granted lives site)
         every-append (λ (l : LifeAt). l.life ≡ first_life) lives (record { site = site; life = life } ∷ []) first
         (is, tt)
 
-granted_first : (d : Account) (site life clock : ℕ) (log : List Line) (want : Want) → life ≡ first_life
-    → IsFirstAccount d → IsFirstAccount (granted d site life clock log want)
-granted_first d site life clock log (wants.Read read) is f =
-    changed (record d { clock = max d.clock clock }) (λ (t : Current). with_read (lived t site life) read.object log)
-    (λ t first. (first.0, one_life t.lives site life is first.1)) (record { known = f.known; current = f.current })
-granted_first d site life clock log (wants.Append object view own) is f =
-    changed (record d { clock = max d.clock clock }) (λ (t : Current). lived t site life)
-    (λ t first. (first.0, one_life t.lives site life is first.1)) (record { known = f.known; current = f.current })
-granted_first d site life clock log wants.Prepare is f = f
+granted_first : (d : Account) (site : ℕ) (g : Grant) (want : Want) → g.life ≡ first_life → IsFirstAccount d
+    → IsFirstAccount (granted d site g want)
+granted_first d site g (wants.Read read) is f =
+    changed (record d { clock = max d.clock g.clock })
+    (λ (t : Current). with_read (lived t site g.life) read.object g.log)
+    (λ t first. (first.0, one_life t.lives site g.life is first.1)) (record { known = f.known; current = f.current })
+granted_first d site g (wants.Append object view own) is f =
+    changed (record d { clock = max d.clock g.clock }) (λ (t : Current). lived t site g.life)
+    (λ t first. (first.0, one_life t.lives site g.life is first.1)) (record { known = f.known; current = f.current })
+granted_first d site g wants.Prepare is f = f
 
 promised_first : (d : Account) (clock : ℕ) (want : Want) → IsFirstAccount d → IsFirstAccount (promised d clock want)
 promised_first d clock (wants.Read read) f = f
@@ -79,7 +80,7 @@ FirstTaken (Some answer) = IsFirstAnswer answer
 told_first : (d : Account) (q : ClientRequest) (answer : Option Answer) → FirstTaken answer → IsFirstAccount d
     → IsFirstAccount (told_by d q answer)
 told_first d q answer first f = told_cases d q (λ a e. FirstTaken a → IsFirstAccount e) (λ a first. f)
-    (λ life clock log first. granted_first d q.site life clock log q.want first f) (λ epoch never. absurd never)
+    (λ g first. granted_first d q.site g q.want first f) (λ epoch never. absurd never)
     (λ clock first. promised_first d clock q.want f) answer first
 
 counted_first : (d : Account) (number : ℕ) (answer : Option Answer) → FirstTaken answer → IsFirstAccount d

@@ -53,7 +53,7 @@ passed_first n s m first = record {
 
 module _ (decl : Declaration) (n : ℕ) (s : SiteState) (first : IsAtFirst n s) (from number : ℕ) where
   granted : (tx : TxId) (want : Want) → SaysFirst (grants decl s from number tx want)
-  granted tx (Read read) = read_cases SaysFirst decl s from number tx read.object read.inv (λ free. (first.life_is, tt))
+  granted tx (Read read) = read_cases SaysFirst decl s from number tx read (λ free. (first.life_is, tt))
       (λ c clash. (tt, (tt, tt)))
   granted tx (Append object view own) = append_cases SaysFirst decl s from number tx object view own
       (λ free. (first.life_is, tt)) (λ c clash. (tt, (tt, tt)))

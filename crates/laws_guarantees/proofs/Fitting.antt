@@ -41,8 +41,8 @@ module _ (decl : Declaration) (ms : List Envelope) (n : ℕ) (s : SiteState) (fi
   granted : (tx : TxId) (epoch life : ℕ) (want : Want)
       → AnswersTo ms number (messages.Request tx epoch life want) (grants decl s from number tx want)
   granted tx epoch life (Read read) =
-      read_cases (AnswersTo ms number (messages.Request tx epoch life (Read read))) decl s from number tx read.object
-      read.inv (λ free. ((refl, tt), tt))
+      read_cases (AnswersTo ms number (messages.Request tx epoch life (Read read))) decl s from number tx read
+      (λ free. ((refl, tt), tt))
       (λ c clash. let w : IsInTheWay ms tx c =
       read_way (relation_at decl read.object) ms s.held tx read.object read.inv c open_ones clash in
       ((refl, (w.is_open, w.another)), (tt, tt)))

@@ -85,7 +85,7 @@ module _ (decl : Declaration) (ms : List Envelope) (s : SiteState) (from number 
       → Now (messages.Request tx epoch life want) (grants decl s from number tx want).site.held
   granted tx epoch life (Read read) =
       read_cases (λ (m : SiteMove). Now (messages.Request tx epoch life (Read read)) m.site.held) decl s from
-      number tx read.object read.inv
+      number tx read
       (λ free. held-more decl (λ (x : TxId). open_said x (is_open x ms)
       (messages.Request tx epoch life (Read read)) ≡ true) s.held tx
       (record { object = read.object; inv = read.inv } ∷ []) [] (requested tx epoch life (Read read))

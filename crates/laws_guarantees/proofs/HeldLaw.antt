@@ -25,7 +25,7 @@ use Rattle.qc_msg.specs.declared.step.Input.TheVariants as inputs
 use Rattle.qc_msg.specs.Vocabulary.{Deed, Entry, Takes, deeds, mail, request_in, written}
 use Rattle.theory_onecopy.specs.Vocabulary.{Executed, own_line}
 use Rattle.qc_promise.specs.Vocabulary.{Grant, held_shown, holding, is_ended, is_final, is_granted, standing}
-use Rattle.qc_promise.specs.Vocabulary.{standing_as, standing_by, stands}
+use Rattle.qc_promise.specs.Vocabulary.{standing_as, standing_by}
 use Rattle.theory_machine.specs.Vocabulary.{IsExecutedOrChosen, IsOwnClosedAt, Item, Lock, LogLaws, Own, state}
 use Rattle.theory_machine.proofs.LogKeeps.{log_laws}
 use Rattle.theory_machine.proofs.Places.{at}
@@ -37,7 +37,7 @@ use Rattle.laws_guarantees.specs.Vocabulary.{HasWanted, IsGrantedSince}
 use Rattle.laws_guarantees.proofs.Room.{numbered_within}
 use Rattle.laws_guarantees.proofs.Uncut.{held_from_first}
 use Rattle.laws_guarantees.proofs.Voted.{mirror, stood}
-use Rattle.laws_guarantees.proofs.Standing.{undecided, not_ended, standing_more, WasTakenFor, was_taken, own_wanted}
+use Rattle.laws_guarantees.proofs.Standing.{not_ended, standing_more, WasTakenFor, was_taken, own_wanted}
 use Rattle.laws_guarantees.proofs.Standing.{Agrees, IsWanted, standing_held}
 use Rattle.laws_atomic.proofs.Heard.{took_sent}
 

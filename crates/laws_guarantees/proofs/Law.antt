@@ -17,7 +17,6 @@ use Rattle.qc_entry.specs.declared.record.Commit.{Commit as CommitRecord}
 use Rattle.qc_core.specs.Vocabulary.{IsLawful}
 use Rattle.qc_decl.specs.declared.declaration.Declaration.{Declaration}
 use Rattle.qc_decl.specs.Vocabulary.{IsAccepted, is_client}
-use Rattle.qc_msg.specs.declared.record.Record.TheVariants as records
 use Rattle.qc_msg.specs.Vocabulary.{Deed, Entry, commit_in, deeds, mail, written}
 use Rattle.qc_msg.proofs.DeedsGrow.{deeds-append}
 use Rattle.theory_onecopy.specs.Vocabulary.{IsOperation}

@@ -1,16 +1,16 @@
 -- What one deed does to the begun transaction of an account: it changes it, ends it, or begins one of the next number.
-use Rattle.std.proofs.Common.{◌≡◌, ◌+◌, ℕ, List, [], ◌∷◌, Option, Some, None, option_map, refl, sym, ap, subst}
+use Rattle.std.proofs.Common.{◌≡◌, ◌+◌, ℕ, [], ◌∷◌, Option, Some, None, option_map, refl, sym, ap, subst}
 use Rattle.std.specs.List.{find}
 use Rattle.qc_stamp.specs.declared.stamp.TxId.{TxId}
 use Rattle.qc_list.specs.Vocabulary.{In}
 use Rattle.qc_list.proofs.Members.{In-first}
-use Rattle.qc_entry.specs.declared.line.Line.{Line}
 use Rattle.qc_entry.specs.declared.line.Op.{Op}
 use Rattle.qc_decl.specs.declared.declaration.Declaration.{Declaration}
 use Rattle.qc_msg.specs.declared.message.Answer.{Answer}
 use Rattle.qc_msg.specs.declared.message.Message.{Message}
 use Rattle.qc_msg.specs.declared.message.Want.{Want}
 use Rattle.qc_msg.specs.declared.message.Want.TheVariants.{Read, Append, Prepare}
+use Rattle.qc_msg.specs.declared.payload.Grant.{Grant}
 use Rattle.qc_msg.specs.declared.record.Record.{Record}
 use Rattle.qc_msg.specs.declared.reply.Half.{Half}
 use Rattle.qc_msg.specs.declared.reply.Half.TheVariants as halves
@@ -59,15 +59,14 @@ alters n o change names ops lives = Changes refl change names
     (λ t op among. subst (In op) (sym (ops t)) among) lives refl
 
 module _ (decl : Declaration) where
-  granted_step : (d : Account) (site life clock : ℕ) (log : List Line) (w : Want)
-      → Step d (granted d site life clock log w)
-  granted_step d site life clock log (Read read) =
-      alters d.count d.current (λ (t : Current). with_read (lived t site life) read.object log) (λ t. refl) (λ t. refl)
-      (λ t. life_added t.lives site life)
-  granted_step d site life clock log (Append object view own) =
-      alters d.count d.current (λ (t : Current). lived t site life) (λ t. refl) (λ t. refl)
-      (λ t. life_added t.lives site life)
-  granted_step d site life clock log Prepare = stays d
+  granted_step : (d : Account) (site : ℕ) (g : Grant) (w : Want) → Step d (granted d site g w)
+  granted_step d site g (Read read) =
+      alters d.count d.current (λ (t : Current). with_read (lived t site g.life) read.object g.log) (λ t. refl)
+      (λ t. refl) (λ t. life_added t.lives site g.life)
+  granted_step d site g (Append object view own) =
+      alters d.count d.current (λ (t : Current). lived t site g.life) (λ t. refl) (λ t. refl)
+      (λ t. life_added t.lives site g.life)
+  granted_step d site g Prepare = stays d
 
   promised_step : (d : Account) (clock : ℕ) (w : Want) → Step d (promised d clock w)
   promised_step d clock (Read read) = stays d
@@ -76,7 +75,7 @@ module _ (decl : Declaration) where
 
   told_step : (d : Account) (q : ClientRequest) (answer : Option Answer) → Step d (told_by d q answer)
   told_step d q answer = told_cases d q (λ a e. Step d e) (λ a. stays d)
-      (λ life clock log. granted_step d q.site life clock log q.want) (λ epoch. stays d)
+      (λ g. granted_step d q.site g q.want) (λ epoch. stays d)
       (λ clock. promised_step d clock q.want) answer
 
   counted_step : (d : Account) (n : ℕ) (answer : Option Answer) → Step d (counted d n answer)

@@ -5,12 +5,12 @@ use Rattle.std.specs.Prelude.{max}
 use Rattle.std.specs.List.{find}
 use Rattle.std.proofs.lemmas.List.Sums.{fold-append}
 use Rattle.qc_stamp.specs.declared.stamp.TxId.{TxId}
-use Rattle.qc_entry.specs.declared.line.Line.{Line}
 use Rattle.qc_decl.specs.declared.declaration.Declaration.{Declaration}
 use Rattle.qc_msg.specs.declared.message.Answer.{Answer}
 use Rattle.qc_msg.specs.declared.message.Message.{Message}
 use Rattle.qc_msg.specs.declared.message.Want.{Want}
 use Rattle.qc_msg.specs.declared.message.Want.TheVariants as wants
+use Rattle.qc_msg.specs.declared.payload.Grant.{Grant}
 use Rattle.qc_msg.specs.declared.record.Record.{Record}
 use Rattle.qc_msg.specs.declared.reply.Reply.{Reply}
 use Rattle.qc_msg.specs.declared.step.Input.{Input}
@@ -39,14 +39,13 @@ named_with d change same = by d.current
     by None = refl
     by (Some t) = ap (λ (x : TxId). Some x) (same t)
 
-granted_named : (d : Account) (site life clock : ℕ) (log : List Line) (want : Want)
-    → name_of (granted d site life clock log want) ≡ name_of d
-granted_named d site life clock log (wants.Read read) =
-    named_with (record d { clock = max d.clock clock }) (λ (t : Current). with_read (lived t site life) read.object log)
-    (λ t. refl)
-granted_named d site life clock log (wants.Append object view own) =
-    named_with (record d { clock = max d.clock clock }) (λ (t : Current). lived t site life) (λ t. refl)
-granted_named d site life clock log wants.Prepare = refl
+granted_named : (d : Account) (site : ℕ) (g : Grant) (want : Want) → name_of (granted d site g want) ≡ name_of d
+granted_named d site g (wants.Read read) =
+    named_with (record d { clock = max d.clock g.clock })
+    (λ (t : Current). with_read (lived t site g.life) read.object g.log) (λ t. refl)
+granted_named d site g (wants.Append object view own) =
+    named_with (record d { clock = max d.clock g.clock }) (λ (t : Current). lived t site g.life) (λ t. refl)
+granted_named d site g wants.Prepare = refl
 
 promised_named : (d : Account) (clock : ℕ) (want : Want) → name_of (promised d clock want) ≡ name_of d
 promised_named d clock (wants.Read read) = refl
@@ -55,7 +54,7 @@ promised_named d clock wants.Prepare = refl
 
 told_named : (d : Account) (q : ClientRequest) (answer : Option Answer) → name_of (told_by d q answer) ≡ name_of d
 told_named d q answer = told_cases d q (λ a e. name_of e ≡ name_of d) (λ a. refl)
-    (λ life clock log. granted_named d q.site life clock log q.want) (λ epoch. refl)
+    (λ g. granted_named d q.site g q.want) (λ epoch. refl)
     (λ clock. promised_named d clock q.want) answer
 
 counted_named : (d : Account) (number : ℕ) (answer : Option Answer) → name_of (counted d number answer) ≡ name_of d

@@ -3,16 +3,16 @@ use Rattle.std.proofs.Common.{◌≡◌, ℕ, List, ◌++◌, Some, ap}
 use Rattle.qc_stamp.specs.declared.stamp.TxId.{TxId}
 use Rattle.qc_list.specs.Vocabulary.{In}
 use Rattle.qc_list.proofs.Members.{In-first}
-use Rattle.qc_entry.specs.declared.line.Line.{Line}
 use Rattle.qc_msg.specs.declared.message.Answer.TheVariants as answers
 use Rattle.qc_msg.specs.declared.message.Envelope.{Envelope}
 use Rattle.qc_msg.specs.declared.message.Message.{Message}
 use Rattle.qc_msg.specs.declared.message.Message.TheVariants as messages
 use Rattle.qc_msg.specs.declared.message.Want.{Want}
+use Rattle.qc_msg.specs.declared.payload.Grant.{Grant}
 use Rattle.laws_refinement.specs.Vocabulary.{IsRequest}
 use Rattle.laws_guarantees.proofs.SiteMoves.{EndsBy, IsFull}
 use Rattle.std.specs.Prelude.{MatchOption, option_map}
-use Rattle.qc_msg.specs.Vocabulary.{Requested, request_in, grant_with}
+use Rattle.qc_msg.specs.Vocabulary.{Requested, request_in}
 
 -- a final Decision on the transaction was sent
 pub record WasEnded (mail : List Envelope) (tx : TxId) : Type 0 where
@@ -36,10 +36,8 @@ pub record IsGrantedBy (mail : List Envelope) (site : ℕ) (tx : TxId) : Type 0 
   pub sent : In answer mail
   pub from : answer.from ≡ site
   pub number : ℕ
-  pub life : ℕ
-  pub clock : ℕ
-  pub log : List Line
-  pub grants : answer.message ≡ messages.Answer number (answers.Granted (grant_with life clock log))
+  pub grant : Grant
+  pub grants : answer.message ≡ messages.Answer number (answers.Granted grant)
   pub want : Want
   pub asked : IsRequest mail number site tx want
 

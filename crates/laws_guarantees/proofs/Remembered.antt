@@ -1,5 +1,5 @@
 -- What counts and what is told never says that a site has forgotten, where the sites remember.
-use Rattle.std.proofs.Common.{[], ◌*◌, ◌≡◌, ◌≤◌, ◌+◌, ◌-◌, ◌==◌, ℕ, Bool, true, false, List, ◌∷◌, ◌++◌, inl, inr}
+use Rattle.std.proofs.Common.{[], ◌*◌, ◌≡◌, ◌≤◌, ◌+◌, ◌==◌, ℕ, Bool, true, false, List, ◌∷◌, ◌++◌, inl, inr}
 use Rattle.std.proofs.Common.{length, Option, Some, None, slice_get, refl, sym, ap, ◌∙◌, subst, eqb-true}
 use Rattle.std.specs.Prelude.{fold}
 use Rattle.qc_list.specs.Vocabulary.{In}

@@ -1,5 +1,5 @@
 -- What the running command asks for is of the begun transaction, and has grounds in the deeds; so has a reply.
-use Rattle.std.proofs.Common.{[], ◌≡◌, ◌+◌, ℕ, ◌==◌, ◌&&◌, true, false, List, ◌∷◌, ◌++◌, inl, inr, Option, Some, None}
+use Rattle.std.proofs.Common.{[], ◌≡◌, ℕ, ◌==◌, ◌&&◌, true, false, List, ◌∷◌, ◌++◌, inl, inr, Option, Some, None}
 use Rattle.std.proofs.Common.{option_map, refl, sym, ap, ◌∙◌, subst, append_assoc}
 use Rattle.std.specs.Prelude.{fold}
 use Rattle.std.specs.Option.{option_map_or}

@@ -9,6 +9,7 @@ use Rattle.qc_list.specs.Vocabulary.{In}
 use Rattle.qc_list.proofs.Members.{In-first}
 use Rattle.qc_entry.specs.declared.line.Line.{Line}
 use Rattle.qc_entry.specs.declared.line.OwnLine.{OwnLine}
+use Rattle.qc_entry.specs.Vocabulary.{no_mark}
 use Rattle.qc_decl.specs.declared.declaration.Declaration.{Declaration}
 use Rattle.qc_msg.specs.declared.message.Message.TheVariants as messages
 use Rattle.qc_msg.specs.declared.message.Want.{Want}
@@ -18,14 +19,15 @@ use Rattle.qc_msg.specs.declared.step.Command.TheVariants as commands
 use Rattle.qc_msg.specs.declared.step.Input.TheVariants as inputs
 use Rattle.qc_msg.specs.Vocabulary.{Deed, Sends, Takes, read_of}
 use Rattle.qc_promise.specs.Vocabulary.{Account, Current, account_at, answer_of, carries, command_asks, is_asked_for}
-use Rattle.qc_promise.specs.Vocabulary.{is_of, new_account, next_own, own_appended, same_line, same_own, weighs}
+use Rattle.qc_promise.specs.Vocabulary.{is_of, new_account, next_own, own_appended, reads_as, same_line, same_mark}
+use Rattle.qc_promise.specs.Vocabulary.{same_own, weighs}
 use Rattle.laws_due.specs.Vocabulary.{AreByRows, IsByRow}
 use Rattle.laws_refinement.specs.Vocabulary.{IsNamed}
 use Rattle.laws_guarantees.proofs.Accounts.{HasGrounds}
 use Rattle.laws_guarantees.proofs.RequestGrounds.{has_grounds}
 use Rattle.laws_guarantees.proofs.Room.{IsNamedWant}
 use Rattle.laws_guarantees.proofs.SiteMoves.{IsFull}
-use Rattle.qc_list.proofs.Booleans.{and_first, and_second}
+use Rattle.qc_list.proofs.Booleans.{and_first, and_parts, and_second}
 
 -- a deed among others stands behind some of them
 pub record IsBehind {A : Type 0} (x : A) (xs : List A) : Type 0 where
@@ -65,13 +67,14 @@ module _ (decl : Declaration) where
   asks_right d t site want None named is = absurd (let never : ⊥ = cc in never)
   asks_right d t site want (Some commands.Begin) named is = absurd (let never : ⊥ = cc in never)
   asks_right d t site (Read read) (Some (commands.Do object inv)) named is =
-      let both : ((read.object == object) && (read.inv == inv)) ≡ true =
-      and_first ((read.object == object) && (read.inv == inv)) _ is in
-      let same : read.object ≡ object =
-      eqb-true read.object object (and_first (read.object == object) (read.inv == inv) both) in
-      let kin : read.inv ≡ inv = eqb-true read.inv inv (and_second (read.object == object) (read.inv == inv) both) in (
-        subst (λ (x : ℕ). IsNamedWant decl (Read (read_of x read.inv))) (sym same)
-            (subst (λ (x : ℕ). IsNamedWant decl (Read (read_of object x))) (sym kin)
+      let its : ((read.object == object) ≡ true) × (((read.inv == inv) && same_mark read.mark no_mark) ≡ true) =
+      and_parts (read.object == object) ((read.inv == inv) && same_mark read.mark no_mark)
+      (and_first (reads_as object inv no_mark read) _ is) in
+      let same : read.object ≡ object = eqb-true read.object object its.0 in
+      let kin : read.inv ≡ inv =
+      eqb-true read.inv inv (and_first (read.inv == inv) (same_mark read.mark no_mark) its.1) in (
+        subst (λ (x : ℕ). IsNamedWant decl (Read (read_of x read.inv read.mark))) (sym same)
+            (subst (λ (x : ℕ). IsNamedWant decl (Read (read_of object x read.mark))) (sym kin)
             (named (commands.Do object inv) refl)),
         tt,
       )

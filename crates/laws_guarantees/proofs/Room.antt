@@ -170,7 +170,7 @@ module _ (decl : Declaration) (accepted : IsAccepted decl) (net : Net) (calm : I
         low : (l : ReadLock) → WasAsked decl accepted net.mail t.begun.tx l
             → (0 ≤ key l) × (l.object < 16) × (l.inv < 32)
         low l w =
-            let n : IsNamedAt decl l.object l.inv = subst (IsNamedMessage decl) w.asks.2 (named w.envelope w.sent) in
+            let n : IsNamedAt decl l.object l.inv = subst (IsNamedMessage decl) w.asks.3 (named w.envelope w.sent) in
             let b : (l.object < 16) × (l.inv < 32) = named_low l.object l.inv n in
             (omega arith, b.0, b.1)
 

@@ -1,5 +1,5 @@
 -- A site's clock has passed all lines that it knows, and each Done that it wrote.
-use Rattle.std.proofs.Common.{[], ◌≡◌, ◌⊎◌, ◌≤◌, ℕ, ◌+◌, max, Bool, true, false, List, ◌∷◌, ◌++◌, inl, inr, Some}
+use Rattle.std.proofs.Common.{[], ◌≡◌, ◌⊎◌, ◌≤◌, ℕ, max, Bool, true, false, List, ◌∷◌, ◌++◌, inl, inr, Some}
 use Rattle.std.proofs.Common.{slice_get, refl, sym, ap, ◌∙◌, subst, arith, ltb-true}
 use Rattle.std.specs.Prelude.{fold}
 use Rattle.std.specs.List.{flat_map}

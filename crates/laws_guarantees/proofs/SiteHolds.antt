@@ -3,7 +3,6 @@ use Rattle.std.proofs.Common.{◌≡◌, ◌⊎◌, ℕ, true, List, ◌++◌, i
 use Rattle.std.proofs.Common.{subst}
 use Rattle.qc_stamp.specs.declared.stamp.TxId.{TxId}
 use Rattle.qc_list.specs.Vocabulary.{In}
-use Rattle.qc_entry.specs.declared.line.Line.{Line}
 use Rattle.qc_decl.specs.declared.declaration.Declaration.{Declaration}
 use Rattle.qc_decl.specs.Vocabulary.{IsAccepted, is_site}
 use Rattle.qc_lock.specs.Vocabulary.{is_held}
@@ -12,15 +11,15 @@ use Rattle.qc_msg.specs.declared.message.Envelope.{Envelope}
 use Rattle.qc_msg.specs.declared.message.Message.{Message}
 use Rattle.qc_msg.specs.declared.message.Message.TheVariants as messages
 use Rattle.qc_msg.specs.declared.message.Want.{Want}
+use Rattle.qc_msg.specs.declared.payload.Grant.{Grant}
 use Rattle.qc_msg.specs.declared.step.Input.{Input}
 use Rattle.qc_msg.specs.declared.step.Input.TheVariants as inputs
 use Rattle.qc_msg.specs.declared.turn.Posting.{Posting}
-use Rattle.qc_msg.specs.Vocabulary.{envelopes, grant_with}
+use Rattle.qc_msg.specs.Vocabulary.{envelopes}
 use Rattle.theory_machine.specs.Vocabulary.{state}
 use Rattle.qc_site.specs.Vocabulary.{SiteMove, SiteState, passed, site_at, site_takes}
 use Rattle.laws_refinement.specs.Vocabulary.{Backed, IsGrantTo, IsRequest, MayCome, Net, Refines, after_site}
 use Rattle.laws_atomic.proofs.Calm.{IsCalm, is_reached}
-use Rattle.laws_atomic.proofs.Calm as calm
 use Rattle.laws_refinement.proofs.Machine.{put_one}
 use Rattle.laws_refinement.proofs.Posts.{Place, placed}
 use Rattle.laws_refinement.proofs.Refining.{nets_refine}
@@ -48,19 +47,19 @@ module _ (decl : Declaration) (accepted : IsAccepted decl) where
       ]
 
   -- an answer of a site's turn grants what is held after it
-  granted_now : (net : Net) (a : ℕ) (g : Input) (p : Posting) (number life clock : ℕ) (log : List Line) (tx : TxId)
-      (want : Want) → AreFullMessages net.mail → ((e : Envelope) → In e net.mail → slice_get net.mail e.number ≡ Some e)
+  granted_now : (net : Net) (a : ℕ) (g : Input) (p : Posting) (number : ℕ) (grant : Grant) (tx : TxId) (want : Want)
+      → AreFullMessages net.mail → ((e : Envelope) → In e net.mail → slice_get net.mail e.number ≡ Some e)
       → MayCome net a g
       → In p (site_takes decl (net.sites a) g).turn.sends
-      → p.message ≡ messages.Answer number (answers.Granted (grant_with life clock log)) → (more : List Envelope)
+      → p.message ≡ messages.Answer number (answers.Granted grant) → (more : List Envelope)
       → IsRequest (net.mail ++ more) number a tx want
       → ((n : ℕ) (e : Envelope) → slice_get net.mail n ≡ Some e → slice_get (net.mail ++ more) n ≡ Some e)
       → is_held (site_takes decl (net.sites a) g).site.held tx ≡ true
-  granted_now net a g p number life clock log tx want full numbered came posted is more asked longer =
+  granted_now net a g p number grant tx want full numbered came posted is more asked longer =
       by (answers_request g number first tx asked.epoch asked.life want asked_there)
     where
       first : IsAnswering g number
-      first = answers_inputs decl (net.sites a) g p number (answers.Granted (grant_with life clock log)) posted is
+      first = answers_inputs decl (net.sites a) g p number (answers.Granted grant) posted is
 
       first_here : In first.envelope net.mail
       first_here = (subst (MayCome net a) first.is came).0
@@ -79,7 +78,7 @@ module _ (decl : Declaration) (accepted : IsAccepted decl) where
           (subst (λ (m : Message). is_held (site_at decl (passed (net.sites a) r.envelope.message) r.envelope.from
           r.envelope.number m).site.held tx ≡ true) (sym content)
           (granted_is_held decl (passed (net.sites a) r.envelope.message) r.envelope.from r.envelope.number tx r.epoch
-          r.life r.want weighty p number life clock log
+          r.life r.want weighty p number grant
           (subst (λ (m : Message). In p
           (site_at decl (passed (net.sites a) r.envelope.message) r.envelope.from r.envelope.number m).turn.sends)
           content (subst (λ (x : Input). In p (site_takes decl (net.sites a) x).turn.sends) r.is posted)) is))
@@ -138,9 +137,7 @@ module _ (decl : Declaration) (accepted : IsAccepted decl) where
     sent = among;
     from = g.from;
     number = g.number;
-    life = g.life;
-    clock = g.clock;
-    log = g.log;
+    grant = g.grant;
     grants = g.grants;
     want = g.want;
     asked = earlier before.mail more site g.number tx g.want b.request.0 b.request.1 g.asked;
@@ -149,7 +146,7 @@ module _ (decl : Declaration) (accepted : IsAccepted decl) where
       m : Refines decl before
       m = nets_refine decl accepted before (is_reached decl before r)
 
-      b : IsGrantTo decl (state m.acts) before.mail g.answer.from g.number g.life g.clock g.log
+      b : IsGrantTo decl (state m.acts) before.mail g.answer.from g.number g.grant
       b =
           subst (λ (x : Message). Backed decl (state m.acts) before.mail g.answer.from g.answer.to x) g.grants
           (m.agrees.mail g.answer among)
@@ -179,7 +176,7 @@ module _ (decl : Declaration) (accepted : IsAccepted decl) where
         placed before.mail a (length before.mail) step.turn.sends k.answer refl among in
         let here : site ≡ a = sym k.from ∙ p.from in
         let now : is_held step.site.held tx ≡ true =
-        granted_now before a g p.posting k.number k.life k.clock k.log tx k.want full (numbered_in before r) came
+        granted_now before a g p.posting k.number k.grant tx k.want full (numbered_in before r) came
         p.among (sym p.message ∙ k.grants) posted
         (subst (λ (n : ℕ). IsRequest (before.mail ++ posted) k.number n tx k.want) here k.asked)
         (λ n e is. slice_get-more before.mail posted n e is) in

@@ -9,6 +9,7 @@ use Rattle.qc_stamp.proofs.Orders.{same_tx_is}
 use Rattle.qc_list.specs.Vocabulary.{In, by_order, inserted}
 use Rattle.qc_entry.specs.declared.line.OwnLine.{OwnLine}
 use Rattle.qc_entry.specs.declared.line.ReadLock.{ReadLock}
+use Rattle.qc_entry.specs.declared.mark.Mark.{Mark}
 use Rattle.qc_decl.specs.declared.declaration.Declaration.{Declaration}
 use Rattle.qc_lock.specs.declared.held.Held.{Held}
 use Rattle.qc_lock.specs.Vocabulary.{held_of, lock_cmp, with_held, with_lock, with_locks, without_held}
@@ -74,7 +75,8 @@ drop_back held u tx x h = by (same_tx u tx) refl
     by false other = subst (λ (e : Held). In x e.locks) (held-without_other held u tx other) h
 
 abbrev pub Asks : Message → TxId → ReadLock → Type 0
-Asks m tx x = (epoch : ℕ) × (life : ℕ) × (m ≡ messages.Request tx epoch life (Read (read_of x.object x.inv)))
+Asks m tx x = (epoch : ℕ) × (life : ℕ) × (mark : Mark)
+    × (m ≡ messages.Request tx epoch life (Read (read_of x.object x.inv mark)))
 
 pub locks_were_asked : (decl : Declaration) (s : SiteState) (from number : ℕ) (m : Message) (tx : TxId) (x : ReadLock)
     → IsCalmMessage m → In x (held_of (site_at decl s from number m).site.held tx).locks
@@ -82,14 +84,16 @@ pub locks_were_asked : (decl : Declaration) (s : SiteState) (from number : ℕ) 
 locks_were_asked decl s from number m tx x calm =
     state_cases (λ (y : SiteState). In x (held_of y.held tx).locks → In x (held_of s.held tx).locks ⊎ Asks m tx x) decl
     s from number m (λ h. inl h)
-    (λ t epoch life object inv same h. elim
-    (given_back s.held t tx (record { object = object; inv = inv } ∷ []) [] x h) [
+    (λ t epoch life r same h. elim
+    (given_back s.held t tx (record { object = r.object; inv = r.inv } ∷ []) [] x h) [
       | inl old ↦ inl old
       | inr new ↦ inr (
         epoch,
         life,
+        r.mark,
         elim new.1 [
-          | inl e ↦ same ∙ (λ i. messages.Request (new.0 i) epoch life (Read (read_of (sym e i).object (sym e i).inv)))
+          | inl e ↦ same
+              ∙ (λ i. messages.Request (new.0 i) epoch life (Read (read_of (sym e i).object (sym e i).inv r.mark)))
           | inr never ↦ absurd never
         ],
       )

@@ -6,7 +6,6 @@ use Rattle.qc_stamp.specs.declared.stamp.TxId.{TxId}
 use Rattle.qc_stamp.specs.Vocabulary.{same_tx}
 use Rattle.qc_stamp.proofs.Orders.{same_tx_is}
 use Rattle.qc_list.specs.Vocabulary.{In}
-use Rattle.qc_entry.specs.declared.line.Line.{Line}
 use Rattle.qc_entry.specs.declared.line.OwnLine.{OwnLine}
 use Rattle.qc_entry.specs.declared.line.ReadLock.{ReadLock}
 use Rattle.qc_decl.specs.declared.declaration.Declaration.{Declaration}
@@ -28,7 +27,6 @@ use Rattle.qc_site.specs.Vocabulary.{grants, is_final, is_prepared, moved, prepa
 use Rattle.qc_site.specs.Vocabulary.{promised, site_at, votes}
 use Rattle.qc_msg.specs.Vocabulary.{quiet, granted_in}
 use Rattle.qc_msg.specs.declared.payload.Grant.{Grant}
-use Rattle.qc_msg.specs.Vocabulary.{grant_with}
 use Rattle.qc_site.proofs.RequestCases.{append_cases, choose, fault_is, prepare_cases, read_cases, request_cases}
 use Rattle.qc_site.proofs.Cases.{state_cases}
 use Rattle.laws_atomic.proofs.FirstSites.{IsCalmMessage}
@@ -94,12 +92,11 @@ IsNoGrant answer = MatchOption (granted_in answer) (Unit {0}) (λ (g : Grant). �
 
 abbrev HoldsGranted : TxId → SiteMove → Type 0
 HoldsGranted tx m =
-    (p : Posting) (k life clock : ℕ) (log : List Line) → In p m.turn.sends
-    → p.message ≡ messages.Answer k (answers.Granted (grant_with life clock log)) → is_held m.site.held tx ≡ true
+    (p : Posting) (k : ℕ) (x : Grant) → In p m.turn.sends → p.message ≡ messages.Answer k (answers.Granted x)
+    → is_held m.site.held tx ≡ true
 
 no_grant : (tx : TxId) (number : ℕ) (m : SiteMove) → Says number IsNoGrant m → HoldsGranted tx m
-no_grant tx number m says p k life clock log among is =
-    absurd (says p k (answers.Granted (grant_with life clock log)) among is).1
+no_grant tx number m says p k x among is = absurd (says p k (answers.Granted x) among is).1
 
 pub granted_is_held : (decl : Declaration) (s : SiteState) (from number : ℕ) (tx : TxId) (epoch life : ℕ) (want : Want)
     → IsFull want → HoldsGranted tx (site_at decl s from number (messages.Request tx epoch life want))
@@ -119,13 +116,12 @@ granted_is_held decl s from number tx epoch life want full =
         at true is = absurd (let none : length (o ∷ os) ≡ 0 = eqb-true (length (o ∷ os)) 0 is in omega arith)
 
     by : (w : Want) → IsFull w → HoldsGranted tx (grants decl s from number tx w)
-    by (Read read) full = read_cases (HoldsGranted tx) decl s from number tx read.object read.inv
-        (λ free p k life clock log among is. given_now s.held tx (record { object = read.object; inv = read.inv } ∷ [])
-        [] refl)
+    by (Read read) full = read_cases (HoldsGranted tx) decl s from number tx read
+        (λ free p k x among is. given_now s.held tx (record { object = read.object; inv = read.inv } ∷ []) [] refl)
         (λ c clash. no_grant tx number (moved s (clashing decl from number c))
         (says_clash IsNoGrant decl (moved s (clashing decl from number c)) from number c refl tt))
     by (Append object view own) full = append_cases (HoldsGranted tx) decl s from number tx object view own
-        (λ free p k life clock log among is. given_now s.held tx [] own (some own full))
+        (λ free p k x among is. given_now s.held tx [] own (some own full))
         (λ c clash. no_grant tx number (moved s (clashing decl from number c))
         (says_clash IsNoGrant decl (moved s (clashing decl from number c)) from number c refl tt))
     by Prepare full =
@@ -156,7 +152,7 @@ pub held_stays : (decl : Declaration) (s : SiteState) (from number : ℕ) (m : M
     → is_held s.held tx ≡ true → (is_held (site_at decl s from number m).site.held tx ≡ true) ⊎ EndsBy m tx
 held_stays decl s from number m tx calm was =
     state_cases (λ (x : SiteState). (is_held x.held tx ≡ true) ⊎ EndsBy m tx) decl s from number m (inl was)
-    (λ t epoch life object inv same. inl (held_given s.held t tx (record { object = object; inv = inv } ∷ []) [] was))
+    (λ t epoch life r same. inl (held_given s.held t tx (record { object = r.object; inv = r.inv } ∷ []) [] was))
     (λ t epoch life object view own same. inl (held_given s.held t tx [] own was))
     (λ t. inl was)
     (λ t verdict same final. held_drops s.held t tx m verdict same final was)

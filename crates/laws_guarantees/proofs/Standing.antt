@@ -1,5 +1,5 @@
 -- What stands among deeds was taken, and is held; own lines of one operation are one.
-use Rattle.std.proofs.Common.{[], ◌≡◌, ◌&&◌, ◌||◌, ℕ, ◌+◌, Bool, true, false, cond, List, ◌∷◌, ◌++◌, inl, inr, refl}
+use Rattle.std.proofs.Common.{[], ◌≡◌, ◌&&◌, ◌||◌, ℕ, Bool, true, false, cond, List, ◌∷◌, ◌++◌, inl, inr, refl}
 use Rattle.std.proofs.Common.{sym, ap, ◌∙◌, subst}
 use Rattle.std.specs.Prelude.{fold}
 use Rattle.std.specs.Option.{option_map_or}

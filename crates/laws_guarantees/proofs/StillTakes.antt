@@ -14,7 +14,7 @@ use Rattle.qc_msg.specs.declared.reply.Reply.{Reply}
 use Rattle.qc_msg.specs.declared.step.Command.{Command}
 use Rattle.qc_msg.specs.declared.step.Input.{Input}
 use Rattle.qc_msg.specs.declared.step.Input.TheVariants as inputs
-use Rattle.qc_msg.specs.Vocabulary.{Deed, Entry, Takes, by, deeds, marked, step_of}
+use Rattle.qc_msg.specs.Vocabulary.{Deed, Entry, Takes, deeds, marked, step_of}
 use Rattle.qc_msg.proofs.DeedsGrow.{deeds-other}
 use Rattle.qc_msg.proofs.Growth.{deeds-taken}
 use Rattle.qc_script.specs.Vocabulary.{Runs, commands_for, inbox, phase_of, ready}

@@ -92,7 +92,7 @@ module _ (decl : Declaration) where
       request_cases HasNoCut decl s from number tx epoch life want refl (λ fault is. refl) (λ is. by want)
     where
       by : (w : Want) → HasNoCut (grants decl s from number tx w)
-      by (Read read) = read_cases HasNoCut decl s from number tx read.object read.inv (λ free. refl) (λ c clash. refl)
+      by (Read read) = read_cases HasNoCut decl s from number tx read (λ free. refl) (λ c clash. refl)
       by (Append object view own) = append_cases HasNoCut decl s from number tx object view own (λ free. refl)
           (λ c clash. refl)
       by Prepare = prepare_cases HasNoCut s from number tx refl (λ held stands. refl) (λ held made. refl)

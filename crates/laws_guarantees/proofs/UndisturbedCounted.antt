@@ -15,7 +15,7 @@ use Rattle.qc_msg.specs.declared.message.Message.{Message}
 use Rattle.qc_msg.specs.declared.message.Message.TheVariants as messages
 use Rattle.qc_msg.specs.declared.message.Want.{Want}
 use Rattle.qc_msg.specs.declared.message.Want.TheVariants.{Append, Prepare, Read}
-use Rattle.qc_msg.specs.Vocabulary.{Entry, by, deeds, mail, Clashing, clash_in, granted_in}
+use Rattle.qc_msg.specs.Vocabulary.{Entry, deeds, mail, Clashing, clash_in, granted_in}
 use Rattle.qc_msg.specs.declared.payload.Grant.{Grant}
 use Rattle.qc_script.specs.Vocabulary.{Runs}
 use Rattle.qc_script.specs.declared.script.Script.{Script}

@@ -20,7 +20,7 @@ use Rattle.qc_msg.specs.declared.message.Outcome.TheVariants as outcomes
 use Rattle.qc_msg.specs.declared.message.Want.{Want}
 use Rattle.qc_msg.specs.declared.message.Want.TheVariants.{Read, Prepare}
 use Rattle.qc_msg.specs.Vocabulary.{Entry, Sends, answered, deeds, first_epoch, has_granted, mail, operations_of}
-use Rattle.qc_msg.specs.Vocabulary.{read_of}
+use Rattle.qc_msg.specs.Vocabulary.{first_read}
 use Rattle.qc_plan.specs.Vocabulary.{cyclic}
 use Rattle.qc_promise.specs.Vocabulary.{Account, ClientRequest, Current, account, is_append}
 use Rattle.theory_machine.specs.Vocabulary.{IsOutcome, Status, Voting as IsVoting, state}
@@ -60,8 +60,8 @@ module _ (decl : Declaration) (d : Account) (c : Client) (q : ClientRequest) (k 
   -- its client waits for votes
   pub voting_tie : Ties decl d c → Votes decl d c
   voting_tie (rests r) = absurd (subst (λ (qs : List ClientRequest). In q qs) r.requests k.among)
-  voting_tie (reads r) = absurd (let read : q.want ≡ Read (read_of r.object r.inv) =
-      every-In (λ (x : ClientRequest). x.want ≡ Read (read_of r.object r.inv)) q d.requests r.reads k.among in
+  voting_tie (reads r) = absurd (let read : q.want ≡ Read (first_read r.object r.inv) =
+      every-In (λ (x : ClientRequest). x.want ≡ Read (first_read r.object r.inv)) q d.requests r.reads k.among in
       let p : q.want ≡ Prepare = k.want in let never : ⊥ = cc in never)
   voting_tie (appends r) = absurd (
       let half : is_append q.want ≡ true = every-In (IsOpenIn is_append) q d.requests r.appends k.among
@@ -113,7 +113,7 @@ module _ (decl : Declaration) (script : Script) (accepted : IsAccepted decl) (so
       let sent : In w.taken.envelope (mail h) = took_sent a [] h w.taken.envelope w.taken.taken in
       let here : In w.taken.envelope stood.net.mail =
       subst (λ (ms : List Envelope). In w.taken.envelope ms) (sym stood.mail_is) sent in
-      let b : IsGrantTo decl (state mirror.acts) stood.net.mail w.taken.envelope.from w.number w.life w.clock w.log =
+      let b : IsGrantTo decl (state mirror.acts) stood.net.mail w.taken.envelope.from w.number w.grant =
       subst (λ (x : Message). Backed decl (state mirror.acts) stood.net.mail w.taken.envelope.from w.taken.envelope.to
       x) w.taken.is (mirror.agrees.mail w.taken.envelope here) in
       let asked : IsRequest (mail h) w.number site tx w.want =
@@ -127,9 +127,7 @@ module _ (decl : Declaration) (script : Script) (accepted : IsAccepted decl) (so
         sent = here;
         from = from.0;
         number = w.number;
-        life = w.life;
-        clock = w.clock;
-        log = w.log;
+        grant = w.grant;
         grants = w.taken.is;
         want = w.want;
         asked = subst (λ (ms : List Envelope). IsRequest ms w.number site tx w.want) (sym stood.mail_is) asked;
@@ -139,7 +137,7 @@ module _ (decl : Declaration) (script : Script) (accepted : IsAccepted decl) (so
   pub granted_first : (site : ℕ) (tx : TxId) → IsGrantedBy stood.net.mail site tx
       → (state mirror.acts).epoch tx ≡ first_epoch
   granted_first site tx g =
-      let b : IsGrantTo decl (state mirror.acts) stood.net.mail g.answer.from g.number g.life g.clock g.log =
+      let b : IsGrantTo decl (state mirror.acts) stood.net.mail g.answer.from g.number g.grant =
       subst (λ (x : Message). Backed decl (state mirror.acts) stood.net.mail g.answer.from g.answer.to x) g.grants
       (mirror.agrees.mail g.answer g.sent) in
       let same : b.request.0 ≡ g.asked.is.0 = (let both_are : Some b.request.0 ≡ Some g.asked.is.0 = sym b.request.1

@@ -6,6 +6,7 @@ use Rattle.std.specs.Option.{option_map_or}
 use Rattle.std.proofs.lemmas.List.{append-nil, length-map, map-append}
 use Rattle.std.proofs.lemmas.List.Elements.{filter-append}
 use Rattle.qc_stamp.specs.declared.stamp.TxId.{TxId}
+use Rattle.qc_entry.specs.Vocabulary.{no_mark}
 use Rattle.qc_decl.specs.Vocabulary.{read_need_of}
 use Rattle.qc_decl.specs.declared.declaration.Declaration.{Declaration}
 use Rattle.qc_plan.specs.Vocabulary.{first, may_ask}
@@ -18,7 +19,7 @@ use Rattle.qc_msg.specs.Vocabulary.{Deed, Falls, Rises, Sends, Takes, Tells, Wri
 use Rattle.qc_promise.specs.Vocabulary.{Account, ClientRequest, Current, account_at, account_sent, account_taken}
 use Rattle.qc_promise.specs.Vocabulary.{account_written, answer_of, append_need, are_reads_met, asked_by, carries}
 use Rattle.qc_promise.specs.Vocabulary.{command_asks, commit_asks, do_asks, is_append, is_asked_for, is_next_voter}
-use Rattle.qc_promise.specs.Vocabulary.{is_of, is_read, is_this, new_account, requests_for, round_of}
+use Rattle.qc_promise.specs.Vocabulary.{is_of, is_read, is_this, new_account, reads_as, requests_for, round_of}
 use Rattle.laws_due.specs.Vocabulary.{AreByRows, IsSendDue}
 use Rattle.laws_guarantees.proofs.AskingOrder.{order, sites_in, count_in, IsInOrder, first_drop, of_reads, of_appends}
 use Rattle.laws_guarantees.proofs.AskingOrder.{IsHalf, taken_order, written_order}
@@ -45,7 +46,7 @@ module _ (decl : Declaration) where
       left_first d t is_read (read_need_of decl t.epoch object inv) site
       (and_first (is_next_voter decl d t is_read (read_need_of decl t.epoch object inv) site)
       (length (requests_for is_append d) == 0)
-      (and_second ((read.object == object) && (read.inv == inv))
+      (and_second (reads_as object inv no_mark read)
       (is_next_voter decl d t is_read (read_need_of decl t.epoch object inv) site
       && (length (requests_for is_append d) == 0)) is))
   do_next half of_reads d t object inv site (Append o view own) its is = absurd (let never : ⊥ = cc in never)

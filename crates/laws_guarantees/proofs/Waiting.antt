@@ -49,7 +49,7 @@ module _ (decl : Declaration) where
   told_current : (d : Account) (p : ClientRequest) (answer : Option Answer) → p.want ≡ Prepare
       → (told_by d p answer).current ≡ d.current
   told_current d p answer is = told_cases d p (λ a e. e.current ≡ d.current) (λ a. refl)
-      (λ life clock log. ap (λ (w : Want). (granted d p.site life clock log w).current) is) (λ epoch. refl)
+      (λ g. ap (λ (w : Want). (granted d p.site g w).current) is) (λ epoch. refl)
       (λ clock. ap (λ (w : Want). (promised d clock w).current) is) answer
 
   abbrev IsAsBefore : Account → Account → Type 0

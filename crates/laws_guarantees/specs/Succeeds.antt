@@ -12,7 +12,6 @@ use Rattle.qc_msg.specs.Vocabulary.{Entry, Invocation, committed_in, do_in, repl
 use Rattle.qc_promise.specs.Vocabulary.{Current, account}
 use Rattle.laws_guarantees.specs.Elsewhere.{IsOpenElsewhere}
 use Rattle.qc_stamp.specs.declared.stamp.Stamp.{Stamp}
-use Rattle.qc_entry.specs.declared.record.Commit.{Commit}
 
 -- each reply of a history has this property, of what stands before it and its actor
 

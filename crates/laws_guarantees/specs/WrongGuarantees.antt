@@ -9,19 +9,19 @@ use Rattle.qc_msg.specs.declared.message.Outcome.TheVariants.{Aborted}
 use Rattle.qc_msg.specs.declared.message.Want.TheVariants.{Read}
 use Rattle.qc_msg.specs.declared.step.Input.TheVariants.{Got}
 use Rattle.qc_msg.specs.Vocabulary.{Deed, Sends, Takes}
-use Rattle.qc_msg.specs.Vocabulary.{grant_with, read_of}
+use Rattle.qc_msg.specs.Vocabulary.{first_read, whole_grant}
 
 abbrev pub tx : TxId
 tx = record { client = 0; life = 1; number = 1 }
 
 -- a Read of object 0 by invocation 0, a message of client 1 to site 0
 abbrev pub asks : Deed
-asks = Takes (Got (record { number = 0; from = 1; to = 0; message = Request tx 1 0 (Read (read_of 0 0)) }))
+asks = Takes (Got (record { number = 0; from = 1; to = 0; message = Request tx 1 0 (Read (first_read 0 0)) }))
 
 -- it is granted, or refused, in the turn behind it
 
 abbrev pub granted : List Deed
-granted = asks ∷ Sends 1 1 (Answer 0 (Granted (grant_with 1 0 []))) ∷ []
+granted = asks ∷ Sends 1 1 (Answer 0 (Granted (whole_grant 1 0 []))) ∷ []
 
 abbrev pub refused : List Deed
 refused = asks ∷ Sends 1 1 (Answer 0 (Clash tx 0 0)) ∷ []

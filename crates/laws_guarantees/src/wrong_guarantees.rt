@@ -5,7 +5,7 @@ ghost use Rattle.std.specs.Prelude.{[], ◌∷◌};
 ghost use Rattle.qc_lock.specs.Held.{held_of};
 ghost use Rattle.qc_msg.specs.declared.message.Answer.TheVariants.{Granted, Stale, Yes};
 ghost use Rattle.qc_msg.specs.declared.message.Want.TheVariants.{Append, Prepare, Read};
-ghost use Rattle.qc_msg.specs.Payloads.{grant_with, read_of};
+ghost use Rattle.qc_msg.specs.Payloads.{first_read, whole_grant};
 ghost use Rattle.qc_promise.specs.SiteHeld.{held_shown};
 ghost use Rattle.laws_guarantees.specs.Clocks.{Tells};
 ghost use Rattle.laws_guarantees.specs.Held.{HasWanted};
@@ -24,17 +24,17 @@ pub fn forgetful_sites_are_refused()
 /// A lock that was granted is had. It isn't once the end was told, nor where it
 /// was refused; and a lock is no own line.
 pub fn lost_locks_are_refused()
-    ensures kept { HasWanted (held_of (held_shown granted) tx) (Read (read_of 0 0)) }
-    ensures ended { HasWanted (held_of (held_shown ended) tx) (Read (read_of 0 0)) → ⊥ }
-    ensures refused { HasWanted (held_of (held_shown refused) tx) (Read (read_of 0 0)) → ⊥ }
+    ensures kept { HasWanted (held_of (held_shown granted) tx) (Read (first_read 0 0)) }
+    ensures ended { HasWanted (held_of (held_shown ended) tx) (Read (first_read 0 0)) → ⊥ }
+    ensures refused { HasWanted (held_of (held_shown refused) tx) (Read (first_read 0 0)) → ⊥ }
     ensures own { HasWanted locked (Append 0 [] (line ∷ [])) → ⊥ }
 {}
 
 /// A grant tells its clock to who asked for a Read, and not to who asked for a
 /// promise; a promise only to that one; and a refusal tells none.
 pub fn uncounted_clocks_are_refused()
-    ensures kept { Tells 5 (Read (read_of 0 0)) (Granted (grant_with 1 5 [])) }
-    ensures grant { Tells 5 Prepare (Granted (grant_with 1 5 [])) → ⊥ }
-    ensures promise { Tells 5 (Read (read_of 0 0)) (Yes 5) → ⊥ }
+    ensures kept { Tells 5 (Read (first_read 0 0)) (Granted (whole_grant 1 5 [])) }
+    ensures grant { Tells 5 Prepare (Granted (whole_grant 1 5 [])) → ⊥ }
+    ensures promise { Tells 5 (Read (first_read 0 0)) (Yes 5) → ⊥ }
     ensures refusal { Tells 5 Prepare Stale → ⊥ }
 {}

@@ -15,7 +15,7 @@ use Rattle.qc_msg.specs.declared.turn.Appended.TheVariants.{Done, Failed, Stoppe
 use Rattle.qc_msg.specs.declared.turn.Posting.{Posting}
 use Rattle.qc_msg.specs.declared.turn.Turn.{Turn}
 use Rattle.qc_msg.specs.Vocabulary.{Entry, Rises, by, deeds, envelopes, mail, marked, own, posted_as}
-use Rattle.laws_refinement.specs.Vocabulary.{Net, after_admin_rise}
+use Rattle.laws_refinement.specs.Vocabulary.{after_admin_rise}
 use Rattle.laws_refinement.specs.Net as nets
 use Rattle.laws_refinement.proofs.Machine.{put_other}
 use Rattle.qc_promise.specs.Vocabulary.{IsGivenBack, Journal, journal_of}

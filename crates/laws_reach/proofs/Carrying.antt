@@ -1,5 +1,5 @@
 -- A commit record that is known after a client's deeds has the operations that the client was told: deed by deed.
-use Rattle.std.proofs.Common.{[], ◌≡◌, ◌≤◌, ◌⊎◌, inl, inr, ℕ, ◌+◌, Bool, true, fold, List, ◌∷◌, ◌++◌, Option, Some}
+use Rattle.std.proofs.Common.{[], ◌≡◌, ◌≤◌, ◌⊎◌, inl, inr, ℕ, Bool, true, fold, List, ◌∷◌, ◌++◌, Option, Some}
 use Rattle.std.proofs.Common.{None, option_to_list, refl, sym, ap, ◌∙◌, subst, arith}
 use Rattle.std.proofs.lemmas.List.Sums.{fold-append}
 use Rattle.qc_list.specs.Vocabulary.{In}

@@ -5,7 +5,6 @@ use Rattle.std.specs.Option.{option_map_or}
 use Rattle.std.specs.List.{find}
 use Rattle.qc_stamp.specs.declared.stamp.TxId.{TxId}
 use Rattle.qc_entry.specs.declared.line.Op.{Op}
-use Rattle.qc_entry.specs.declared.line.Line.{Line}
 use Rattle.qc_entry.specs.declared.record.Commit.{Commit}
 use Rattle.qc_decl.specs.declared.declaration.Declaration.{Declaration}
 use Rattle.qc_msg.specs.declared.message.Answer.{Answer}
@@ -67,15 +66,14 @@ with_same d change same = by d.current
     by None = refl
     by (Some t) = ap (λ (g : Going). record (gist d) { begun = Some g }) (same t)
 
-granted_same : (d : Account) (site life clock : ℕ) (log : List Line) (want : Want)
-    → gist (granted d site life clock log want) ≡ gist d
-granted_same d site life clock log (Read read) =
-    with_same (record d { clock = (granted d site life clock log (Read read)).clock })
-    (λ (t : Current). with_read (lived t site life) read.object log) (λ t. refl)
-granted_same d site life clock log (Append object view own) =
-    with_same (record d { clock = (granted d site life clock log (Append object view own)).clock })
-    (λ (t : Current). lived t site life) (λ t. refl)
-granted_same d site life clock log Prepare = refl
+granted_same : (d : Account) (site : ℕ) (x : Grant) (want : Want) → gist (granted d site x want) ≡ gist d
+granted_same d site x (Read read) =
+    with_same (record d { clock = (granted d site x (Read read)).clock })
+    (λ (t : Current). with_read (lived t site x.life) read.object x.log) (λ t. refl)
+granted_same d site x (Append object view own) =
+    with_same (record d { clock = (granted d site x (Append object view own)).clock })
+    (λ (t : Current). lived t site x.life) (λ t. refl)
+granted_same d site x Prepare = refl
 
 promised_same : (d : Account) (clock : ℕ) (want : Want) → gist (promised d clock want) ≡ gist d
 promised_same d clock (Read read) = refl
@@ -86,10 +84,10 @@ told_same : (d : Account) (q : ClientRequest) (o : Option Answer) → gist (told
 told_same d q o = by (option_and_then granted_in o) (option_and_then closed_in o) (option_and_then promised_in o)
   where
     by : (grant : Option Grant) (epoch clock : Option ℕ) → gist
-        (option_map_or (λ (g : Grant). granted d q.site g.life g.clock g.log q.want) grant
+        (option_map_or (λ (g : Grant). granted d q.site g q.want) grant
         (option_map_or (λ (k : ℕ). record d { known = max d.known k }) epoch
         (option_map_or (λ (k : ℕ). promised d k q.want) clock d))) ≡ gist d
-    by (Some g) epoch clock = granted_same d q.site g.life g.clock g.log q.want
+    by (Some g) epoch clock = granted_same d q.site g q.want
     by None (Some k) clock = refl
     by None None (Some k) = promised_same d k q.want
     by None None None = refl

@@ -1,7 +1,6 @@
 -- An actor that posts a turn, or falls in it: what history it leaves, and what the next net has to show.
 use Rattle.std.proofs.Common.{[], ◌≡◌, ◌≢◌, ℕ, ◌==◌, Bool, true, false, cond, List, ◌++◌, length, Option, Some, None}
 use Rattle.std.proofs.Common.{slice_get, inl, inr, refl, sym, ap, ◌∙◌, eqb-true}
-use Rattle.qc_core.specs.declared.actor.Actor.TheVariants as actor
 use Rattle.qc_core.specs.Vocabulary.{IsLawfulWithFalls, actor_after, is_up, journal_after, with_record}
 use Rattle.qc_decl.specs.declared.declaration.Declaration.{Declaration}
 use Rattle.qc_decl.specs.Vocabulary.{administrator, is_administrator, is_client, is_site}
@@ -10,7 +9,7 @@ use Rattle.qc_msg.specs.declared.record.Record.{Record}
 use Rattle.qc_msg.specs.declared.turn.Appended.{Appended}
 use Rattle.qc_msg.specs.declared.turn.Posting.{Posting}
 use Rattle.qc_msg.specs.declared.turn.Turn.{Turn}
-use Rattle.qc_msg.specs.Vocabulary.{Deed, Entry, by, deeds, deeds_as, envelopes, mail, sends_as}
+use Rattle.qc_msg.specs.Vocabulary.{Deed, Entry, deeds, deeds_as, envelopes, mail, sends_as}
 use Rattle.laws_refinement.specs.Vocabulary.{Net, Reaches, after_fall}
 use Rattle.laws_refinement.proofs.Machine.{put_other}
 use Rattle.qc_promise.specs.Vocabulary.{Journal}

@@ -19,10 +19,11 @@ use Rattle.qc_msg.specs.declared.message.Envelope.{Envelope}
 use Rattle.qc_msg.specs.declared.message.Message.{Message}
 use Rattle.qc_msg.specs.declared.message.Message.TheVariants.{Answer, Request}
 use Rattle.qc_msg.specs.declared.message.Want.{Want}
+use Rattle.qc_msg.specs.declared.payload.Grant.{Grant}
 use Rattle.qc_msg.specs.declared.record.Record.{Record}
 use Rattle.qc_msg.specs.declared.record.Record.TheVariants as journals
 use Rattle.qc_msg.specs.declared.step.Input.TheVariants as inputs
-use Rattle.qc_msg.specs.Vocabulary.{Entry, Sends, Takes, deeds, grant_with}
+use Rattle.qc_msg.specs.Vocabulary.{Entry, Sends, Takes, deeds}
 use Rattle.laws_refinement.specs.Vocabulary.{IsGrantTo, IsGrantable, Refines, lines_in}
 use Rattle.laws_refinement.proofs.Refining.{nets_refine}
 use Rattle.theory_onecopy.specs.Vocabulary.{AreApart, IsLogged}
@@ -97,26 +98,25 @@ module _ (fits : ℕ → List Record → Type 0) (decl : Declaration) (script : 
   in_net : (a : ℕ) (e : Envelope) → In (Takes (inputs.Got e)) (deeds a [] h) → In e net.net.mail
   in_net a e among = subst (In e) (sym net.mail_is) (took_sent a [] h e among)
 
-  line_up : (a : ℕ) (e : Envelope) → In (Takes (inputs.Got e)) (deeds a [] h) → (to life clock : ℕ) (log : List Line)
-      → e.message ≡ Answer to (Granted (grant_with life clock log)) → (l : Line) → In l log
-      → IsUpTo (committed decl h) l.tx clock
-  line_up a e among to life clock log is l in_log =
+  line_up : (a : ℕ) (e : Envelope) → In (Takes (inputs.Got e)) (deeds a [] h) → (to : ℕ) (x : Grant)
+      → e.message ≡ Answer to (Granted x) → (l : Line) → In l x.log → IsUpTo (committed decl h) l.tx x.clock
+  line_up a e among to x is l in_log =
       let k : IsLogged decl (records decl h) l =
       reached.message_lines fits decl script h open_inputs accepted sound run kept (records decl h) stand e l
       (took_sent a [] h e among) (subst (λ (m : Message). In l (lines_in m)) (sym is) in_log) in
-      let low : l.stamp.clock ≤ clock = lines_passed decl accepted net.net net.reached e
-      (in_net a e among) to life clock log is l in_log in
+      let low : l.stamp.clock ≤ x.clock = lines_passed decl accepted net.net net.reached e
+      (in_net a e among) to x is l in_log in
       let same : l.stamp.clock ≡ k.commit.stamp.clock = ap (λ (s : Stamp). s.clock) k.stamped in
       record { commit = k.commit; listed = listed k.commit k.listed; named = sym k.named; low = omega arith }
 
-  was_asked : (a : ℕ) (e : Envelope) → In (Takes (inputs.Got e)) (deeds a [] h) → (to life clock : ℕ) (log : List Line)
-      → e.message ≡ Answer to (Granted (grant_with life clock log))
+  was_asked : (a : ℕ) (e : Envelope) → In (Takes (inputs.Got e)) (deeds a [] h) → (to : ℕ) (x : Grant)
+      → e.message ≡ Answer to (Granted x)
       → (site : ℕ) (tx : TxId) (epoch at : ℕ) (want : Want)
       → In (Sends to site (Request tx epoch at want)) (deeds a [] h) → is_prepare want ≡ false
-  was_asked a e among to life clock log is site tx epoch at want sent =
+  was_asked a e among to x is site tx epoch at want sent =
       let r : Refines decl net.net = nets_refine decl accepted net.net net.reached in
-      let g : IsGrantTo decl (state r.acts) net.net.mail e.from to life clock log =
-      granted decl net.net r e (in_net a e among) to life clock log is in
+      let g : IsGrantTo decl (state r.acts) net.net.mail e.from to x =
+      granted decl net.net r e (in_net a e among) to x is in
       let there : slice_get net.net.mail to ≡ Some
       (record { number = to; from = a; to = site; message = Request tx epoch at want }) =
       r.agrees.numbered (record { number = to; from = a; to = site; message = Request tx epoch at want })

@@ -99,7 +99,7 @@ module _ (decl : Declaration) (B : TxId → Type 0) where
 
     granted : (tx : TxId) (want : Want) → B tx → Promising (grants decl s from number tx want)
     granted tx (Read read) here =
-        read_cases Promising decl s from number tx read.object read.inv (λ free. record { failed = tt; writes = tt })
+        read_cases Promising decl s from number tx read (λ free. record { failed = tt; writes = tt })
         (λ c clash. record { failed = tt; writes = tt })
     granted tx (Append object view own) here =
         append_cases Promising decl s from number tx object view own (λ free. record { failed = tt; writes = tt })

@@ -1,5 +1,5 @@
 -- A client's clock has passed its records; what pends is above it, whether it is up, down, or rises.
-use Rattle.std.proofs.Common.{[], ◌≡◌, ◌<◌, ℕ, ◌-◌, List, ◌∷◌, ◌++◌, inl, inr, Option, None, option_to_list, sym, ◌∙◌}
+use Rattle.std.proofs.Common.{[], ◌≡◌, ◌<◌, ℕ, List, ◌∷◌, ◌++◌, inl, inr, Option, None, option_to_list, sym, ◌∙◌}
 use Rattle.std.proofs.Common.{subst}
 use Rattle.std.specs.List.{AllByRecursion as Every}
 use Rattle.std.proofs.lemmas.List.{append-nil}

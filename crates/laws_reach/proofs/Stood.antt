@@ -12,7 +12,6 @@ use Rattle.qc_decl.proofs.Clients.{client_no_site}
 use Rattle.qc_decl.specs.Vocabulary.{administrator, is_client, is_site}
 use Rattle.qc_client.specs.declared.client.Client.{Client}
 use Rattle.qc_msg.specs.declared.message.Envelope.{Envelope}
-use Rattle.qc_msg.specs.declared.step.Input.TheVariants as given
 use Rattle.qc_msg.specs.Vocabulary.{Deed, Entry, WasSentTo, deeds, mail}
 use Rattle.laws_refinement.specs.Vocabulary.{MayCommand, Net, Reaches}
 use Rattle.qc_epoch.specs.Vocabulary.{Admin}

@@ -1,5 +1,5 @@
 -- A post takes nothing, whatever becomes of its record; begun transactions alone are asked about.
-use Rattle.std.proofs.Common.{[], ◌≡◌, ◌-◌, ◌≤◌, ℕ, ◌+◌, Bool, true, List, ◌∷◌, ◌++◌, Option, Some, None, arith}
+use Rattle.std.proofs.Common.{[], ◌≡◌, ◌≤◌, ℕ, ◌+◌, Bool, true, List, ◌∷◌, ◌++◌, Option, Some, None, arith}
 use Rattle.std.specs.List.{AllByRecursion as Every}
 use Rattle.qc_core.specs.Vocabulary.{IsLawfulWithFalls}
 use Rattle.qc_msg.specs.Vocabulary.{Entry, Falls, deeds, deeds_as, sends_of, tells_of}

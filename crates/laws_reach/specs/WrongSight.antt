@@ -9,7 +9,7 @@ use Rattle.qc_msg.specs.declared.reply.Reply.TheVariants.{Unknown}
 use Rattle.qc_msg.specs.declared.step.Fall.TheVariants.{Disk, Script}
 use Rattle.qc_msg.specs.declared.step.Step.TheVariants.{Fell, Rose, Sent, Told, Wrote}
 use Rattle.qc_msg.specs.Vocabulary.{Entry, marked}
-use Rattle.qc_msg.specs.Vocabulary.{read_of}
+use Rattle.qc_msg.specs.Vocabulary.{first_read}
 use Rattle.qc_stamp.specs.declared.stamp.TxId.{TxId}
 use Rattle.laws_atomic.specs.Vocabulary.{asks, begins, commit, first, hears, is_granted, is_told, stamp, they_commit}
 use Rattle.laws_atomic.specs.Vocabulary.{writes}
@@ -36,7 +36,7 @@ abbrev pub lives : Entry
 lives = marked 1 (Wrote records.Life)
 
 abbrev pub asks_anew : Entry
-asks_anew = marked 1 (Sent 0 0 (Request anew 1 0 (Read (read_of 0 0))))
+asks_anew = marked 1 (Sent 0 0 (Request anew 1 0 (Read (first_read 0 0))))
 
 -- the client was told in its first life of a commit at clock 5
 abbrev pub told_before : ℕ → List Entry

@@ -12,8 +12,8 @@ use Rattle.qc_msg.specs.declared.reply.Reply.{Reply}
 use Rattle.qc_msg.specs.declared.reply.Reply.TheVariants as replies
 use Rattle.qc_msg.specs.declared.turn.Posting.{Posting}
 use Rattle.qc_msg.specs.Vocabulary.{envelopes, quiet, with_call}
-use Rattle.theory_machine.specs.Vocabulary.{Act, Decide, IsRun, State, state}
-use Rattle.qc_epoch.specs.Vocabulary.{Admin, AdminMove, Doing, Installing, Resting, again, all_sites, decides}
+use Rattle.theory_machine.specs.Vocabulary.{Act, IsRun, State, state}
+use Rattle.qc_epoch.specs.Vocabulary.{Admin, AdminMove, Doing, Installing, Resting, again, all_sites}
 use Rattle.qc_msg.specs.declared.payload.EpochStart.{EpochStart}
 use Rattle.qc_epoch.specs.Vocabulary.{doing, install_of, install_sends, moved, replies_with}
 use Rattle.laws_refinement.specs.Vocabulary.{AdminMirrors, Backed, Continues, DecidedMirrors, DoingMirrors, IsDecided}

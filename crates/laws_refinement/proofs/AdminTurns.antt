@@ -1,6 +1,6 @@
 -- What the administrator does where he waits, ends, installs, asks or decides: an act of the machine where he decides,
 -- and none otherwise.
-use Rattle.std.proofs.Common.{[], ◌≡◌, ◌≢◌, ℕ, zero, suc, ◌+◌, ◌==◌, nat_le, Bool, true, false, cond, inl, inr, List}
+use Rattle.std.proofs.Common.{[], ◌≡◌, ◌≢◌, ℕ, zero, suc, ◌==◌, nat_le, Bool, true, false, cond, inl, inr, List}
 use Rattle.std.proofs.Common.{◌∷◌, ◌++◌, length, map, take, Option, Some, None, refl, sym, subst}
 use Rattle.qc_stamp.specs.declared.stamp.TxId.{TxId}
 use Rattle.qc_list.specs.Vocabulary.{In}
@@ -23,7 +23,6 @@ use Rattle.laws_refinement.specs.Vocabulary.{Mirrors, Net, QuestionMirrors, Rule
 use Rattle.qc_msg.specs.declared.record.Record.{Record}
 use Rattle.qc_msg.specs.declared.record.Record.TheVariants as records
 use Rattle.qc_msg.specs.Vocabulary.{start_with}
-use Rattle.qc_recover.specs.Admins.{keeps}
 use Rattle.laws_refinement.proofs.Nets.{admin_net}
 use Rattle.laws_refinement.proofs.Asks.{numbers_cover, questions_cover, questions_new, take_begins}
 use Rattle.laws_refinement.proofs.Decides.{decision_of, may_decide}

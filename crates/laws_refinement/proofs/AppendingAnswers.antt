@@ -133,16 +133,16 @@ module _ (decl : Declaration) where
             (subst (λ (n : ℕ). IsMessage net.mail n found.call.site
             (messages.Request t.begun.tx t.begun.epoch (life_of t.begun.lives found.call.site) r.0))
             found.numbered r.1)) in
-            let stood : Stood decl (state acts) site grant_here.life grant_here.clock grant_here.log t.begun.tx
+            let stood : Stood decl (state acts) site grant_here t.begun.tx
             (append_want decl t object event site) (life_of t.begun.lives site) =
-            behind decl (state acts) net.mail from number site grant_here.life grant_here.clock grant_here.log
+            behind decl (state acts) net.mail from number site grant_here
             t.begun.tx t.begun.epoch (life_of t.begun.lives site) (append_want decl t object event site)
             request bk in
-            let g : IsGrant decl (state acts) site grant_here.life grant_here.clock grant_here.log t.begun.tx
+            let g : IsGrant decl (state acts) site grant_here t.begun.tx
             (append_want decl t object event site) = stood.grant in
             let lives : LivesMirror (g.grant ∷ (state acts).counted) t.begun.tx
             (with_life t.begun.lives site grant_here.life) =
-            lives_more decl (state acts) t site grant_here.life grant_here.clock grant_here.log
+            lives_more decl (state acts) t site grant_here
             (append_want decl t object event site) g k.0.begun.lives stood.lived in
             refined decl (state acts) net a _ m client up
             (appending decl (state acts) net a (Count g.grant ∷ acts)
@@ -152,8 +152,8 @@ module _ (decl : Declaration) where
             (mid_count decl (state acts) acts (net.clients a).front.client mid g.grant g.given
             (ap (state acts).status g.its ∙ k.0.active) (g.epoch_is ∙ ap (state acts).epoch (sym g.its))
             (ap (λ (u : TxId). u.client) g.its ∙ mine decl (state acts) a (net.clients a) t k.0)) refl
-            (append_counted decl (state acts) a (net.clients a) t site grant_here.life grant_here.clock object
-            (view_log t object) (own_appended decl t object event) grant_here.log g lives k.0)
+            (append_counted decl (state acts) a (net.clients a) t site object
+            (view_log t object) (own_appended decl t object event) grant_here g lives k.0)
             chosen.0 chosen.1
             (note_round decl (net.clients a).front.client t.begun.epoch (append_need_of decl t.begun.epoch object event)
             round site standings.Granted round_is)

@@ -17,7 +17,7 @@ use Rattle.qc_msg.specs.declared.message.Message.TheVariants as messages
 use Rattle.qc_msg.specs.declared.message.Outcome.TheVariants as outcomes
 use Rattle.qc_msg.specs.declared.turn.Posting.{Posting}
 use Rattle.qc_msg.specs.Vocabulary.{sending}
-use Rattle.theory_machine.specs.Vocabulary.{Aborted, Act, Active, Announce, Committed, IsRun, NotBegun, Status, state}
+use Rattle.theory_machine.specs.Vocabulary.{Aborted, Act, Announce, Committed, IsRun, NotBegun, Status, state}
 use Rattle.theory_machine.specs.Vocabulary.{verdict_of}
 use Rattle.qc_commit.specs.Vocabulary.{known_by, record_of}
 use Rattle.qc_client.specs.Vocabulary.{is_begun, moved, outcome_by, outcome_of}

@@ -10,7 +10,6 @@ use Rattle.qc_list.proofs.Members.{In-first, In-second, In-unfiltered, In-either
 use Rattle.qc_entry.specs.declared.record.Commit.{Commit as CommitRecord}
 use Rattle.qc_decl.specs.declared.declaration.Declaration.{Declaration}
 use Rattle.qc_decl.specs.Vocabulary.{administrator, is_client}
-use Rattle.qc_msg.specs.declared.message.Answer.{Answer}
 use Rattle.qc_msg.specs.declared.message.Message.{Message}
 use Rattle.qc_msg.specs.declared.message.Message.TheVariants as messages
 use Rattle.qc_msg.specs.declared.message.Want.TheVariants.{Read, Append, Prepare}
@@ -22,7 +21,7 @@ use Rattle.theory_machine.proofs.Names.{put_here}
 use Rattle.qc_commit.specs.declared.desk.Voting.{Voting}
 use Rattle.qc_commit.specs.Conduct as desks
 use Rattle.qc_commit.specs.Vocabulary.{record_of}
-use Rattle.qc_client.specs.Vocabulary.{ClientMove, client_takes, commits, sent_one}
+use Rattle.qc_client.specs.Vocabulary.{ClientMove, client_takes, sent_one}
 use Rattle.qc_client.specs.declared.client.Client.{Client}
 use Rattle.qc_recover.specs.Vocabulary.{client_rises}
 use Rattle.qc_recover.specs.Clients.{Kept, kept_by}

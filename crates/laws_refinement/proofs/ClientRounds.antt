@@ -257,7 +257,7 @@ module _ (decl : Declaration) where
           calls = asked;
         }))
         (requests_backed (state acts) net.mail a t (read_want object inv) (wanted round)
-        (actor decl (state acts) a c t core) core.active core.begun.epoch (λ site. tt))
+        (actor decl (state acts) a c t core) core.active core.begun.epoch (λ site. refl))
         (requests_asking (by_front c (read_by decl c.front t object inv calls round verdicts.Waiting)).client t
         (with_asked t (wanted round)) (read_want object inv) (wanted round) refl refl refl refl (λ site. refl))
     reading acts c t object inv calls round its m records core holds chosen named is counted asked verdicts.Met e =

@@ -20,7 +20,7 @@ use Rattle.qc_recover.specs.Vocabulary.{kept_by}
 use Rattle.laws_refinement.proofs.Nets.{site_goes}
 use Rattle.laws_refinement.proofs.SiteSteps.{one_answer}
 use Rattle.laws_refinement.proofs.BothPromises.{Behind, asked_begun, behind, was_asked}
-use Rattle.laws_refinement.proofs.Known.{known_ascends}
+use Rattle.qc_site.proofs.KnownLines.{known_ascends}
 
 module _ (decl : Declaration) (accepted : IsAccepted decl) (acts : List Act) (net : Net) (a : ℕ) (run : IsRun decl acts)
     (m : Mirrors decl (state acts) net) (site : is_site decl a ≡ true) (up : net.up a ≡ true) where

@@ -31,7 +31,7 @@ use Rattle.laws_refinement.proofs.Nets.{site_goes}
 use Rattle.laws_refinement.proofs.SiteGrants.{says}
 use Rattle.laws_refinement.proofs.SiteSteps.{one_answer}
 use Rattle.laws_refinement.proofs.HeldByPromises.{by_promises_held, by_promises_holder, by_promises_owned}
-use Rattle.laws_refinement.proofs.Known.{known_ascends}
+use Rattle.qc_site.proofs.KnownLines.{known_ascends}
 use Rattle.laws_refinement.proofs.ClosedAlready.{again, epoch_kept, in_ordered, promised_begun, snap}
 use Rattle.theory_machine.proofs.Epochs.{epoch-append, shut-append}
 use Rattle.qc_list.proofs.Members.{In-either}

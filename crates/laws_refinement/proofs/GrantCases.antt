@@ -1,6 +1,7 @@
 -- A Read or an Append that a site looks at: a grant of the machine, or none where it clashes.
 use Rattle.std.proofs.Common.{◌≡◌, ◌≢◌, ◌≤◌, ℕ, ◌==◌, true, false, IsTrue, ◌⊎◌, inl, inr, List, [], ◌∷◌, ◌++◌, Some}
-use Rattle.std.proofs.Common.{None, refl, sym, ap, ◌∙◌, subst, eq-eqb, eqb-true}
+use Rattle.std.proofs.Common.{None, refl, sym, ap, ◌∙◌, subst, eq-eqb, eqb-true, ◌<◌, ◌&&◌, nat_le, Bool, length}
+use Rattle.std.proofs.Common.{if◌then◌else◌, arith}
 use Rattle.qc_stamp.specs.declared.stamp.TxId.{TxId}
 use Rattle.qc_stamp.specs.Vocabulary.{same_tx}
 use Rattle.qc_list.specs.Vocabulary.{In}
@@ -8,8 +9,8 @@ use Rattle.qc_list.proofs.Members.{In-filter, In-first, In-passes, In-second, In
 use Rattle.qc_entry.specs.declared.line.Line.{Line}
 use Rattle.qc_entry.specs.declared.line.OwnLine.{OwnLine}
 use Rattle.qc_entry.specs.declared.line.ReadLock.{ReadLock}
-use Rattle.qc_entry.specs.Vocabulary.{of_object}
-use Rattle.qc_entry.proofs.Members.{ascending-of_object}
+use Rattle.qc_entry.specs.Vocabulary.{IsAscending, log_of, no_mark, of_object, told}
+use Rattle.qc_entry.proofs.Logs.{ascending-log, in_log, of_log}
 use Rattle.qc_decl.specs.declared.declaration.Declaration.{Declaration}
 use Rattle.qc_decl.specs.Vocabulary.{IsAccepted, is_site}
 use Rattle.qc_table.specs.Vocabulary.{depends}
@@ -24,15 +25,17 @@ use Rattle.theory_machine.specs.Vocabulary.{each_held, items_of, site_after, sta
 use Rattle.theory_machine.proofs.Holdings.{held_lines_are_one_an_operation}
 use Rattle.theory_machine.proofs.Names.{put_here}
 use Rattle.theory_machine.proofs.SiteLists.{items_of-append, items_of-each_held}
+use Rattle.qc_site.specs.Vocabulary.{HasArrived, arrived_of, grant_told}
 use Rattle.qc_site.specs.Vocabulary.{SiteMove, appends, clashing, grants, known, moved, reads, relation_at}
 use Rattle.qc_site.proofs.RequestCases.{append_cases, read_cases}
 use Rattle.laws_refinement.specs.Vocabulary.{Continues, IsHeld, IsMessage, IsWanted, Mirrors, Net, SiteMirrors}
 use Rattle.laws_refinement.specs.Vocabulary.{after_site, own_item, own_items}
 use Rattle.qc_msg.specs.declared.message.Message.TheVariants as messages
-use Rattle.qc_msg.specs.Vocabulary.{read_of}
+use Rattle.qc_msg.specs.declared.payload.ReadRequest.{ReadRequest}
+use Rattle.qc_msg.specs.Vocabulary.{append_grant, first_read}
 use Rattle.laws_refinement.proofs.Held.{append_holder, append_is_free, given_back, given_held, given_keeps}
 use Rattle.laws_refinement.proofs.Held.{lock_given_here, own_given_here, read_holder, read_is_free}
-use Rattle.laws_refinement.proofs.Known.{known_ascends, learned_ascends, learned_from, learned_in}
+use Rattle.qc_site.proofs.KnownLines.{learned_ascends, learned_from, learned_in}
 use Rattle.laws_refinement.proofs.Machine.{site_more}
 use Rattle.laws_refinement.proofs.SiteGrants.{grants_it, stands}
 use Rattle.laws_refinement.proofs.SiteSteps.{by_relation, clash_turn, grant_allowed, grant_of, grants_more}
@@ -55,38 +58,41 @@ module _ (decl : Declaration) (accepted : IsAccepted decl) (acts : List Act) (ne
     (m : Mirrors decl (state acts) net) (site : is_site decl a ≡ true) (up : net.up a ≡ true) where
   -- a Read
 
-  pub read_case : (clock from number : ℕ) (tx : TxId) (epoch named object inv : ℕ)
+  pub read_case : HasArrived (net.sites a) → (clock from number : ℕ) (tx : TxId) (epoch named : ℕ) (r : ReadRequest)
+      → r.mark ≡ no_mark
       → (net.sites a).epoch ≡ (state acts).epoch tx → (net.sites a).closed_for ≡ None
       → ((named ≡ 0) ⊎ (named ≡ (net.sites a).life)) → (net.sites a).clock ≤ clock
-      → IsMessage net.mail number a (messages.Request tx epoch named (Read (read_of object inv)))
+      → IsMessage net.mail number a (messages.Request tx epoch named (Read r))
       → (state acts).status tx ≢ NotBegun
       → Continues decl acts (after_site net a (grants decl (record (net.sites a) { clock = clock }) from number tx
-      (Read (read_of object inv))))
-  read_case clock from number tx epoch named object inv current unshut lived more request begun =
+      (Read r)))
+  read_case has clock from number tx epoch named r unmarked current unshut lived more request begun =
       read_cases (λ (move : SiteMove). Continues decl acts (after_site net a move)) decl
-      (record (net.sites a) { clock = clock }) from number tx object inv granted clashes
+      (record (net.sites a) { clock = clock }) from number tx r granted clashes
     where
       lock : ReadLock
-      lock = record { object = object; inv = inv }
+      lock = record { object = r.object; inv = r.inv }
 
       ms : SiteMirrors decl (net.sites a) ((state acts).deeds a) ((state acts).life a)
       ms = m.sites a site up
 
-      free_of : (t : TxId) (x y : Item) → read_clash (relation_at decl object) (net.sites a).held tx object inv ≡ None
-          → In x (Lock (record { object = object; inv = inv }) ∷ []) → IsHeld (held_of (net.sites a).held t) y
+      free_of : (t : TxId) (x y : Item)
+          → read_clash (relation_at decl r.object) (net.sites a).held tx r.object r.inv ≡ None
+          → In x (Lock (record { object = r.object; inv = r.inv }) ∷ []) → IsHeld (held_of (net.sites a).held t) y
           → same_tx t tx ≡ false → Conflict decl x y → ⊥
       free_of t x y free (inr never) held other conflict = never
       free_of t x y free (inl same) held other conflict =
           by y held (subst (λ (z : Item). Conflict decl z y) same conflict)
         where
           by : (z : Item) → IsHeld (held_of (net.sites a).held t) z
-              → Conflict decl (Lock (record { object = object; inv = inv })) z → ⊥
+              → Conflict decl (Lock (record { object = r.object; inv = r.inv })) z → ⊥
           by (Lock l) h never = never
           by (Own o) h c =
-              let no : depends (relation_at decl object) inv o.event ≡ false =
-              read_is_free (relation_at decl object) (net.sites a).held tx t object inv o free other h (sym c.0) in
-              let yes : depends (relation_at decl object) inv o.event ≡ true =
-              by_relation decl object inv o.event (subst (λ (k : ℕ). IsTrue (depends_at decl k inv o.event))
+              let no : depends (relation_at decl r.object) r.inv o.event ≡ false =
+              read_is_free (relation_at decl r.object) (net.sites a).held tx t r.object r.inv o free other h (sym c.0)
+              in
+              let yes : depends (relation_at decl r.object) r.inv o.event ≡ true =
+              by_relation decl r.object r.inv o.event (subst (λ (k : ℕ). IsTrue (depends_at decl k r.inv o.event))
               (sym c.0) c.1) in
               let never : ⊥ = cc in never
 
@@ -95,16 +101,16 @@ module _ (decl : Declaration) (accepted : IsAccepted decl) (acts : List Act) (ne
       new x (inl same) = subst (λ (y : Item). IsHeld (held_of (with_held (net.sites a).held tx (lock ∷ []) []) tx) y)
           (sym same) (lock_given_here (net.sites a).held tx lock)
 
-      object_is : (o i : ℕ) → Read (read_of object inv) ≡ Read (read_of o i) → object ≡ o
+      object_is : (o i : ℕ) → Read r ≡ Read (first_read o i) → r.object ≡ o
       object_is o i same = ap object_wanted same
 
-      granted : read_clash (relation_at decl object) (net.sites a).held tx object inv ≡ None
+      granted : read_clash (relation_at decl r.object) (net.sites a).held tx r.object r.inv ≡ None
           → Continues decl acts (after_site net a (reads
-          (record (net.sites a) { clock = clock }) from number tx object inv))
+          (record (net.sites a) { clock = clock }) from number tx r))
       granted free =
-          grants_it decl acts net a run m site up clock from number tx epoch named (Read (read_of object inv)) tt
-          (of_object (known (net.sites a)) object)
-          (reads (record (net.sites a) { clock = clock }) from number tx object inv).site
+          grants_it decl acts net a run m site up clock from number tx epoch named (Read r) tt
+          (grant_told (record (net.sites a) { clock = clock }) r) refl refl
+          (reads (record (net.sites a) { clock = clock }) from number tx r).site
           (record {
             began = (m.alike a site up).began;
             recorded = (m.alike a site up).recorded;
@@ -116,7 +122,7 @@ module _ (decl : Declaration) (accepted : IsAccepted decl) (acts : List Act) (ne
             run,
           ) begun request lived
           (grants_more decl ((state acts).life a) (net.sites a)
-          (reads (record (net.sites a) { clock = clock }) from number tx object inv).site ((state acts).deeds a) tx
+          (reads (record (net.sites a) { clock = clock }) from number tx r).site ((state acts).deeds a) tx
           (Lock lock ∷ []) [] ms (record { life = refl; epoch = refl; closed_for = refl }) more
           (λ t x among. given_keeps (net.sites a).held tx t (lock ∷ []) [] x (λ o l is same never. absurd never)
           (ms.held t x among)) new
@@ -125,21 +131,46 @@ module _ (decl : Declaration) (accepted : IsAccepted decl) (acts : List Act) (ne
           (λ l never. absurd never) (λ l never. absurd never) (λ l h. h) (λ l h. inl h) ms.sorted refl)
           (λ t held. given_held (λ (u : TxId). (state acts).status u ≢ NotBegun) (net.sites a).held tx (lock ∷ []) []
           (λ u h. m.holders a u site up h) begun t held)
-          (ascending-of_object (known (net.sites a)) object
-          (known_ascends (net.sites a).began (net.sites a).log ms.sorted))
-          (λ l among. ms.logged l (object_in l (known (net.sites a)) object among).0)
-          (λ o i same l among. (object_in l (known (net.sites a)) object among).1 ∙ object_is o i same)
-          (λ o i same l among on. in_object l (known (net.sites a)) object (ms.log l among)
-          (on ∙ sym (object_is o i same)))
+          (subst (λ (ls : List Line). IsAscending ls) (sym whole) (ascending-log (arrived_of (net.sites a) r.object)))
+          (λ l among. ms.logged l (told_known l among).0)
+          (λ o i same l among. (told_known l among).1 ∙ object_is o i same)
+          (λ o i same l among on. subst (λ (ls : List Line). In l ls) (sym whole)
+          (in_log l (arrived_of (net.sites a) r.object)
+          (in_object l (net.sites a).arrived r.object (has.all l (ms.log l among)) (on ∙ sym (object_is o i same)))))
+        where
+          -- a Read without a mark is told all lines of the object
+          whole : (grant_told (record (net.sites a) { clock = clock }) r).log
+              ≡ log_of (arrived_of (net.sites a) r.object)
+          whole =
+              ap (told (net.sites a).life (net.sites a).epoch (arrived_of (net.sites a) r.object)) unmarked
+              ∙ ap (λ (b : Bool). log_of (if b && ((0 == (net.sites a).epoch)
+              && nat_le 0 (length (arrived_of (net.sites a) r.object))) then arrived_of (net.sites a) r.object
+              else arrived_of (net.sites a) r.object)) (no_life (net.sites a).life ms.some)
+            where
+              no_life : (n : ℕ) → 0 < n → (0 == n) ≡ false
+              no_life n some = by (0 == n) refl
+                where
+                  by : (b : Bool) → (0 == n) ≡ b → (0 == n) ≡ false
+                  by false e = e
+                  by true e = absurd (let same : 0 ≡ n = eqb-true 0 n e in
+                      let never : ⊥ = omega (same, some, arith) in never)
 
-      clashes : (c : Clash) → read_clash (relation_at decl object) (net.sites a).held tx object inv ≡ Some c
+          told_known : (l : Line) → In l (grant_told (record (net.sites a) { clock = clock }) r).log
+              → In l (known (net.sites a)) × (l.object ≡ r.object)
+          told_known l among =
+              let here : In l (arrived_of (net.sites a) r.object) =
+              of_log l (arrived_of (net.sites a) r.object) (subst (λ (ls : List Line). In l ls) whole among) in
+              let both = object_in l (net.sites a).arrived r.object here in
+              (has.known l both.0, both.1)
+
+      clashes : (c : Clash) → read_clash (relation_at decl r.object) (net.sites a).held tx r.object r.inv ≡ Some c
           → Continues decl acts (after_site net a (moved (record (net.sites a) { clock = clock })
           (clashing decl from number c)))
       clashes c clash = stands decl acts net a run m site up clock
           (moved (record (net.sites a) { clock = clock }) (clashing decl from number c)) more refl refl
           (clash_turn decl (state acts) net.mail a from number c
-          (m.holders a c.holder site up (read_holder (relation_at decl object)
-          (net.sites a).held tx object inv c clash)))
+          (m.holders a c.holder site up (read_holder (relation_at decl r.object)
+          (net.sites a).held tx r.object r.inv c clash)))
 
   -- an Append
 
@@ -180,7 +211,8 @@ module _ (decl : Declaration) (accepted : IsAccepted decl) (acts : List Act) (ne
           → Continues decl acts (after_site net a (appends
           (record (net.sites a) { clock = clock }) from number tx view own))
       granted free =
-          grants_it decl acts net a run m site up clock from number tx epoch named (Append object view own) tt []
+          grants_it decl acts net a run m site up clock from number tx epoch named (Append object view own) tt
+          (append_grant (net.sites a).life clock) refl refl
           (appends (record (net.sites a) { clock = clock }) from number tx view own).site
           (record {
             began = (m.alike a site up).began;

@@ -11,6 +11,7 @@ use Rattle.qc_entry.specs.Vocabulary.{IsAscending, union}
 use Rattle.qc_decl.specs.declared.declaration.Declaration.{Declaration}
 use Rattle.qc_msg.specs.declared.begun.LifeAt.{LifeAt}
 use Rattle.qc_msg.specs.declared.message.Want.{Want}
+use Rattle.qc_msg.specs.declared.payload.Grant.{Grant}
 use Rattle.qc_msg.specs.Vocabulary.{has_granted, with_life}
 use Rattle.theory_machine.specs.Vocabulary.{Aborted, Count, Granted, IsShown, NotBegun, State, after_act, op_of}
 use Rattle.theory_machine.specs.Vocabulary.{own_on as machine_own_on}
@@ -104,16 +105,16 @@ granted_there t object other log apart = by (slice_get t.views object)
 abbrev pub learned : Client → ℕ → Client
 learned c clock = record c { front = record c.front { clock = record { value = max c.front.clock.value clock } } }
 
-pub counted_core : (decl : Declaration) (w : State) (a : ℕ) (c : Client) (t u : Transaction) (site life clock : ℕ)
-    (log : List Line) (want : Want) (k : IsGrant decl w site life clock log t.begun.tx want)
-    → LivesMirror (k.grant ∷ w.counted) t.begun.tx (with_life t.begun.lives site life) → Core decl w a c t
-    → IsGiven t u site life
+pub counted_core : (decl : Declaration) (w : State) (a : ℕ) (c : Client) (t u : Transaction) (site : ℕ) (x : Grant)
+    (want : Want) (k : IsGrant decl w site x t.begun.tx want)
+    → LivesMirror (k.grant ∷ w.counted) t.begun.tx (with_life t.begun.lives site x.life) → Core decl w a c t
+    → IsGiven t u site x.life
     → ((object : ℕ) → IsAscending (view_log u object))
     → ((object : ℕ) (l : Line) → In l (view_log u object)
     → (l.object ≡ object) × IsShown (k.grant ∷ w.counted) t.begun.tx l)
     → ((l : Line) → IsShown (k.grant ∷ w.counted) t.begun.tx l → In l (view_log u l.object))
-    → Core decl (after_act w (Count k.grant)) a (learned c clock) u
-counted_core decl w a c t u site life clock log want k lives core is sorted shown whole = record {
+    → Core decl (after_act w (Count k.grant)) a (learned c x.clock) u
+counted_core decl w a c t u site x want k lives core is sorted shown whole = record {
   own = record {
     actor = core.own.actor;
     desk = core.own.desk;
@@ -121,24 +122,24 @@ counted_core decl w a c t u site life clock log want k lives core is sorted show
     epoch = core.own.epoch;
     desk_epoch = core.own.desk_epoch;
     clock =
-        put_case (λ (n : ℕ). n ≤ max c.front.clock.value clock) w.clock k.grant.tx.client
+        put_case (λ (n : ℕ). n ≤ max c.front.clock.value x.clock) w.clock k.grant.tx.client
         (max (w.clock k.grant.tx.client) k.grant.clock) c.front.client
         (λ e. (let l : w.clock c.front.client ≤ c.front.clock.value = core.own.clock in
-        let x : w.clock k.grant.tx.client ≡ w.clock c.front.client = ap w.clock (sym e) in
-        let y : k.grant.clock ≡ clock = k.clock_is in omega arith))
+        let z : w.clock k.grant.tx.client ≡ w.clock c.front.client = ap w.clock (sym e) in
+        let y : k.grant.clock ≡ x.clock = k.clock_is in omega arith))
         (λ ne. (let l : w.clock c.front.client ≤ c.front.clock.value = core.own.clock in omega arith));
     to_come = core.own.to_come;
     committed = core.own.committed;
     aborted =
-        subst (λ (n : TxId). (x : TxId) → x.client ≡ c.front.client → w.status x ≢ NotBegun
-        → is_begun x (Some (record t { begun = record t.begun { tx = n } })) ≡ false → record_of c.desk.commits x ≡ None
-        → w.status x ≡ Aborted) (sym is.tx) core.own.aborted;
+        subst (λ (n : TxId). (z : TxId) → z.client ≡ c.front.client → w.status z ≢ NotBegun
+        → is_begun z (Some (record t { begun = record t.begun { tx = n } })) ≡ false → record_of c.desk.commits z ≡ None
+        → w.status z ≡ Aborted) (sym is.tx) core.own.aborted;
   };
   begun = record {
     named = is.tx ∙ core.begun.named;
     epoch = is.epoch ∙ core.begun.epoch ∙ ap w.epoch (sym is.tx);
     lives = subst (λ (ls : List LifeAt). LivesMirror (k.grant ∷ w.counted) u.begun.tx ls) (sym is.lives)
-        (subst (λ (n : TxId). LivesMirror (k.grant ∷ w.counted) n (with_life t.begun.lives site life)) (sym is.tx)
+        (subst (λ (n : TxId). LivesMirror (k.grant ∷ w.counted) n (with_life t.begun.lives site x.life)) (sym is.tx)
         lives);
     ops = is.ops ∙ core.begun.ops ∙ ap (λ (n : TxId). map op_of (w.executed n)) (sym is.tx);
     own =

@@ -21,7 +21,7 @@ use Rattle.qc_site.specs.Vocabulary.{latest, prepared_of, without_prepared}
 use Rattle.qc_site.proofs.Votes.{prepared-without, prepared-without_other}
 use Rattle.qc_recover.specs.Vocabulary.{Kept, keeps, with_promise}
 use Rattle.laws_refinement.specs.Vocabulary.{AreSingle, IsPromiseOf, KeptMirrors, kept_lines}
-use Rattle.laws_refinement.proofs.Known.{more_from, more_in}
+use Rattle.qc_site.proofs.KnownLines.{more_from, more_in}
 use Rattle.laws_refinement.proofs.Machine.{LeavesEpoch, epoch_stays, install_old, shut_stays, single_from}
 use Rattle.laws_refinement.proofs.Machine.{singles_dropped, site_more}
 use Rattle.laws_refinement.proofs.Apart.{apart_more, aparts_dropped}

@@ -19,11 +19,10 @@ use Rattle.qc_site.specs.Vocabulary.{SiteState, latest, lines_of, new_site, prep
 use Rattle.qc_site.proofs.Votes.{prepared-without, prepared-without_other}
 use Rattle.qc_recover.specs.Vocabulary.{Kept, done_lines, done_stamp, keeps}
 use Rattle.laws_refinement.specs.Vocabulary.{IsClosing, IsPlanned, IsPromiseOf, KeptMirrors}
-use Rattle.laws_refinement.proofs.Known.{learned_in}
+use Rattle.qc_site.proofs.KnownLines.{learned_in}
 use Rattle.laws_refinement.proofs.Machine.{done_last, site_more}
 use Rattle.laws_refinement.proofs.Apart.{aparts_dropped}
 use Rattle.laws_refinement.proofs.Promises.{commit_log, commit_logged, commit_passed, commit_sorted, dropped_promise}
-use Rattle.laws_refinement.proofs.Promises.{gone}
 use Rattle.laws_refinement.proofs.SiteSteps.{latest_passes}
 use Rattle.laws_refinement.proofs.KeptDeeds.{leaves_epoch, leaves_life, kept_same}
 use Rattle.qc_site.proofs.Clocks.{latest_later}

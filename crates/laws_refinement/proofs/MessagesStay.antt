@@ -17,6 +17,7 @@ use Rattle.qc_msg.specs.declared.message.Message.TheVariants as messages
 use Rattle.qc_msg.specs.declared.message.Outcome.{Outcome}
 use Rattle.qc_msg.specs.declared.message.Outcome.TheVariants as outcomes
 use Rattle.qc_msg.specs.declared.message.Want.{Want}
+use Rattle.qc_msg.specs.declared.payload.Grant.{Grant}
 use Rattle.qc_msg.specs.declared.message.Want.TheVariants.{Read, Append, Prepare}
 use Rattle.qc_decl.specs.Vocabulary.{client_actor}
 use Rattle.qc_epoch.specs.Vocabulary.{Admin, Asking, Doing, Installing, Question, Resting, ShutSite}
@@ -122,9 +123,9 @@ request_later ms more number site tx want r =
     }
 
 module _ (decl : Declaration) (w v : State) (l : Later w v) where
-  grant_later : (site life clock : ℕ) (log : List Line) (tx : TxId) (want : Want) → w.status tx ≢ NotBegun
-      → IsGrant decl w site life clock log tx want → IsGrant decl v site life clock log tx want
-  grant_later site life clock log tx want born g = record {
+  grant_later : (site : ℕ) (x : Grant) (tx : TxId) (want : Want) → w.status tx ≢ NotBegun
+      → IsGrant decl w site x tx want → IsGrant decl v site x tx want
+  grant_later site x tx want born g = record {
     grant = g.grant;
     given = l.granted g.grant g.given;
     its = g.its;
@@ -143,7 +144,7 @@ module _ (decl : Declaration) (w v : State) (l : Later w v) where
   }
 
   wanted_later : (tx : TxId) (site life : ℕ) (want : Want) → IsWanted w tx site life want → IsWanted v tx site life want
-  wanted_later tx site life (Read read) h = tt
+  wanted_later tx site life (Read read) h = h
   wanted_later tx site life (Append object view own) h = (l.appends _ h.0, h.1, h.2)
   wanted_later tx site life Prepare h = (
     l.asked tx h.0,
@@ -200,7 +201,7 @@ module _ (decl : Declaration) (w v : State) (l : Later w v) where
         named = b.named;
         request = message_later ms more n from (messages.Request b.tx b.epoch b.named b.want) b.request;
         lived = b.lived;
-        grant = grant_later from g.life g.clock g.log b.tx b.want b.begun b.grant;
+        grant = grant_later from g b.tx b.want b.begun b.grant;
       }) (λ epoch b. b) (λ clock b. record {
         tx = b.tx;
         request = request_later ms more n from b.tx Prepare b.request;

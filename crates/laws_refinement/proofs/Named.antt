@@ -3,7 +3,6 @@ use Rattle.std.proofs.Common.{◌≡◌, ◌≢◌, ◌<◌, ◌⊎◌, inl, inr
 use Rattle.std.proofs.Common.{filter, is_none, map, max, Some, refl, sym, ap, ◌∙◌, subst, eq-eqb}
 use Rattle.qc_list.specs.Vocabulary.{In}
 use Rattle.qc_list.proofs.Members.{In-passes, In-map}
-use Rattle.qc_entry.specs.declared.line.Line.{Line}
 use Rattle.qc_plan.specs.declared.standing.Asked.{Asked}
 use Rattle.qc_plan.specs.Vocabulary.{RoundState}
 use Rattle.qc_decl.specs.declared.declaration.Declaration.{Declaration}
@@ -13,6 +12,7 @@ use Rattle.qc_msg.specs.declared.call.Call.{Call}
 use Rattle.qc_msg.specs.declared.message.Envelope.{Envelope}
 use Rattle.qc_msg.specs.declared.message.Message.TheVariants as messages
 use Rattle.qc_msg.specs.declared.message.Want.{Want}
+use Rattle.qc_msg.specs.declared.payload.Grant.{Grant}
 use Rattle.qc_msg.specs.Vocabulary.{has_granted, life_of, site_called, with_life, without_call}
 use Rattle.theory_machine.specs.Vocabulary.{State}
 use Rattle.qc_front.specs.declared.transaction.Transaction.{Transaction}
@@ -27,13 +27,13 @@ use Rattle.laws_refinement.proofs.OpenRequests.{IsCalled, called_in, still_calle
 use Rattle.laws_refinement.proofs.Planned.{planned_max}
 
 -- the lives with one grant more
-pub lives_more : (decl : Declaration) (w : State) (t : Transaction) (site life clock : ℕ) (log : List Line)
-    (want : Want) (g : IsGrant decl w site life clock log t.begun.tx want)
+pub lives_more : (decl : Declaration) (w : State) (t : Transaction) (site : ℕ) (x : Grant)
+    (want : Want) (g : IsGrant decl w site x t.begun.tx want)
     → LivesMirror w.counted t.begun.tx t.begun.lives
-    → (life_of t.begun.lives site ≡ 0) ⊎ (life_of t.begun.lives site ≡ life)
-    → LivesMirror (g.grant ∷ w.counted) t.begun.tx (with_life t.begun.lives site life)
-lives_more decl w t site life clock log want g m lived =
-    subst (λ (s : ℕ). LivesMirror (g.grant ∷ w.counted) t.begun.tx (with_life t.begun.lives s life)) g.by
+    → (life_of t.begun.lives site ≡ 0) ⊎ (life_of t.begun.lives site ≡ x.life)
+    → LivesMirror (g.grant ∷ w.counted) t.begun.tx (with_life t.begun.lives site x.life)
+lives_more decl w t site x want g m lived =
+    subst (λ (s : ℕ). LivesMirror (g.grant ∷ w.counted) t.begun.tx (with_life t.begun.lives s x.life)) g.by
     (subst (λ (l : ℕ). LivesMirror (g.grant ∷ w.counted) t.begun.tx (with_life t.begun.lives g.grant.site l)) g.life_is
     (counted_once_more w.counted t.begun.tx t.begun.lives g.grant (life_of t.begun.lives site) m g.its
     (ap (λ (s : ℕ). life_of t.begun.lives s) (sym g.by))

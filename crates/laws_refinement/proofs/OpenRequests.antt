@@ -6,7 +6,6 @@ use Rattle.std.specs.List.{find}
 use Rattle.qc_stamp.specs.declared.stamp.TxId.{TxId}
 use Rattle.qc_list.specs.Vocabulary.{In}
 use Rattle.qc_list.proofs.Members.{In-unfiltered}
-use Rattle.qc_entry.specs.declared.line.Line.{Line}
 use Rattle.qc_decl.specs.declared.declaration.Declaration.{Declaration}
 use Rattle.qc_msg.specs.declared.call.Call.{Call}
 use Rattle.qc_msg.specs.declared.message.Answer.{Answer}
@@ -14,6 +13,7 @@ use Rattle.qc_msg.specs.declared.message.Envelope.{Envelope}
 use Rattle.qc_msg.specs.declared.message.Message.{Message}
 use Rattle.qc_msg.specs.declared.message.Message.TheVariants as messages
 use Rattle.qc_msg.specs.declared.message.Want.{Want}
+use Rattle.qc_msg.specs.declared.payload.Grant.{Grant}
 use Rattle.qc_msg.specs.Vocabulary.{site_called, without_call}
 use Rattle.theory_machine.specs.Vocabulary.{State}
 use Rattle.laws_refinement.specs.Vocabulary.{IsAnswerBacked, IsGrant, IsGrantTo, IsMessage, IsRequest}
@@ -88,15 +88,14 @@ module _ (decl : Declaration) where
   AnswerBacked w ms from number (Some answer) = IsAnswerBacked decl w ms from number answer
 
   -- the grant that stands behind an answer to an open request, in the life that this named, if any
-  pub record Stood (w : State) (site life clock : ℕ) (log : List Line) (tx : TxId) (want : Want)
-      (named : ℕ) : Type 0 where
-    pub grant : IsGrant decl w site life clock log tx want
-    pub lived : (named ≡ 0) ⊎ (named ≡ life)
+  pub record Stood (w : State) (site : ℕ) (x : Grant) (tx : TxId) (want : Want) (named : ℕ) : Type 0 where
+    pub grant : IsGrant decl w site x tx want
+    pub lived : (named ≡ 0) ⊎ (named ≡ x.life)
 
-  pub behind : (w : State) (ms : List Envelope) (from number site life clock : ℕ) (log : List Line) (tx : TxId)
+  pub behind : (w : State) (ms : List Envelope) (from number site : ℕ) (x : Grant) (tx : TxId)
       (epoch named : ℕ) (want : Want) → IsMessage ms number site (messages.Request tx epoch named want)
-      → IsGrantTo decl w ms from number life clock log → Stood w site life clock log tx want named
-  behind w ms from number site life clock log tx epoch named want asked g =
+      → IsGrantTo decl w ms from number x → Stood w site x tx want named
+  behind w ms from number site x tx epoch named want asked g =
       let one : (site ≡ from) × (messages.Request tx epoch named want ≡ messages.Request g.tx g.epoch g.named g.want) =
       message_same ms number site from (messages.Request tx epoch named want)
       (messages.Request g.tx g.epoch g.named g.want) asked g.request in
@@ -104,8 +103,8 @@ module _ (decl : Declaration) where
       let wants_are : want ≡ g.want = ap (λ (m : Message). want_in m want) one.1 in
       let nameds : named ≡ g.named = ap (λ (m : Message). life_in m named) one.1 in
       record {
-        grant = subst (λ (x : Want). IsGrant decl w site life clock log tx x) (sym wants_are)
-            (subst (λ (x : ℕ). IsGrant decl w x life clock log tx g.want) (sym one.0)
-            (subst (λ (x : TxId). IsGrant decl w from life clock log x g.want) (sym txs) g.grant));
-        lived = subst (λ (n : ℕ). (n ≡ 0) ⊎ (n ≡ life)) (sym nameds) g.lived;
+        grant = subst (λ (z : Want). IsGrant decl w site x tx z) (sym wants_are)
+            (subst (λ (z : ℕ). IsGrant decl w z x tx g.want) (sym one.0)
+            (subst (λ (z : TxId). IsGrant decl w from x z g.want) (sym txs) g.grant));
+        lived = subst (λ (n : ℕ). (n ≡ 0) ⊎ (n ≡ x.life)) (sym nameds) g.lived;
       }

@@ -3,9 +3,8 @@ use Rattle.std.proofs.Common.{◌≡◌, ℕ, true, List, refl, ◌∙◌}
 use Rattle.qc_list.specs.Vocabulary.{In}
 use Rattle.qc_decl.specs.declared.declaration.Declaration.{Declaration}
 use Rattle.qc_decl.specs.Vocabulary.{is_site}
-use Rattle.qc_msg.specs.declared.record.Record.TheVariants as records
 use Rattle.theory_machine.specs.Vocabulary.{Act, Granted, IsRun, State, state}
-use Rattle.qc_recover.specs.Vocabulary.{Kept, keeps}
+use Rattle.qc_recover.specs.Vocabulary.{Kept}
 use Rattle.laws_refinement.specs.Vocabulary.{KeptMirrors}
 use Rattle.laws_refinement.proofs.MessagesStay.{keeps_both, keeps_same, later_both, same_state}
 use Rattle.laws_refinement.proofs.SiteNets.{AtSite}

@@ -19,7 +19,7 @@ use Rattle.qc_site.specs.Vocabulary.{SiteState, joins, known, lines_of, prepared
 use Rattle.qc_site.specs.Vocabulary.{without_prepared}
 use Rattle.qc_site.proofs.Votes.{prepared-without, prepared-without_other}
 use Rattle.laws_refinement.specs.Vocabulary.{IsPromiseOf}
-use Rattle.laws_refinement.proofs.Known.{learned_ascends, learned_from, learned_in}
+use Rattle.qc_site.proofs.KnownLines.{learned_ascends, learned_from, learned_in}
 
 -- the machine's
 

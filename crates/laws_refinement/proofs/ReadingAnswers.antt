@@ -30,7 +30,7 @@ use Rattle.laws_refinement.specs.Vocabulary.{IsNamedAt, IsPlanned, IsRoundCounte
 use Rattle.laws_refinement.specs.Vocabulary.{RunningMirrors, after_client}
 use Rattle.laws_refinement.proofs.Named.{core_closed, lives_more, named_on, other_site}
 use Rattle.qc_msg.specs.declared.message.Message.TheVariants as messages
-use Rattle.qc_msg.specs.Vocabulary.{read_of}
+use Rattle.qc_msg.specs.Vocabulary.{first_read}
 use Rattle.laws_refinement.proofs.AnswerCases.{learned_cases}
 use Rattle.laws_refinement.proofs.Answers.{view_at}
 use Rattle.laws_refinement.proofs.ClientActs.{mid_count}
@@ -131,7 +131,7 @@ module _ (decl : Declaration) where
             let r : IsAskedBy decl net.mail t (Reading object inv calls round) found.call =
             asked found.call found.among in
             let request : IsMessage net.mail number site
-            (messages.Request t.begun.tx t.begun.epoch (life_of t.begun.lives site) (Read (read_of object inv))) =
+            (messages.Request t.begun.tx t.begun.epoch (life_of t.begun.lives site) (Read (first_read object inv))) =
             subst (λ (x : Want). IsMessage net.mail number site
             (messages.Request t.begun.tx t.begun.epoch (life_of t.begun.lives site) x)) r.2
             (subst (λ (s : ℕ). IsMessage net.mail number s
@@ -139,17 +139,17 @@ module _ (decl : Declaration) where
             (subst (λ (n : ℕ). IsMessage net.mail n found.call.site
             (messages.Request t.begun.tx t.begun.epoch (life_of t.begun.lives found.call.site) r.0))
             found.numbered r.1)) in
-            let stood : Stood decl (state acts) site grant_here.life grant_here.clock grant_here.log t.begun.tx
-            (Read (read_of object inv)) (life_of t.begun.lives site) =
-            behind decl (state acts) net.mail from number site grant_here.life grant_here.clock grant_here.log
-            t.begun.tx t.begun.epoch (life_of t.begun.lives site) (Read (read_of object inv))
+            let stood : Stood decl (state acts) site grant_here t.begun.tx
+            (Read (first_read object inv)) (life_of t.begun.lives site) =
+            behind decl (state acts) net.mail from number site grant_here
+            t.begun.tx t.begun.epoch (life_of t.begun.lives site) (Read (first_read object inv))
             request bk in
-            let g : IsGrant decl (state acts) site grant_here.life grant_here.clock grant_here.log t.begun.tx
-            (Read (read_of object inv)) = stood.grant in
+            let g : IsGrant decl (state acts) site grant_here t.begun.tx
+            (Read (first_read object inv)) = stood.grant in
             let lives : LivesMirror (g.grant ∷ (state acts).counted) t.begun.tx
             (with_life t.begun.lives site grant_here.life) =
-            lives_more decl (state acts) t site grant_here.life grant_here.clock grant_here.log
-            (Read (read_of object inv)) g k.0.begun.lives stood.lived in
+            lives_more decl (state acts) t site grant_here
+            (Read (first_read object inv)) g k.0.begun.lives stood.lived in
             let v : (v : View) × (slice_get t.views object ≡ Some v) =
             view_at decl t object counted.0.0 holds.0 counted.0.1 in
             let given : IsGiven t (with_granted (lived t site grant_here.life) object grant_here.log) site
@@ -163,8 +163,8 @@ module _ (decl : Declaration) where
             (mid_count decl (state acts) acts (net.clients a).front.client mid g.grant g.given
             (ap (state acts).status g.its ∙ k.0.active) (g.epoch_is ∙ ap (state acts).epoch (sym g.its))
             (ap (λ (u : TxId). u.client) g.its ∙ mine decl (state acts) a (net.clients a) t k.0)) refl
-            (read_counted decl (state acts) a (net.clients a) t site grant_here.life grant_here.clock object inv
-            grant_here.log g lives v.0 v.1 k.0)
+            (read_counted decl (state acts) a (net.clients a) t site object inv
+            grant_here g lives v.0 v.1 k.0)
             (granted_recorded decl (lived t site grant_here.life) object grant_here.log holds.0)
             (ap (state acts).chosen given.tx ∙ chosen) counted.0
             (subst (λ (e : ℕ). IsRound decl (net.clients a).front.client e (read_need_of decl e object inv)

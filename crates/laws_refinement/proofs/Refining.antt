@@ -1,5 +1,5 @@
 -- Every net that may come about is what a run of the machine may look like.
-use Rattle.std.proofs.Common.{[], ◌≡◌, ◌++◌, ℕ, ◌+◌, true, List, Some, None, sym, ◌∙◌, subst, ap, inl, inr}
+use Rattle.std.proofs.Common.{[], ◌≡◌, ◌++◌, ℕ, true, List, Some, None, sym, ◌∙◌, subst, ap, inl, inr}
 use Rattle.qc_decl.specs.declared.declaration.Declaration.{Declaration}
 use Rattle.qc_decl.specs.Vocabulary.{IsAccepted, administrator, is_client}
 use Rattle.theory_machine.specs.Vocabulary.{Act, state}
@@ -8,6 +8,7 @@ use Rattle.laws_refinement.proofs.AdminFalls.{admin_falls, admin_rises_in_vain, 
 use Rattle.laws_refinement.specs.Vocabulary.{Continues, IsClientKeptBy, Net, Reaches, Refines, after_fall}
 use Rattle.laws_refinement.proofs.AdminCases.{admin_case}
 use Rattle.laws_refinement.proofs.SiteCases.{serve_case}
+use Rattle.laws_refinement.proofs.HaveArrived.{sites_have_arrived}
 use Rattle.laws_refinement.proofs.Standing.{front_ends_stand}
 use Rattle.qc_stamp.specs.declared.stamp.TxId.{TxId}
 use Rattle.qc_list.specs.Vocabulary.{In}
@@ -50,7 +51,9 @@ module _ (decl : Declaration) (accepted : IsAccepted decl) where
       record { acts = []; run = tt; agrees = at_first decl accepted (first_plan decl accepted) }
   nets_refine net (nets.serves a given before r site up came) =
       let h : Refines decl before = nets_refine before r in
-      any net h.acts (serve_case decl accepted h.acts before a h.run h.agrees site up given came)
+      any net h.acts
+      (serve_case decl accepted h.acts before a h.run h.agrees site up (sites_have_arrived decl before r a) given
+      came)
   nets_refine net (nets.takes a given before r client up came ready) =
       let h : Refines decl before = nets_refine before r in
       take_case decl accepted h.acts before a h.run h.agrees client up (front_ends_stand decl before r a) given came

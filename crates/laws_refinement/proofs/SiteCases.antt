@@ -23,6 +23,7 @@ use Rattle.laws_refinement.proofs.Closing.{close_case}
 use Rattle.laws_refinement.proofs.InstallCases.{install_case}
 use Rattle.laws_refinement.proofs.SiteGrants.{says, stands}
 use Rattle.laws_refinement.proofs.SiteSteps.{latest_passes}
+use Rattle.qc_site.specs.Vocabulary.{HasArrived}
 use Rattle.laws_refinement.proofs.GrantCases.{append_case, read_case}
 use Rattle.qc_msg.specs.declared.message.Answer.TheVariants as answers
 use Rattle.qc_msg.specs.declared.message.Message.TheVariants as messages
@@ -32,7 +33,8 @@ use Rattle.laws_refinement.proofs.SiteDecisions.{Passes, passes, decision_case}
 use Rattle.qc_site.proofs.Clocks.{latest_later}
 
 module _ (decl : Declaration) (accepted : IsAccepted decl) (acts : List Act) (net : Net) (a : ℕ) (run : IsRun decl acts)
-    (m : Mirrors decl (state acts) net) (site : is_site decl a ≡ true) (up : net.up a ≡ true) where
+    (m : Mirrors decl (state acts) net) (site : is_site decl a ≡ true) (up : net.up a ≡ true)
+    (has : HasArrived (net.sites a)) where
   -- a refusal tells no epoch without a plan
 
   refused : (epoch life from number : ℕ) (s : SiteState) → IsPlanned decl s.epoch → IsClosing decl s.epoch s.closed_for
@@ -101,8 +103,7 @@ module _ (decl : Declaration) (accepted : IsAccepted decl) (acts : List Act) (ne
           (after_site net a
           (grants decl (passed (net.sites a) (messages.Request tx epoch life w)) from number tx w))
       looked_at (Read read) b r p =
-          read_case decl accepted acts net a run m site up (net.sites a).clock from number tx epoch life read.object
-          read.inv
+          read_case decl accepted acts net a run m site up has (net.sites a).clock from number tx epoch life read b.3
           (p.epoch_is ∙ b.2) p.unshut p.lived (omega arith) r b.1
       looked_at (Append object view own) b r p =
           append_case decl accepted acts net a run m site up (latest (net.sites a).clock view) from number tx epoch life

@@ -19,11 +19,11 @@ use Rattle.theory_machine.specs.Vocabulary.{IsRun, LearnsAbort, LearnsCommit, No
 use Rattle.theory_machine.specs.Vocabulary.{Voting, after_commit, done_record, promise_of, site_after, state}
 use Rattle.theory_machine.specs.Vocabulary.{without_tx}
 use Rattle.qc_site.specs.Vocabulary.{SiteMove, SiteState, closed_fault, dropped, fault_of, joins, known, lines_of}
-use Rattle.qc_site.specs.Vocabulary.{moved, passed, prepared_of, site_on, without_prepared}
+use Rattle.qc_site.specs.Vocabulary.{moved, prepared_of, site_on, without_prepared}
 use Rattle.laws_refinement.specs.Vocabulary.{AreApart, AreLined, Continues, IsKeptBy, IsPromiseOf, IsVerdictBacked}
 use Rattle.laws_refinement.specs.Vocabulary.{KeptMirrors, Mirrors, Net, after_site}
 use Rattle.laws_refinement.proofs.Apart.{aparts_dropped}
-use Rattle.laws_refinement.proofs.Known.{learned_in}
+use Rattle.qc_site.proofs.KnownLines.{learned_in}
 use Rattle.laws_refinement.proofs.Promises.{commit_log, commit_logged, commit_passed, commit_promised, commit_sorted}
 use Rattle.laws_refinement.proofs.Promises.{dropped_promise}
 use Rattle.laws_refinement.proofs.SiteGrants.{stands}

@@ -153,7 +153,7 @@ module _ (decl : Declaration) (acts : List Act) (net : Net) (a : ℕ) (run : IsR
       → Fails (grants decl (passed (net.sites a) (messages.Request tx epoch life w)) from number tx w)
   want_fails from to number epoch life tx (Read read) b =
       read_cases Fails decl (passed (net.sites a) (messages.Request tx epoch life (Read read))) from number tx
-      read.object read.inv
+      read
       (λ free r wrote. absurd (let never : ⊥ = cc in never)) (λ c clash r wrote. absurd (let never : ⊥ = cc in never))
   want_fails from to number epoch life tx (Append object view own) b =
       append_cases Fails decl (passed (net.sites a) (messages.Request tx epoch life (Append object view own))) from

@@ -1,6 +1,7 @@
 -- Where the machine does nothing, and where its site grants, a site agrees with it.
-use Rattle.std.proofs.Common.{[], ◌≡◌, ◌≢◌, ◌≤◌, ℕ, Bool, true, false, ◌⊎◌, inl, inr, List, ◌∷◌, ◌++◌, Option, Some}
-use Rattle.std.proofs.Common.{None, unwrap_or, refl, sym, subst}
+use Rattle.std.proofs.Common.{[], ◌≡◌, ◌≢◌, ◌≤◌, ◌<◌, ℕ, Bool, true, false, ◌⊎◌, inl, inr, List, ◌∷◌, ◌++◌, Option}
+use Rattle.std.proofs.Common.{Some}
+use Rattle.std.proofs.Common.{None, unwrap_or, refl, sym, ◌∙◌, subst}
 use Rattle.qc_stamp.specs.declared.stamp.TxId.{TxId}
 use Rattle.qc_stamp.specs.Vocabulary.{same_tx}
 use Rattle.qc_stamp.proofs.Orders.{other_tx_sym, same_tx_is}
@@ -13,6 +14,7 @@ use Rattle.qc_decl.specs.Vocabulary.{is_site}
 use Rattle.qc_lock.specs.declared.held.Held.{Held}
 use Rattle.qc_lock.specs.Vocabulary.{entry_of, held_of, is_held, without_held}
 use Rattle.qc_lock.proofs.Entries.{entry-without, held-without_other}
+use Rattle.qc_msg.specs.declared.payload.Grant.{Grant as SiteGrant}
 use Rattle.qc_msg.specs.declared.message.Answer.{Answer}
 use Rattle.qc_msg.specs.declared.message.Answer.TheVariants as answers
 use Rattle.qc_msg.specs.declared.message.Message.TheVariants as messages
@@ -30,7 +32,7 @@ use Rattle.laws_refinement.specs.Vocabulary.{Mirrors, Net, SiteMirrors, after_si
 use Rattle.std.specs.Prelude.{option_to_list}
 use Rattle.std.proofs.lemmas.List.{append-nil}
 use Rattle.qc_msg.specs.declared.record.Record.{Record}
-use Rattle.qc_msg.specs.Vocabulary.{grant_with, read_of}
+use Rattle.qc_msg.specs.Vocabulary.{first_read}
 use Rattle.qc_recover.specs.Vocabulary.{kept_by}
 use Rattle.laws_refinement.proofs.KeptDeeds.{kept_same, leaves_epoch}
 use Rattle.laws_refinement.proofs.MessagesStay.{keeps_same, same_state}
@@ -136,29 +138,31 @@ module _ (decl : Declaration) (acts : List Act) (net : Net) (a : ℕ) (run : IsR
 
   -- the machine's site grants, and so does this one
   pub grants_it : (clock from number : ℕ) (tx : TxId) (epoch named : ℕ) (want : Want) → IsGrantable want
-      → (log : List Line) (now : SiteState) → IsKeptBy now (kept_by (net.records a))
+      → (x : SiteGrant) → x.life ≡ (net.sites a).life → x.clock ≡ clock → (now : SiteState)
+      → IsKeptBy now (kept_by (net.records a))
       → IsRun decl (Grant (grant_of decl (state acts) a clock tx (items_wanted want) (view_in want)) ∷ acts)
       → (state acts).status tx ≢ NotBegun → IsMessage net.mail number a (messages.Request tx epoch named want)
       → ((named ≡ 0) ⊎ (named ≡ (net.sites a).life))
       → SiteMirrors decl now ((state acts).deeds a ++ Grants tx (items_wanted want) (view_in want) ∷ [])
       ((state acts).life a)
       → ((t : TxId) → is_held now.held t ≡ true → (state acts).status t ≢ NotBegun)
-      → IsAscending log → ((l : Line) → In l log → In l (site_after ((state acts).deeds a)).volatile)
-      → ((object inv : ℕ) → want ≡ Read (read_of object inv) → (l : Line) → In l log → l.object ≡ object)
-      → ((object inv : ℕ) → want ≡ Read (read_of object inv) → (l : Line)
+      → IsAscending x.log → ((l : Line) → In l x.log → In l (site_after ((state acts).deeds a)).volatile)
+      → ((object inv : ℕ) → want ≡ Read (first_read object inv) → (l : Line) → In l x.log → l.object ≡ object)
+      → ((object inv : ℕ) → want ≡ Read (first_read object inv) → (l : Line)
       → In l (site_after ((state acts).deeds a)).volatile
-      → l.object ≡ object → In l log)
+      → l.object ≡ object → In l x.log)
       → Continues decl acts
       (after_site net a
-      (moved now (answers_with from number (answers.Granted (grant_with (net.sites a).life clock log)))))
-  grants_it clock from number tx epoch named want asks log now alike going born request lived here holders sorted lines
+      (moved now (answers_with from number (answers.Granted x))))
+  grants_it clock from number tx epoch named want asks x life_is at_clock_is now alike going born request lived here
+      holders sorted lines
       shown whole = record {
         more = Grant g ∷ [];
         refines = record {
           run = going;
           agrees =
               site_goes decl w v net a
-              (moved now (answers_with from number (answers.Granted (grant_with (net.sites a).life clock log))))
+              (moved now (answers_with from number (answers.Granted x)))
               m site up (record {
                 later =
                     record {
@@ -212,14 +216,14 @@ module _ (decl : Declaration) (acts : List Act) (net : Net) (a : ℕ) (run : IsR
                 alive = λ b other. refl;
                 holders = holders;
                 turn = one_answer decl v net.mail a from number
-                    (answers.Granted (grant_with (net.sites a).life clock log)) (record {
+                    (answers.Granted x) (record {
                       tx = tx;
                       want = want;
                       begun = born;
                       epoch = epoch;
                       named = named;
                       request = request;
-                      lived = lived;
+                      lived = subst (λ (n : ℕ). (named ≡ 0) ⊎ (named ≡ n)) (sym life_is) lived;
                       grant =
                           record {
                             grant = g;
@@ -228,9 +232,9 @@ module _ (decl : Declaration) (acts : List Act) (net : Net) (a : ℕ) (run : IsR
                             by = refl;
                             place = site;
                             epoch_is = refl;
-                            life_is = sym (m.sites a site up).life;
-                            some = (m.sites a site up).some;
-                            clock_is = refl;
+                            life_is = sym (m.sites a site up).life ∙ sym life_is;
+                            some = subst (λ (n : ℕ). 0 < n) (sym life_is) (m.sites a site up).some;
+                            clock_is = sym at_clock_is;
                             asks = asks;
                             items_are = refl;
                             sorted = sorted;

@@ -99,7 +99,7 @@ module _ (decl : Declaration) (s : SiteState) where
       (grants decl (passed s (messages.Request tx epoch life w)) from number tx w)
   wanted from number epoch life tx (Read read) =
       read_cases (Votes s number (messages.Request tx epoch life (Read read))) decl
-      (passed s (messages.Request tx epoch life (Read read))) from number tx read.object read.inv
+      (passed s (messages.Request tx epoch life (Read read))) from number tx read
       (λ free p among to clock is. (let r = one_answer from number _ p among to clock is in let e = r.1 in
       absurd (let never : ⊥ = cc in never)))
       (λ c clash p among to clock is. clashes p among to clock is)
@@ -238,7 +238,7 @@ module _ (decl : Declaration) (s : SiteState) where
   want_silent : (from number epoch life : ℕ) (tx : TxId) (w : Want)
       → Silent (grants decl (passed s (messages.Request tx epoch life w)) from number tx w)
   want_silent from number epoch life tx (Read read) =
-      read_cases Silent decl (passed s (messages.Request tx epoch life (Read read))) from number tx read.object read.inv
+      read_cases Silent decl (passed s (messages.Request tx epoch life (Read read))) from number tx read
       (λ free p among to clock is. among) (λ c clash p among to clock is. among)
   want_silent from number epoch life tx (Append object view own) =
       append_cases Silent decl (passed s (messages.Request tx epoch life (Append object view own))) from number tx

@@ -5,7 +5,7 @@ use Rattle.qc_list.specs.Vocabulary.{In}
 use Rattle.qc_entry.specs.declared.line.Line.{Line}
 use Rattle.qc_entry.specs.declared.line.OwnLine.{OwnLine}
 use Rattle.qc_entry.specs.declared.record.Prepared.{Prepared}
-use Rattle.qc_entry.specs.Vocabulary.{IsAscending}
+use Rattle.qc_entry.specs.Vocabulary.{IsAscending, no_mark}
 use Rattle.qc_decl.specs.Vocabulary.{client_actor, is_site}
 use Rattle.qc_decl.specs.declared.declaration.Declaration.{Declaration}
 use Rattle.qc_msg.specs.declared.message.Answer.{Answer}
@@ -17,7 +17,8 @@ use Rattle.qc_msg.specs.declared.message.Outcome.{Outcome}
 use Rattle.qc_msg.specs.declared.message.Outcome.TheVariants as outcomes
 use Rattle.qc_msg.specs.declared.message.Want.{Want}
 use Rattle.qc_msg.specs.declared.message.Want.TheVariants.{Read, Append, Prepare}
-use Rattle.qc_msg.specs.Vocabulary.{read_of}
+use Rattle.qc_msg.specs.declared.payload.Grant.{Grant}
+use Rattle.qc_msg.specs.Vocabulary.{first_read}
 use Rattle.theory_machine.specs.Vocabulary.{Granted, MayPrepare, NotBegun, Snapshot, State, YesVote, epoch_from}
 use Rattle.theory_machine.specs.Vocabulary.{promise_of, site_after}
 use Rattle.qc_site.specs.Vocabulary.{prepared_of}
@@ -43,36 +44,36 @@ IsGrantable Prepare = ⊥
 
 -- the machine's site granted what the request wants, with this life, clock and log; to a Read all lines of the object
 -- that the site had, and no others
-pub record IsGrant (decl : Declaration) (now : State) (site life clock : ℕ) (log : List Line) (tx : TxId)
-    (want : Want) : Type 0 where
+pub record IsGrant (decl : Declaration) (now : State) (site : ℕ) (x : Grant) (tx : TxId) (want : Want)
+    : Type 0 where
   pub grant : Granted
   pub given : In grant now.granted
   pub its : grant.tx ≡ tx
   pub by : grant.site ≡ site
   pub place : is_site decl site ≡ true
   pub epoch_is : grant.epoch ≡ now.epoch tx
-  pub life_is : grant.life ≡ life
-  pub some : 0 < life
-  pub clock_is : grant.clock ≡ clock
+  pub life_is : grant.life ≡ x.life
+  pub some : 0 < x.life
+  pub clock_is : grant.clock ≡ x.clock
   pub asks : IsGrantable want
   pub items_are : grant.items ≡ items_wanted want
-  pub sorted : IsAscending log
-  pub lines : (l : Line) → In l log → In l (site_after grant.before).volatile
-  pub shown : (object inv : ℕ) → want ≡ Read (read_of object inv) → (l : Line) → In l log → l.object ≡ object
-  pub whole : (object inv : ℕ) → want ≡ Read (read_of object inv)
-      → (l : Line) → In l (site_after grant.before).volatile → l.object ≡ object → In l log
+  pub sorted : IsAscending x.log
+  pub lines : (l : Line) → In l x.log → In l (site_after grant.before).volatile
+  pub shown : (object inv : ℕ) → want ≡ Read (first_read object inv) → (l : Line) → In l x.log → l.object ≡ object
+  pub whole : (object inv : ℕ) → want ≡ Read (first_read object inv)
+      → (l : Line) → In l (site_after grant.before).volatile → l.object ≡ object → In l x.log
 
 -- a grant is the answer to a request of the number that it names, in the life that this named, if any
-pub record IsGrantTo (decl : Declaration) (now : State) (mail : List Envelope) (site number life clock : ℕ)
-    (log : List Line) : Type 0 where
+pub record IsGrantTo (decl : Declaration) (now : State) (mail : List Envelope) (site number : ℕ) (x : Grant)
+    : Type 0 where
   pub tx : TxId
   pub want : Want
   pub begun : now.status tx ≢ NotBegun
   pub epoch : ℕ
   pub named : ℕ
   pub request : IsMessage mail number site (messages.Request tx epoch named want)
-  pub lived : (named ≡ 0) ⊎ (named ≡ life)
-  pub grant : IsGrant decl now site life clock log tx want
+  pub lived : (named ≡ 0) ⊎ (named ≡ x.life)
+  pub grant : IsGrant decl now site x tx want
 
 -- so is a vote, to a Prepare
 pub record IsVoteTo (votes : List YesVote) (mail : List Envelope) (site number : ℕ) : Type 0 where
@@ -117,10 +118,10 @@ pub record IsAnsweredTo (now : State) (mail : List Envelope) (from number : ℕ)
   pub asked : IsMessage mail number from (messages.Ask tx)
   pub backed : IsVerdictBacked now tx verdict
 
--- an Append was sent in the machine, its view in order and its own lines of its object; a Prepare too, and it names the
--- life of all grants of that site that count
+-- a Read has no mark, so that all lines are told; an Append was sent in the machine, its view in order and its own
+-- lines of its object; a Prepare too, and it names the life of all grants of that site that count
 abbrev pub IsWanted : State → TxId → ℕ → ℕ → Want → Type 0
-IsWanted now tx site life (Read read) = Unit {0}
+IsWanted now tx site life (Read read) = read.mark ≡ no_mark
 IsWanted now tx site life (Append object view own) =
     In (record { tx = tx; items = own_items own; view = view }) now.appends
     × IsAscending view × ((o : OwnLine) → In o own → o.object ≡ object)
@@ -129,7 +130,7 @@ IsWanted now tx site life Prepare = MayPrepare (now.status tx) × (0 < life)
 
 abbrev pub IsAnswerBacked : Declaration → State → List Envelope → ℕ → ℕ → Answer → Type 0
 IsAnswerBacked decl now mail from number (answers.Granted grant) =
-    IsGrantTo decl now mail from number grant.life grant.clock grant.log
+    IsGrantTo decl now mail from number grant
 IsAnswerBacked decl now mail from number (answers.Clash holder inv event) = Unit {0}
 IsAnswerBacked decl now mail from number (answers.Closed epoch) = IsPlanned decl epoch
 IsAnswerBacked decl now mail from number (answers.Behind epoch) = Unit {0}

@@ -20,6 +20,7 @@ ghost use Rattle.qc_msg.specs.declared.step.Input.{Input};
 ghost use Rattle.theory_onecopy.specs.Committed.{AreApart, sorted};
 ghost use Rattle.theory_onecopy.specs.Logged.{IsLogged};
 ghost use Rattle.theory_onecopy.specs.OneCopy.{OneCopy};
+ghost use Rattle.qc_site.specs.Arrived.{HasArrived};
 ghost use Rattle.qc_site.specs.Conduct.{site_takes};
 ghost use Rattle.qc_site.specs.Site.{known};
 ghost use Rattle.qc_stamp.specs.declared.stamp.TxId.{TxId};
@@ -37,11 +38,12 @@ pub fn nets_refine()
 {}
 
 /// Whatever a site that is up takes, also a Close or an Install, the net after it
-/// is still what a run of the machine may look like.
+/// is still what a run of the machine may look like. What arrived at the site is what
+/// it knows, as in each net that may come about.
 #[tactic(auto, using(crate::proofs::SiteRefines::sites_refine))]
 pub fn sites_refine()
     ensures { (decl : Declaration) (net : Net) (a : ℕ) (given : Input) → IsAccepted decl → Refines decl net
-        → is_site decl a ≡ true → net.up a ≡ true → MayCome net a given
+        → is_site decl a ≡ true → net.up a ≡ true → HasArrived (net.sites a) → MayCome net a given
         → Refines decl (after_site net a (site_takes decl (net.sites a) given)) }
 {}
 

@@ -14,7 +14,7 @@ use Rattle.qc_msg.specs.declared.message.Message.TheVariants as messages
 use Rattle.qc_msg.specs.declared.message.Outcome.{Outcome}
 use Rattle.qc_msg.specs.declared.payload.Grant.{Grant}
 use Rattle.qc_msg.specs.declared.turn.Posting.{Posting}
-use Rattle.qc_msg.specs.Vocabulary.{answered as answered_ops, decisions, granted_in, life_of, read_of, site_called}
+use Rattle.qc_msg.specs.Vocabulary.{answered as answered_ops, decisions, first_read, granted_in, life_of, site_called}
 use Rattle.qc_msg.specs.Vocabulary.{without_call}
 use Rattle.qc_plan.specs.Vocabulary.{RoundState, asking_all, note, verdict, wanted}
 use Rattle.qc_plan.specs.declared.standing.Verdict.{Verdict}
@@ -215,7 +215,7 @@ module _ (decl : Declaration) (accepted : IsAccepted decl) (p : Prices) (fair : 
       let asked : sends_cost p (map (request_of t.begun (read_want object inv)) (wanted r))
       ≤ times p.read (length (wanted r)) =
       map_cost p p.read (request_of t.begun (read_want object inv)) (wanted r)
-      (λ site. fair.reads t.begun.tx t.begun.epoch (life_of t.begun.lives site) (read_of object inv)) in
+      (λ site. fair.reads t.begun.tx t.begun.epoch (life_of t.begun.lives site) (first_read object inv)) in
       let left : length (asking_all r (wanted r)).rest + length (wanted r) ≡ length r.rest = wanted_left r in
       let split : times p.read (length (asking_all r (wanted r)).rest + length (wanted r))
       ≡ times p.read (length (asking_all r (wanted r)).rest) + times p.read (length (wanted r)) =

@@ -77,7 +77,7 @@ module _ (decl : Declaration) where
 
     granted : (tx : TxId) (want : Want) → IsOfClient tx → SendsInside (grants decl s from number tx want)
     granted tx (Read read) its =
-        read_cases SendsInside decl s from number tx read.object read.inv
+        read_cases SendsInside decl s from number tx read
         (λ free. record {
           site = record {
             held = holds_more tx (record { object = read.object; inv = read.inv } ∷ []) [] its;

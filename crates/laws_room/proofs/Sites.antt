@@ -1,10 +1,9 @@
 -- A site's turn costs no more than the message that it answers to pays.
-use Rattle.std.proofs.Common.{◌≡◌, ℕ, ◌+◌, ◌≤◌, List, [], refl, arith}
+use Rattle.std.proofs.Common.{◌≡◌, ℕ, ◌+◌, ◌≤◌, List, refl, arith}
 use Rattle.qc_stamp.specs.declared.stamp.TxId.{TxId}
 use Rattle.qc_decl.specs.declared.declaration.Declaration.{Declaration}
 use Rattle.qc_entry.specs.declared.line.Line.{Line}
 use Rattle.qc_entry.specs.declared.line.OwnLine.{OwnLine}
-use Rattle.qc_entry.specs.Vocabulary.{of_object}
 use Rattle.qc_msg.specs.declared.message.Answer.{Answer}
 use Rattle.qc_msg.specs.declared.message.Answer.TheVariants as answers
 use Rattle.qc_msg.specs.declared.message.Message.{Message}
@@ -18,10 +17,10 @@ use Rattle.qc_msg.specs.declared.record.Record.TheVariants as records
 use Rattle.qc_msg.specs.declared.step.Input.{Input}
 use Rattle.qc_msg.specs.declared.step.Input.TheVariants as inputs
 use Rattle.qc_msg.specs.Counts.{lines_answered}
-use Rattle.qc_msg.specs.Vocabulary.{grant_with, quiet, start_with}
+use Rattle.qc_msg.specs.Vocabulary.{append_grant, quiet, start_with}
 use Rattle.qc_site.specs.Vocabulary.{SiteMove, SiteState, answers as answered, closed, closes, finishes}
-use Rattle.qc_site.specs.Vocabulary.{grants, installs, known, moved, passed, prepares, promise_of, shut_answer, site_at}
-use Rattle.qc_site.specs.Vocabulary.{site_takes}
+use Rattle.qc_site.specs.Vocabulary.{grant_told, grants, installs, moved, passed, prepares, promise_of, shut_answer}
+use Rattle.qc_site.specs.Vocabulary.{site_at, site_takes}
 use Rattle.qc_site.proofs.RequestCases.{append_cases, close_cases, fault_is, join_cases, prepare_cases, read_cases}
 use Rattle.qc_site.proofs.RequestCases.{request_cases}
 use Rattle.qc_site.proofs.Cases.{install_cases}
@@ -51,11 +50,10 @@ module _ (decl : Declaration) (p : Prices) (fair : AreFair p) (s : SiteState) (f
 
     reads_fit : (read : ReadRequest) → Fits (asked (Read read)) (grants decl s from number tx (Read read))
     reads_fit read =
-        read_cases (Fits (asked (Read read))) decl s from number tx read.object read.inv
-        (λ free. (let low : p.step + full p (messages.Answer number
-        (answers.Granted (grant_with s.life s.clock (of_object (known s) read.object))))
+        read_cases (Fits (asked (Read read))) decl s from number tx read
+        (λ free. (let low : p.step + full p (messages.Answer number (answers.Granted (grant_told s read)))
         ≤ p.credit (asked (Read read)) =
-        fair.grants tx epoch life number read (grant_with s.life s.clock (of_object (known s) read.object)) in
+        fair.grants tx epoch life number read (grant_told s read) in
         omega arith))
         (λ c clash. (let low : p.step + (full p (messages.Answer number (answers.Clash c.holder c.inv c.event))
         + full p (messages.Inquiry c.holder)) ≤ p.credit (asked (Read read)) =
@@ -66,9 +64,9 @@ module _ (decl : Declaration) (p : Prices) (fair : AreFair p) (s : SiteState) (f
         → Fits (asked (Append object view own)) (grants decl s from number tx (Append object view own))
     appends_fit object view own =
         append_cases (Fits (asked (Append object view own))) decl s from number tx object view own
-        (λ free. (let low : p.step + full p (messages.Answer number (answers.Granted (grant_with s.life s.clock [])))
+        (λ free. (let low : p.step + full p (messages.Answer number (answers.Granted (append_grant s.life s.clock)))
         ≤ p.credit (asked (Append object view own)) =
-        fair.replies tx epoch life number (Append object view own) (answers.Granted (grant_with s.life s.clock [])) refl
+        fair.replies tx epoch life number (Append object view own) (answers.Granted (append_grant s.life s.clock)) refl
         in
         omega arith))
         (λ c clash. (let low : p.step + (full p (messages.Answer number (answers.Clash c.holder c.inv c.event))

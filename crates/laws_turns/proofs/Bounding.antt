@@ -236,7 +236,11 @@ control_held decl h bound b step is held = record {
 pub all-held : (decl : Declaration) (h : List Entry) → Events decl h → Held decl (length h) h
 all-held decl h begins = record {
   messages = tt;
-  sites = λ a. record { site = record { clock = omega arith; began = tt; log = tt; prepared = tt }; sends = tt };
+  sites =
+      λ a. record {
+        site = record { clock = omega arith; began = tt; log = tt; arrived = tt; prepared = tt };
+        sends = tt;
+      };
   clients = λ a. record {
     client = record {
       front = record { clock = omega arith; count = omega arith; views = tt };

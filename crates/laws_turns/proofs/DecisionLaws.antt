@@ -22,7 +22,7 @@ use Rattle.qc_core.specs.Vocabulary.{IsLawful}
 use Rattle.laws_turns.specs.Vocabulary.{ActsIn, written_in}
 use Rattle.laws_turns.proofs.Acted.{actors_take_and_post_by_turns}
 use Rattle.qc_promise.specs.Vocabulary.{AreRight, Committed, Dead, DecisionAgrees, Unborn, VerdictAgrees, committed}
-use Rattle.qc_promise.specs.Vocabulary.{records, status}
+use Rattle.qc_promise.specs.Vocabulary.{status}
 use Rattle.laws_turns.proofs.DealingParts.{HasRecord}
 use Rattle.laws_turns.proofs.InRuns.{HasPlace, client_low, client_no_site, client_number, run_place}
 use Rattle.laws_turns.proofs.Lasting.{Came, verdict_came}

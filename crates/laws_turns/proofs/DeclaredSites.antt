@@ -1,5 +1,5 @@
 -- Lists of declared sites: whom a round asks, and whom it is yet to ask.
-use Rattle.std.proofs.Common.{◌≡◌, ℕ, zero, suc, ◌+◌, ◌-◌, ◌<◌, ◌≤◌, Bool, true, false, cond, List, [], ◌∷◌, ◌++◌, drop}
+use Rattle.std.proofs.Common.{ℕ, zero, suc, ◌+◌, ◌-◌, ◌<◌, ◌≤◌, Bool, true, false, cond, List, [], ◌∷◌, ◌++◌, drop}
 use Rattle.std.proofs.Common.{None, sym, subst, arith}
 use Rattle.std.specs.List.{AllByRecursion as Every, filter, range_with_len}
 use Rattle.qc_decl.specs.declared.declaration.Declaration.{Declaration}

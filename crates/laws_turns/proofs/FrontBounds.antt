@@ -1,5 +1,5 @@
 -- What a front end becomes stays within a bound that what it takes keeps to.
-use Rattle.std.proofs.Common.{[], ◌≡◌, ℕ, zero, suc, ◌+◌, ◌≤◌, max, Bool, true, false, cond, nat_le, List, ◌∷◌, ◌++◌}
+use Rattle.std.proofs.Common.{[], ◌≡◌, ℕ, zero, suc, ◌≤◌, max, Bool, true, false, cond, nat_le, List, ◌∷◌, ◌++◌}
 use Rattle.std.proofs.Common.{length, replicate, Option, Some, None, option_map, refl, arith}
 use Rattle.std.specs.Prelude.{slice_get, max, option_and_then}
 use Rattle.std.specs.Option.{option_map_or}

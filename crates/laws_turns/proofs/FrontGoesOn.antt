@@ -26,7 +26,7 @@ use Rattle.qc_front.specs.declared.doing.Doing.{Doing}
 use Rattle.qc_front.specs.declared.doing.Doing.TheVariants.{Idle, Reading, Appending}
 use Rattle.qc_front.specs.declared.front.Front.{Front}
 use Rattle.qc_front.specs.declared.transaction.Transaction.{Transaction}
-use Rattle.qc_front.specs.Vocabulary.{FrontMove, aborts, answer_of, answered, append_by, append_want, doomed, moved}
+use Rattle.qc_front.specs.Vocabulary.{FrontMove, answer_of, answered, append_by, append_want, doomed, moved}
 use Rattle.qc_front.specs.Vocabulary.{next_own, next_tx, op_of, read_by, read_want, request_of, resp_of, round_for}
 use Rattle.qc_front.specs.Vocabulary.{turned, with_asked, with_event, with_op}
 use Rattle.qc_front.proofs.CommandsKeep.{view_keeps}

@@ -7,7 +7,6 @@ use Rattle.qc_decl.specs.declared.declaration.Declaration.{Declaration}
 use Rattle.qc_decl.specs.Vocabulary.{most_transaction_operations, read_need_of}
 use Rattle.qc_msg.specs.declared.begun.Begun.{Begun}
 use Rattle.qc_msg.specs.declared.message.Answer.{Answer}
-use Rattle.qc_msg.specs.declared.message.Outcome.TheVariants.{Aborted}
 use Rattle.qc_msg.specs.declared.reply.Reply.{Reply}
 use Rattle.qc_msg.specs.declared.reply.Reply.TheVariants as replies
 use Rattle.qc_msg.specs.declared.reply.AbortCause.TheVariants as causes
@@ -20,7 +19,7 @@ use Rattle.qc_front.specs.declared.doing.Doing.{Doing}
 use Rattle.qc_front.specs.declared.doing.Doing.TheVariants.{Idle, Reading, Appending}
 use Rattle.qc_front.specs.declared.front.Front.{Front}
 use Rattle.qc_front.specs.declared.transaction.Transaction.{Transaction}
-use Rattle.qc_front.specs.Vocabulary.{aborts, appended_with, appending_takes, begins, called, commits, doomed, gives_up}
+use Rattle.qc_front.specs.Vocabulary.{aborts, appended_with, appending_takes, begins, called, commits, gives_up}
 use Rattle.qc_front.specs.Vocabulary.{learns, moved, performs, read_with, reading_takes, reads, round_for}
 use Rattle.qc_front.specs.Vocabulary.{standing_of, takes, takes_in}
 use Rattle.qc_front.proofs.Keeping.{appended_is}

@@ -99,3 +99,4 @@ pub mod Moving
 pub mod RunsGood
 pub mod DecisionLaws
 pub mod WrongOnes
+pub mod ToldLines

@@ -19,7 +19,7 @@ use Rattle.qc_msg.specs.Vocabulary.{posted_as, sends_as, step_of}
 use Rattle.qc_msg.proofs.GrownMail.{length-envelopes, mail-append, mail-taken}
 use Rattle.qc_msg.proofs.DeedsGrow.{deeds-append, deeds-fell, deeds-rise}
 use Rattle.qc_msg.proofs.Growth.{deeds-posted_as, deeds-taken, mail-posted_as}
-use Rattle.qc_script.specs.Vocabulary.{controller_step, posts, ready, rises, takes}
+use Rattle.qc_script.specs.Vocabulary.{controller_step, ready}
 use Rattle.qc_script.specs.declared.script.Script.{Script}
 use Rattle.laws_turns.specs.Vocabulary.{LivesIn}
 use Rattle.laws_turns.proofs.Commands.{may_take}

@@ -1,6 +1,6 @@
 -- A front end begins transactions of its own client alone, and what it sends names no stamp.
 use Rattle.std.proofs.Common.{◌≡◌, ℕ, nat_le, List, [], length, Option, Some, None, sym, ap, ◌∙◌, subst}
-use Rattle.std.proofs.Common.{◌+◌, ◌∷◌, ◌++◌, option_map, refl}
+use Rattle.std.proofs.Common.{◌∷◌, ◌++◌, option_map, refl}
 use Rattle.std.specs.List.{AllByRecursion as Every, slice_get}
 use Rattle.std.specs.Prelude.{MatchOption}
 use Rattle.qc_core.specs.Vocabulary.{IsOwnStamp, IsStamped}

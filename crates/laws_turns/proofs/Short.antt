@@ -58,7 +58,7 @@ site_short decl s from number message =
     asked q (Read read) =
         request_cases FewSent decl s from number q.tx q.epoch q.life (Read read) (omega arith)
         (λ fault is. omega arith)
-        (λ is. read_cases FewSent decl s from number q.tx read.object read.inv (λ free. omega arith)
+        (λ is. read_cases FewSent decl s from number q.tx read (λ free. omega arith)
         (λ c clash. omega arith))
     asked q (Append object view own) =
         request_cases FewSent decl s from number q.tx q.epoch q.life (Append object view own) (omega arith)

@@ -22,6 +22,7 @@ use Rattle.qc_msg.specs.declared.message.Want.{Want}
 use Rattle.qc_msg.specs.declared.message.Want.TheVariants.{Read, Append, Prepare}
 use Rattle.qc_msg.specs.declared.step.Input.{Input}
 use Rattle.qc_msg.specs.declared.step.Input.TheVariants as inputs
+use Rattle.qc_msg.specs.declared.payload.ReadRequest.{ReadRequest}
 use Rattle.qc_msg.specs.declared.turn.Posting.{Posting}
 use Rattle.qc_msg.specs.Vocabulary.{Deed, Falls, Rises, Sends, Takes, Tells, Writes, envelopes, quiet, Requested}
 use Rattle.qc_msg.specs.Vocabulary.{request_in, wants_answer}
@@ -75,10 +76,10 @@ prepares_reply s from number tx =
     (if_two (IsReply from number) (is_prepared s.prepared tx) _ (promises s from number (promise_of s tx))
     (one s from number (answers.Yes s.clock) _ refl) (promises_reply s from number (promise_of s tx)))
 
-reads_reply : (decl : Declaration) (s : SiteState) (from number : ℕ) (tx : TxId) (object inv : ℕ) (o : Option Conflict)
-    → IsReply from number (reads_by decl s from number tx object inv o)
-reads_reply decl s from number tx object inv None = record { answer = _; rest = []; sends = refl; asks = tt }
-reads_reply decl s from number tx object inv (Some c) = record { answer = _; rest = _; sends = refl; asks = (tt, tt) }
+reads_reply : (decl : Declaration) (s : SiteState) (from number : ℕ) (tx : TxId) (r : ReadRequest) (o : Option Conflict)
+    → IsReply from number (reads_by decl s from number tx r o)
+reads_reply decl s from number tx r None = record { answer = _; rest = []; sends = refl; asks = tt }
+reads_reply decl s from number tx r (Some c) = record { answer = _; rest = _; sends = refl; asks = (tt, tt) }
 
 appends_reply : (decl : Declaration) (s : SiteState) (from number : ℕ) (tx : TxId) (view : List Line)
     (own : List OwnLine) (o : Option Conflict) → IsReply from number (appends_by decl s from number tx view own o)
@@ -88,7 +89,7 @@ appends_reply decl s from number tx view own (Some c) = record { answer = _; res
 grants_reply : (decl : Declaration) (s : SiteState) (from number : ℕ) (tx : TxId) (want : Want)
     → IsReply from number (grants decl s from number tx want)
 grants_reply decl s from number tx (Read read) =
-    reads_reply decl s from number tx read.object read.inv
+    reads_reply decl s from number tx read
     (read_clash (relation_at decl read.object) s.held tx read.object read.inv)
 grants_reply decl s from number tx (Append object view own) =
     appends_reply decl s from number tx view own (append_clash (relation_at decl object) s.held tx own)

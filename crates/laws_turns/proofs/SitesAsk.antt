@@ -132,7 +132,7 @@ module _ (decl : Declaration) (B : TxId → Type 0) where
 
     granted : (tx : TxId) (want : Want) → B tx → Asks (grants decl s from number tx want)
     granted tx (Read read) here =
-        read_cases Asks decl s from number tx read.object read.inv
+        read_cases Asks decl s from number tx read
         (λ free. record {
           held = held-more s.held tx (record { object = read.object; inv = read.inv } ∷ []) [] all here;
           prepared = promised;

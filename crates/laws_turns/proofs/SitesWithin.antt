@@ -3,7 +3,7 @@ use Rattle.std.proofs.Common.{ℕ, ◌≤◌, ◌==◌, max, not, List, [], ◌�
 use Rattle.std.specs.declared.cmp.Ordering.{Ordering}
 use Rattle.std.specs.declared.cmp.Ordering.TheVariants.{Less, Equal, Greater}
 use Rattle.qc_list.specs.Vocabulary.{by_order, inserted}
-use Rattle.qc_list.proofs.Members.{every-filter}
+use Rattle.qc_list.proofs.Members.{every-append, every-filter}
 use Rattle.qc_stamp.specs.declared.stamp.Stamp.{Stamp}
 use Rattle.qc_stamp.specs.declared.stamp.TxId.{TxId}
 use Rattle.qc_stamp.specs.Vocabulary.{same_tx}
@@ -26,6 +26,7 @@ use Rattle.qc_msg.specs.declared.step.Input.{Input}
 use Rattle.qc_msg.specs.declared.step.Input.TheVariants as inputs
 use Rattle.qc_msg.specs.Vocabulary.{quiet}
 use Rattle.qc_site.specs.Vocabulary.{SiteMove, SiteState, answers, clashing, closes, finishes, grants, installs, known}
+use Rattle.qc_site.specs.Vocabulary.{arrived_of, arriving, fresh}
 use Rattle.qc_site.specs.Vocabulary.{latest, learned, lines_of, moved, passed, promise_cmp, promise_of, shut_answer}
 use Rattle.qc_site.specs.Vocabulary.{site_at, site_takes, stamped, with_stamped, without_prepared}
 use Rattle.qc_site.proofs.RequestCases.{append_cases, close_rows, fault_is, install_rows, join_cases, prepare_cases}
@@ -34,6 +35,7 @@ use Rattle.laws_turns.proofs.Greater.{lines-le, promises-le, sends-le}
 use Rattle.laws_turns.specs.Vocabulary.{AnswerWithin, GivenWithin, LinesWithin, MessageWithin, OutcomeWithin}
 use Rattle.laws_turns.specs.Vocabulary.{PromisesWithin, SiteMoveWithin, SiteWithin, WantWithin}
 use Rattle.laws_turns.proofs.SiteCases.{site_cases}
+use Rattle.laws_turns.proofs.ToldLines.{every-told}
 
 -- a greater bound
 
@@ -42,6 +44,7 @@ site-le low high s le w = record {
   clock = (let c : s.clock ≤ low = w.clock in omega arith);
   began = lines-le low high le s.began w.began;
   log = lines-le low high le s.log w.log;
+  arrived = lines-le low high le s.arrived w.arrived;
   prepared = promises-le low high le s.prepared w.prepared;
 }
 
@@ -114,6 +117,10 @@ module _ (bound : ℕ) (decl : Declaration) (s : SiteState) (from number : ℕ) 
   learns lines within = every-union (λ (l : Line). l.stamp.clock ≤ bound) s.log (without lines s.began) w.log
       (without-within bound lines s.began within)
 
+  arrives : (lines : List Line) → LinesWithin bound lines → LinesWithin bound (arriving s lines)
+  arrives lines within = every-append (λ (l : Line). l.stamp.clock ≤ bound) s.arrived (fresh s lines) w.arrived
+      (without-within bound (without lines s.began) s.log (without-within bound lines s.began within))
+
   promised-lines : (tx : TxId) → LinesWithin bound (promise_of s tx).lines
   promised-lines tx = without-within bound s.log s.recorded w.log
 
@@ -124,14 +131,15 @@ module _ (bound : ℕ) (decl : Declaration) (s : SiteState) (from number : ℕ) 
 
   granted : (tx : TxId) (want : Want) → WantWithin bound want → SiteMoveWithin bound (grants decl s from number tx want)
   granted tx (Read read) here =
-      read_cases (SiteMoveWithin bound) decl s from number tx read.object read.inv
+      read_cases (SiteMoveWithin bound) decl s from number tx read
       (λ free. record {
-        site = record { clock = w.clock; began = w.began; log = w.log; prepared = w.prepared };
+        site = record { clock = w.clock; began = w.began; log = w.log; arrived = w.arrived; prepared = w.prepared };
         sends = (
           (
             w.clock,
-            every-filter (λ (l : Line). l.stamp.clock ≤ bound) (λ (l : Line). l.object == read.object)
-                (known s) all-known,
+            every-told (λ (l : Line). l.stamp.clock ≤ bound) s.life s.epoch (arrived_of s read.object) read.mark
+                (every-filter (λ (l : Line). l.stamp.clock ≤ bound) (λ (l : Line). l.object == read.object) s.arrived
+                w.arrived),
           ),
           tt,
         );
@@ -144,6 +152,7 @@ module _ (bound : ℕ) (decl : Declaration) (s : SiteState) (from number : ℕ) 
           clock = w.clock;
           began = w.began;
           log = learns view here;
+          arrived = arrives view here;
           prepared = w.prepared;
         };
         sends = ((w.clock, tt), tt);
@@ -157,6 +166,7 @@ module _ (bound : ℕ) (decl : Declaration) (s : SiteState) (from number : ℕ) 
           clock = w.clock;
           began = w.began;
           log = w.log;
+          arrived = w.arrived;
           prepared = promises-push bound s.prepared (promise_of s tx) w.prepared (promised-lines tx);
         };
         sends = (w.clock, tt);
@@ -176,7 +186,7 @@ module _ (bound : ℕ) (decl : Declaration) (s : SiteState) (from number : ℕ) 
   finished tx (Committed stamp) here =
       join_cases (SiteMoveWithin bound) s tx stamp
       (λ none. record {
-        site = record { clock = w.clock; began = w.began; log = w.log; prepared = left tx };
+        site = record { clock = w.clock; began = w.began; log = w.log; arrived = w.arrived; prepared = left tx };
         sends = tt;
       })
       (λ p some. record {
@@ -184,13 +194,14 @@ module _ (bound : ℕ) (decl : Declaration) (s : SiteState) (from number : ℕ) 
           clock = w.clock;
           began = w.began;
           log = learns (lines_of stamp tx p.own) (stamped-within bound stamp tx [] p.own here tt);
+          arrived = arrives (lines_of stamp tx p.own) (stamped-within bound stamp tx [] p.own here tt);
           prepared = left tx;
         };
         sends = tt;
       })
   finished tx Aborted here = record {
     site =
-        record { clock = w.clock; began = w.began; log = w.log; prepared = left tx };
+        record { clock = w.clock; began = w.began; log = w.log; arrived = w.arrived; prepared = left tx };
     sends = tt;
   }
   finished tx Active here = silent
@@ -205,7 +216,7 @@ module _ (bound : ℕ) (decl : Declaration) (s : SiteState) (from number : ℕ) 
       close_rows (SiteMoveWithin bound) s from number k (answered (says.Behind s.epoch) tt)
       (answered (says.Closed s.epoch) tt) (answered (shut_answer s) shut-within)
       (record {
-        site = record { clock = w.clock; began = w.began; log = w.log; prepared = w.prepared };
+        site = record { clock = w.clock; began = w.began; log = w.log; arrived = w.arrived; prepared = w.prepared };
         sends = (shut-within, tt);
       })
 
@@ -219,6 +230,7 @@ module _ (bound : ℕ) (decl : Declaration) (s : SiteState) (from number : ℕ) 
           clock = (let c : s.clock ≤ bound = w.clock in omega arith);
           began = within;
           log = tt;
+          arrived = within;
           prepared = tt;
         };
         sends = (tt, tt);
@@ -261,6 +273,7 @@ passed-within bound s message w here = record {
   clock = clock-within bound s message w.clock here;
   began = w.began;
   log = w.log;
+  arrived = w.arrived;
   prepared = w.prepared;
 }
 

@@ -1,5 +1,5 @@
 -- A client that is asked what the script asks has a sound front end and desk.
-use Rattle.std.proofs.Common.{[], ◌≡◌, ℕ, zero, suc, ◌-◌, ◌%◌, ◌<◌, ◌==◌, ◌&&◌, Bool, true, false, cond, if◌then◌else◌}
+use Rattle.std.proofs.Common.{[], ◌≡◌, ℕ, zero, suc, ◌%◌, ◌<◌, ◌==◌, ◌&&◌, Bool, true, false, cond, if◌then◌else◌}
 use Rattle.std.proofs.Common.{List, ◌∷◌, map, length, take, Option, Some, None, is_some, refl, sym, subst, arith}
 use Rattle.std.proofs.Common.{eqb-true}
 use Rattle.std.specs.List.{AllByRecursion as Every, filter, filter_map, fold}
@@ -32,7 +32,6 @@ use Rattle.qc_client.specs.Vocabulary.{client_does, client_takes, commits, heard
 use Rattle.qc_front.specs.declared.doing.Doing.{Doing}
 use Rattle.qc_front.specs.declared.doing.Doing.TheVariants.{Idle, Reading, Appending}
 use Rattle.qc_script.specs.Vocabulary.{Runs, commands_for, inbox, phase_of}
-use Rattle.qc_script.specs.Runs.{takes}
 use Rattle.qc_script.specs.declared.script.CommandLine.{CommandLine}
 use Rattle.qc_script.specs.declared.script.PhaseLines.{PhaseLines}
 use Rattle.qc_script.specs.declared.script.Script.{Script}

@@ -22,6 +22,7 @@ use Rattle.qc_msg.specs.declared.message.Want.TheVariants.{Read, Append, Prepare
 use Rattle.qc_msg.specs.declared.step.Input.{Input}
 use Rattle.qc_msg.specs.declared.step.Input.TheVariants as inputs
 use Rattle.qc_msg.specs.declared.turn.Turn.{Turn}
+use Rattle.qc_msg.specs.declared.payload.ReadRequest.{ReadRequest}
 use Rattle.qc_msg.specs.Vocabulary.{Deed, Falls, Rises, Sends, Takes, Tells, Writes, quiet}
 use Rattle.qc_client.specs.Vocabulary.{client_after}
 use Rattle.qc_site.specs.Vocabulary.{SiteMove, SiteState, appends_by, fault_of, finishes, grants, is_prepared, joins}
@@ -57,11 +58,12 @@ prepares_answer s from number tx =
     (record { sends = (tt, tt); failed = tt; writes = unwritten None refl; told = refl })
     (promises_answer s from number (promise_of s tx)))
 
-reads_answer : (decl : Declaration) (s : SiteState) (from number : ℕ) (tx : TxId) (object inv : ℕ) (o : Option Conflict)
-    → IsAnswering (reads_by decl s from number tx object inv o)
-reads_answer decl s from number tx object inv None =
+reads_answer : (decl : Declaration) (s : SiteState) (from number : ℕ) (tx : TxId) (r : ReadRequest)
+    (o : Option Conflict)
+    → IsAnswering (reads_by decl s from number tx r o)
+reads_answer decl s from number tx r None =
     (record { sends = (tt, tt); failed = tt; writes = unwritten None refl; told = refl })
-reads_answer decl s from number tx object inv (Some c) =
+reads_answer decl s from number tx r (Some c) =
     (record { sends = (tt, (tt, tt)); failed = tt; writes = unwritten None refl; told = refl })
 
 appends_answer : (decl : Declaration) (s : SiteState) (from number : ℕ) (tx : TxId) (view : List Line)
@@ -74,7 +76,7 @@ appends_answer decl s from number tx view own (Some c) =
 grants_answer : (decl : Declaration) (s : SiteState) (from number : ℕ) (tx : TxId) (want : Want)
     → IsAnswering (grants decl s from number tx want)
 grants_answer decl s from number tx (Read read) =
-    reads_answer decl s from number tx read.object read.inv
+    reads_answer decl s from number tx read
     (read_clash (relation_at decl read.object) s.held tx read.object read.inv)
 grants_answer decl s from number tx (Append object view own) =
     appends_answer decl s from number tx view own (append_clash (relation_at decl object) s.held tx own)

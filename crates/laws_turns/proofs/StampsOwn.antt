@@ -31,7 +31,7 @@ use Rattle.qc_front.specs.Conduct as fronts
 use Rattle.qc_front.proofs.Unwritten as calm
 use Rattle.qc_front.specs.Vocabulary.{FrontMove, ended}
 use Rattle.qc_client.specs.declared.client.Client.{Client}
-use Rattle.qc_client.specs.Vocabulary.{ClientMove, by_desk, by_front, called, commits, is_begun, outcome_by, outcome_of}
+use Rattle.qc_client.specs.Vocabulary.{ClientMove, by_desk, by_front, commits, is_begun, outcome_by, outcome_of}
 use Rattle.laws_turns.proofs.OwnFronts.{OwnFront}
 use Rattle.laws_turns.proofs.OwnFronts as own_fronts
 use Rattle.laws_turns.proofs.MessageCases.{message_cases}

@@ -1,5 +1,5 @@
 -- What an input of a client does to the status of its transaction: each deed is right.
-use Rattle.std.proofs.Common.{[], ◌≡◌, ◌≢◌, ℕ, ◌+◌, ◌-◌, inl, inr, Bool, true, false, cond, List, ◌∷◌, Option, Some}
+use Rattle.std.proofs.Common.{[], ◌≡◌, ◌≢◌, ℕ, ◌+◌, inl, inr, Bool, true, false, cond, List, ◌∷◌, Option, Some}
 use Rattle.std.proofs.Common.{None, is_some, refl, sym, ap, subst}
 use Rattle.std.specs.List.{AllByRecursion as Every}
 use Rattle.qc_list.specs.Vocabulary.{In}
@@ -30,9 +30,8 @@ use Rattle.qc_front.specs.Vocabulary.{FrontMove, ended, next_tx}
 use Rattle.qc_client.specs.declared.client.Client.{Client}
 use Rattle.qc_client.specs.Vocabulary.{ClientMove, answered, answered_by, by_desk, by_front, called, client_takes}
 use Rattle.qc_client.specs.Vocabulary.{commits, heard, is_begun, moved, outcome_by, outcome_of}
-use Rattle.qc_core.specs.Vocabulary.{takes}
 use Rattle.laws_turns.specs.Vocabulary.{begun_in}
-use Rattle.qc_promise.specs.Vocabulary.{Begun, Committed, Dead, Status, Unborn, status}
+use Rattle.qc_promise.specs.Vocabulary.{Begun, Committed, Dead, Status, Unborn}
 use Rattle.laws_turns.proofs.DealingParts.{HasRecord, begun_tx}
 use Rattle.laws_turns.proofs.DealtCommands.{IsInHand}
 use Rattle.laws_turns.proofs.HandMoves.{IsHandMove, prepare-it, vote-it}

@@ -1,5 +1,5 @@
 -- A client waits only where a command runs, and tells a reply only there.
-use Rattle.std.proofs.Common.{[], ◌≡◌, ℕ, ◌+◌, ◌-◌, ◌&&◌, not, Bool, true, false, List, ◌∷◌, ◌++◌, Option, Some, None}
+use Rattle.std.proofs.Common.{[], ◌≡◌, ℕ, ◌+◌, ◌&&◌, not, Bool, true, false, List, ◌∷◌, ◌++◌, Option, Some, None}
 use Rattle.std.proofs.Common.{is_some, refl, sym, ap, ◌∙◌}
 use Rattle.std.specs.List.{fold}
 use Rattle.std.proofs.lemmas.List.Sums.{fold-append}

@@ -85,6 +85,7 @@ pub record SiteWithin (bound : ℕ) (s : SiteState) : Type 0 where
   pub clock : s.clock ≤ bound
   pub began : LinesWithin bound s.began
   pub log : LinesWithin bound s.log
+  pub arrived : LinesWithin bound s.arrived
   pub prepared : PromisesWithin bound s.prepared
 
 pub record SiteMoveWithin (bound : ℕ) (move : SiteMove) : Type 0 where

@@ -11,7 +11,6 @@ use Rattle.qc_core.specs.Vocabulary.{actor_takes, is_up, up_at}
 use Rattle.std.proofs.lemmas.Bool.{cases_eq}
 use Rattle.std.proofs.lemmas.List.Sums.{fold-append}
 use Rattle.laws_due.proofs.Standing.{actor_more}
-use Rattle.qc_core.specs.Lives as lives
 use Rattle.qc_core.specs.declared.actor.Actor.{Actor}
 use Rattle.qc_entry.specs.Vocabulary.{without}
 use Rattle.qc_entry.specs.declared.record.Prepared.{Prepared}

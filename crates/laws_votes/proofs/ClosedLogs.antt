@@ -9,9 +9,10 @@ use Rattle.qc_msg.specs.declared.message.Answer.TheVariants.{Granted}
 use Rattle.qc_msg.specs.declared.message.Envelope.{Envelope}
 use Rattle.qc_msg.specs.declared.message.Message.TheVariants as messages
 use Rattle.qc_msg.specs.declared.message.Want.TheVariants.{Read}
+use Rattle.qc_msg.specs.declared.payload.Grant.{Grant}
 use Rattle.qc_msg.specs.declared.record.Record.{Record}
 use Rattle.qc_msg.specs.Vocabulary.{Entry, mail}
-use Rattle.qc_msg.specs.Vocabulary.{grant_with, read_of}
+use Rattle.qc_msg.specs.Vocabulary.{first_read}
 use Rattle.laws_refinement.specs.Vocabulary.{IsGrantTo, IsRequest}
 use Rattle.theory_onecopy.specs.Vocabulary.{IsClosedLog, IsLogged}
 use Rattle.qc_promise.specs.Vocabulary.{Kept, committed}
@@ -36,24 +37,24 @@ module _ (fits : ℕ → List Record → Type 0) (decl : Declaration) (script : 
   }
 
   pub granted_logs_are_closed_through_falls : (request answer : Envelope) (tx : TxId)
-      (number epoch named object inv life clock : ℕ) (log : List Line) → slice_get (mail h) number ≡ Some request
-      → request.message ≡ messages.Request tx epoch named (Read (read_of object inv))
-      → In answer (mail h) → answer.message ≡ messages.Answer number (Granted (grant_with life clock log))
-      → IsClosedLog decl (committed decl h) log
-  granted_logs_are_closed_through_falls request answer tx number epoch named object inv life clock log found asked sent
-      is l m among is_committed same before depends =
+      (number epoch named object inv : ℕ) (grant : Grant) → slice_get (mail h) number ≡ Some request
+      → request.message ≡ messages.Request tx epoch named (Read (first_read object inv))
+      → In answer (mail h) → answer.message ≡ messages.Answer number (Granted grant)
+      → IsClosedLog decl (committed decl h) grant.log
+  granted_logs_are_closed_through_falls request answer tx number epoch named object inv grant found asked sent is l m
+      among is_committed same before depends =
       by (backed fits decl script h open_inputs accepted sound run kept answer
-      (messages.Answer number (Granted (grant_with life clock log))) sent is)
+      (messages.Answer number (Granted grant)) sent is)
     where
       by : IsGrantTo decl (now fits decl script h open_inputs accepted sound run kept)
-          (net fits decl script h open_inputs accepted sound run kept).mail answer.from number life clock log → In m log
+          (net fits decl script h open_inputs accepted sound run kept).mail answer.from number grant → In m grant.log
       by b =
-          let r : IsRequest (mail h) number request.to tx (Read (read_of object inv)) =
+          let r : IsRequest (mail h) number request.to tx (Read (first_read object inv)) =
           record { epoch = epoch; life = named; is = (request, found, refl, asked) } in
           let one : (answer.from ≡ request.to) × (b.tx ≡ tx)
-          × (b.want ≡ Read (read_of object inv)) =
+          × (b.want ≡ Read (first_read object inv)) =
           one_request fits decl script h open_inputs accepted sound run kept number
-          answer.from request.to b.tx tx b.want (Read (read_of object inv))
+          answer.from request.to b.tx tx b.want (Read (first_read object inv))
           (subst (λ (ms : List Envelope). IsRequest ms number answer.from b.tx b.want)
           (reached fits decl script h open_inputs accepted sound run kept).mail_is
           (record { epoch = b.epoch; life = b.named; is = b.request })) r in

@@ -1,6 +1,6 @@
 -- A commit record is due where each participant of the begun transaction was asked for its promise, in the life of its
 -- first grant that counted, and has voted for it.
-use Rattle.std.proofs.Common.{[], ◌≡◌, ◌≢◌, ◌<◌, ◌≤◌, ◌+◌, ◌-◌, ℕ, nat_lt, Bool, true, false, cond, List, ◌∷◌, inl, inr}
+use Rattle.std.proofs.Common.{[], ◌≡◌, ◌≢◌, ◌<◌, ◌≤◌, ◌+◌, ℕ, nat_lt, Bool, true, false, cond, List, ◌∷◌, inl, inr}
 use Rattle.std.proofs.Common.{length, filter, Option, Some, None, refl, sym, ap, ◌∙◌, subst, arith, ltb-true, ltb-false}
 use Rattle.std.specs.List.{find}
 use Rattle.qc_decl.specs.Vocabulary.{first_site}
@@ -34,10 +34,9 @@ told_votes : (d : Account) (q : ClientRequest) (answer : Option Answer) → q.wa
     × ((told_by d q answer).client ≡ d.client) × ((told_by d q answer).requests ≡ d.requests)
 told_votes d q None want = (refl, refl, refl, refl)
 told_votes d q (Some (answers.Granted grant)) want =
-    subst (λ (w : Want). ((granted d q.site grant.life grant.clock grant.log w).current ≡ d.current)
-    × ((granted d q.site grant.life grant.clock grant.log w).command ≡ d.command)
-    × ((granted d q.site grant.life grant.clock grant.log w).client ≡ d.client)
-    × ((granted d q.site grant.life grant.clock grant.log w).requests ≡ d.requests)) (sym want) (refl, refl, refl, refl)
+    subst (λ (w : Want). ((granted d q.site grant w).current ≡ d.current)
+    × ((granted d q.site grant w).command ≡ d.command) × ((granted d q.site grant w).client ≡ d.client)
+    × ((granted d q.site grant w).requests ≡ d.requests)) (sym want) (refl, refl, refl, refl)
 told_votes d q (Some (answers.Clash holder inv event)) want = (refl, refl, refl, refl)
 told_votes d q (Some (answers.Closed epoch)) want = (refl, refl, refl, refl)
 told_votes d q (Some (answers.Behind epoch)) want = (refl, refl, refl, refl)

@@ -13,7 +13,7 @@ use Rattle.qc_list.specs.Vocabulary.{In}
 use Rattle.qc_list.proofs.Members.{In-first, In-second}
 use Rattle.qc_lock.specs.Vocabulary.{entry_of, held_of, is_held}
 use Rattle.qc_lock.specs.declared.held.Held.{Held}
-use Rattle.qc_msg.specs.Vocabulary.{Entry, deeds, has_granted, life_of, mail, grant_with}
+use Rattle.qc_msg.specs.Vocabulary.{Entry, deeds, has_granted, life_of, mail}
 use Rattle.qc_msg.specs.declared.message.Answer.TheVariants as answers
 use Rattle.qc_msg.specs.declared.message.Envelope.{Envelope}
 use Rattle.qc_msg.specs.declared.message.Message.TheVariants as messages
@@ -161,11 +161,11 @@ module _ (fits : ℕ → List Record → Type 0) (decl : Declaration) (script : 
     pub granted : IsGrantedIn
     granted =
         at (backed fits decl script h open_inputs accepted sound run kept told.taken.envelope
-        (messages.Answer told.q.number (answers.Granted (grant_with (life_of t.lives site) told.clock told.log)))
+        (messages.Answer told.q.number (answers.Granted told.grant))
         (took_sent a [] h told.taken.envelope told.taken.taken) told.taken.is)
       where
         at : IsGrantTo decl then (net fits decl script h open_inputs accepted sound run kept).mail
-            told.taken.envelope.from told.q.number (life_of t.lives site) told.clock told.log → IsGrantedIn
+            told.taken.envelope.from told.q.number told.grant → IsGrantedIn
         at b =
             let one = one_request fits decl script h open_inputs accepted sound run kept told.q.number
             told.taken.envelope.from told.q.site b.tx t.tx b.want told.q.want
@@ -180,8 +180,8 @@ module _ (fits : ℕ → List Record → Type 0) (decl : Declaration) (script : 
               known = b.grant.given;
               its = b.grant.its ∙ one.1;
               by = b.grant.by ∙ from;
-              life = b.grant.life_is;
-              some = b.grant.some;
+              life = b.grant.life_is ∙ told.its;
+              some = subst (λ (life : ℕ). 0 < life) told.its b.grant.some;
               epoch = b.grant.epoch_is ∙ ap then.epoch (sym b.grant.its);
               place = subst (λ (n : ℕ). is_site decl n ≡ true) from b.grant.place;
               item = item.item;

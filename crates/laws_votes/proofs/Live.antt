@@ -6,9 +6,7 @@ use Rattle.std.proofs.lemmas.List.Sums.{fold-append}
 use Rattle.laws_due.proofs.Standing.{IsAtInput, IsAtRest, Stands, account_is, account_more}
 use Rattle.laws_due.specs.Vocabulary.{Ties}
 use Rattle.qc_client.specs.declared.client.Client.{Client}
-use Rattle.qc_commit.specs.declared.desk.Voting.{Voting}
 use Rattle.qc_core.specs.Vocabulary.{IsLawfulWithFalls, actor_after, is_up, up_at}
-use Rattle.qc_core.specs.declared.actor.Actor.TheVariants as actor
 use Rattle.qc_decl.specs.Vocabulary.{IsAccepted, is_client}
 use Rattle.qc_decl.specs.declared.declaration.Declaration.{Declaration}
 use Rattle.qc_front.specs.declared.transaction.Transaction.{Transaction}

@@ -8,10 +8,9 @@ use Rattle.qc_list.specs.Vocabulary.{In}
 use Rattle.qc_msg.specs.declared.begun.LifeAt.{LifeAt}
 use Rattle.qc_msg.specs.Vocabulary.{Deed, has_granted, life_of, with_life}
 use Rattle.qc_promise.specs.Vocabulary.{Account, ClientRequest, Current}
-use Rattle.qc_entry.specs.declared.line.Line.{Line}
 use Rattle.qc_msg.specs.declared.message.Answer.TheVariants as answers
 use Rattle.qc_msg.specs.declared.message.Want.TheVariants.{Prepare}
-use Rattle.qc_msg.specs.Vocabulary.{grant_with}
+use Rattle.qc_msg.specs.declared.payload.Grant.{Grant}
 use Rattle.laws_guarantees.proofs.Accounts.{WasSent, WasTaken, sent_more, taken_more}
 use Rattle.laws_guarantees.proofs.SiteMoves.{IsFull}
 
@@ -21,9 +20,9 @@ pub record IsToldLife (ds : List Deed) (tx : TxId) (site life : ℕ) : Type 0 wh
   pub sent : WasSent ds q tx
   pub at : q.site ≡ site
   pub full : IsFull q.want
-  pub clock : ℕ
-  pub log : List Line
-  pub taken : WasTaken ds q.number (answers.Granted (grant_with life clock log))
+  pub grant : Grant
+  pub its : grant.life ≡ life
+  pub taken : WasTaken ds q.number (answers.Granted grant)
 
 -- the site of the request granted something to the begun transaction, and the request names the life of that
 abbrev pub HasParticipant : Option Current → ClientRequest → Type 0
@@ -43,9 +42,9 @@ told_more ds x tx site life k = record {
   sent = sent_more ds x k.q tx k.sent;
   at = k.at;
   full = k.full;
-  clock = k.clock;
-  log = k.log;
-  taken = taken_more ds x k.q.number (answers.Granted (grant_with life k.clock k.log)) k.taken;
+  grant = k.grant;
+  its = k.its;
+  taken = taken_more ds x k.q.number (answers.Granted k.grant) k.taken;
 }
 
 -- what is begun later was begun before, with the same lives, or has none yet

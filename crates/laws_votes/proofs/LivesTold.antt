@@ -1,5 +1,5 @@
 -- The lives of a begun transaction: which an answer adds, and what grants told them.
-use Rattle.std.proofs.Common.{◌≡◌, ◌⊎◌, ℕ, List, inl, inr, Option, Some, None, option_map, refl, sym, ap, ◌∙◌, subst}
+use Rattle.std.proofs.Common.{◌≡◌, ◌⊎◌, ℕ, inl, inr, Option, Some, None, option_map, refl, sym, ap, ◌∙◌, subst}
 use Rattle.qc_msg.specs.declared.message.Answer.{Answer}
 use Rattle.qc_msg.specs.declared.message.Want.{Want}
 use Rattle.qc_msg.specs.Vocabulary.{with_life}
@@ -7,7 +7,6 @@ use Rattle.qc_promise.specs.Vocabulary.{Account, ClientRequest, Current, account
 use Rattle.qc_promise.specs.Vocabulary.{granted, lived, new_current, promised, refused, responded, short_of, told_by}
 use Rattle.qc_promise.specs.Vocabulary.{with_read, with_response}
 use Rattle.laws_guarantees.proofs.FirstGrants.{KeepsLives, same_lives, life_added}
-use Rattle.qc_entry.specs.declared.line.Line.{Line}
 use Rattle.qc_msg.specs.declared.message.Answer.TheVariants as answers
 use Rattle.qc_msg.specs.declared.message.Want.TheVariants.{Append, Prepare, Read}
 use Rattle.qc_decl.specs.declared.declaration.Declaration.{Declaration}
@@ -17,31 +16,26 @@ use Rattle.qc_msg.specs.declared.reply.Reply.{Reply}
 use Rattle.qc_msg.specs.declared.reply.Reply.TheVariants as replies
 use Rattle.qc_msg.specs.declared.step.Command.{Command}
 use Rattle.qc_msg.specs.declared.step.Command.TheVariants as commands
-use Rattle.qc_msg.specs.Vocabulary.{grant_with}
+use Rattle.qc_msg.specs.declared.payload.Grant.{Grant}
 use Rattle.laws_votes.proofs.LivesAdded.{WasBegunWith, HaveSameLives, same_now, none_now, changed_alike, HasOneMore}
 
 -- what an answer changes: nothing, or a grant of a Read or an Append adds a life
 abbrev pub IsChangedBy : Option Current → ℕ → Option Answer → Current → Type 0
 IsChangedBy o site answer t =
-    WasBegunWith o t
-    ⊎ ((life : ℕ) × (clock : ℕ) × (log : List Line) × (answer ≡ Some (answers.Granted (grant_with life clock log)))
-    × HasOneMore o site life t)
+    WasBegunWith o t ⊎ ((g : Grant) × (answer ≡ Some (answers.Granted g)) × HasOneMore o site g.life t)
 
 pub same_changed : (o : Option Current) (site : ℕ) (answer : Option Answer) (t : Current) → o ≡ Some t
     → IsChangedBy o site answer t
 same_changed o site answer t is = inl (t, is, refl, refl)
 
-pub one_changed : (o : Option Current) (site life clock : ℕ) (log : List Line) (change : Current → Current)
-    → ((x : Current) → ((change x).tx ≡ x.tx) × ((change x).lives ≡ with_life x.lives site life)) → (t : Current)
-    → option_map change o ≡ Some t
-    → IsChangedBy o site (Some (answers.Granted (grant_with life clock log))) t
-one_changed None site life clock log change keeps t is = absurd (let never : ⊥ = cc in never)
-one_changed (Some x) site life clock log change keeps t is =
+pub one_changed : (o : Option Current) (site : ℕ) (g : Grant) (change : Current → Current)
+    → ((x : Current) → ((change x).tx ≡ x.tx) × ((change x).lives ≡ with_life x.lives site g.life)) → (t : Current)
+    → option_map change o ≡ Some t → IsChangedBy o site (Some (answers.Granted g)) t
+one_changed None site g change keeps t is = absurd (let never : ⊥ = cc in never)
+one_changed (Some x) site g change keeps t is =
     let same : t ≡ change x = cc in
     inr (
-      life,
-      clock,
-      log,
+      g,
       refl,
       record {
         old = x;
@@ -61,15 +55,13 @@ pub told_changed : (d : Account) (p : ClientRequest) (answer : Option Answer) (t
 told_changed d p None t is = same_changed d.current p.site None t is
 told_changed d p (Some (answers.Granted grant)) t is = by p.want is
   where
-    by : (w : Want) → (granted d p.site grant.life grant.clock grant.log w).current ≡ Some t
+    by : (w : Want) → (granted d p.site grant w).current ≡ Some t
         → IsChangedBy d.current p.site (Some (answers.Granted grant)) t
     by (Read read) e =
-        one_changed d.current p.site grant.life grant.clock grant.log
-        (λ (x : Current). with_read (lived x p.site grant.life) read.object grant.log)
-        (λ x. (refl, refl)) t e
+        one_changed d.current p.site grant
+        (λ (x : Current). with_read (lived x p.site grant.life) read.object grant.log) (λ x. (refl, refl)) t e
     by (Append object view own) e =
-        one_changed d.current p.site grant.life grant.clock grant.log (λ (x : Current). lived x p.site grant.life)
-        (λ x. (refl, refl)) t e
+        one_changed d.current p.site grant (λ (x : Current). lived x p.site grant.life) (λ x. (refl, refl)) t e
     by Prepare e = same_changed d.current p.site (Some (answers.Granted grant)) t e
 told_changed d p (Some (answers.Clash holder inv event)) t is =
     same_changed d.current p.site (Some (answers.Clash holder inv event)) t is
@@ -100,7 +92,7 @@ told_forward d p None t was = (t, was, same_lives t.lives)
 told_forward d p (Some (answers.Granted grant)) t was = by p.want
   where
     by : (w : Want)
-        → (u : Current) × ((granted d p.site grant.life grant.clock grant.log w).current ≡ Some u)
+        → (u : Current) × ((granted d p.site grant w).current ≡ Some u)
         × KeepsLives t.lives u.lives
     by (Read read) =
         granted_on d.current t p.site grant.life

@@ -1,7 +1,6 @@
 -- Of what a site has promised it holds the locks, as it grants, promises, closes its epoch, and answers.
 use Rattle.std.proofs.Common.{[], fold, ◌≡◌, not, nat_le, if◌then◌else◌, ℕ, Bool, true, false, cond, List, ◌∷◌, inl}
 use Rattle.std.proofs.Common.{inr, Option, Some, None, refl, sym, ap, ◌∙◌, subst, arith}
-use Rattle.qc_core.specs.Vocabulary.{rises}
 use Rattle.qc_decl.specs.Vocabulary.{most_record_bytes}
 use Rattle.qc_decl.specs.declared.declaration.Declaration.{Declaration}
 use Rattle.qc_entry.specs.declared.line.Line.{Line}
@@ -19,6 +18,7 @@ use Rattle.qc_msg.specs.declared.message.Answer.{Answer}
 use Rattle.qc_msg.specs.declared.message.Answer.TheVariants.{Stale, Yes}
 use Rattle.qc_msg.specs.declared.message.Want.{Want}
 use Rattle.qc_msg.specs.declared.message.Want.TheVariants.{Append, Prepare, Read}
+use Rattle.qc_msg.specs.declared.payload.ReadRequest.{ReadRequest}
 use Rattle.qc_msg.specs.declared.record.Record.{Record}
 use Rattle.qc_msg.specs.declared.turn.Turn.{Turn}
 use Rattle.laws_refinement.proofs.Held.{given_case}
@@ -97,14 +97,14 @@ stays s turn none old =
     }
 
 module _ (decl : Declaration) (s : SiteState) (old : HoldsLocks s) (from number : ℕ) where
-  read : (tx : TxId) (object inv : ℕ) (o : Option Conflict) → MoveKeeps s (reads_by decl s from number tx object inv o)
-  read tx object inv None =
+  read : (tx : TxId) (r : ReadRequest) (o : Option Conflict) → MoveKeeps s (reads_by decl s from number tx r o)
+  read tx r None =
       record {
-        locks = holds_more s tx (record { object = object; inv = inv } ∷ []) [] old;
+        locks = holds_more s tx (record { object = r.object; inv = r.inv } ∷ []) [] old;
         rises = omega arith;
         writes = tt;
       }
-  read tx object inv (Some c) = stays s _ refl old
+  read tx r (Some c) = stays s _ refl old
 
   pub append : (tx : TxId) (view : List Line) (own : List OwnLine) (o : Option Conflict)
       → MoveKeeps s (appends_by decl s from number tx view own o)
@@ -124,7 +124,7 @@ module _ (decl : Declaration) (s : SiteState) (old : HoldsLocks s) (from number 
 
   grant : (tx : TxId) (want : Want) → MoveKeeps s (grants decl s from number tx want)
   grant tx (Read read_here) =
-      read tx read_here.object read_here.inv
+      read tx read_here
       (read_clash (relation_at decl read_here.object) s.held tx read_here.object read_here.inv)
   grant tx (Append object view own) = append tx view own (append_clash (relation_at decl object) s.held tx own)
   grant tx Prepare =

@@ -34,7 +34,7 @@ at_site : (decl : Declaration) (s : SiteState) (from number : ℕ) (message : Me
     → IsSound (site_at decl s from number message).site.held
 at_site decl s from number message sound =
     state_cases (λ (t : SiteState). IsSound t.held) decl s from number message sound
-    (λ tx epoch life object inv is. sound-held s.held tx (record { object = object; inv = inv } ∷ []) [] sound)
+    (λ tx epoch life r is. sound-held s.held tx (record { object = r.object; inv = r.inv } ∷ []) [] sound)
     (λ tx epoch life object view own is. sound-held s.held tx [] own sound)
     (λ tx. sound) (λ tx verdict is final. sound-without s.held tx sound)
     (λ tx stamp p is. sound-without s.held tx sound)

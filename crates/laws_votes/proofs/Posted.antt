@@ -62,7 +62,7 @@ at_fault from number p n x (inr never) is forgets = never
 grants_never : (decl : Declaration) (s : SiteState) (from number : ℕ) (tx : TxId) (want : Want)
     → NeverForgets (grants decl s from number tx want)
 grants_never decl s from number tx (Read read) =
-    read_cases NeverForgets decl s from number tx read.object read.inv (λ free p n x among is forgets. among)
+    read_cases NeverForgets decl s from number tx read (λ free p n x among is forgets. among)
     (λ c clash p n x among is forgets. among)
 grants_never decl s from number tx (Append object view own) =
     append_cases NeverForgets decl s from number tx object view own (λ free p n x among is forgets. among)

@@ -16,7 +16,6 @@ use Rattle.qc_decl.specs.declared.declaration.Declaration.{Declaration}
 use Rattle.qc_entry.specs.declared.record.Prepared.{Prepared}
 use Rattle.qc_list.specs.Vocabulary.{In}
 use Rattle.qc_msg.specs.Vocabulary.{Deed, Rises, Takes, deeds_as, quiet, turn_deeds}
-use Rattle.qc_msg.specs.declared.message.Answer.{Answer}
 use Rattle.qc_msg.specs.declared.message.Message.{Message}
 use Rattle.qc_msg.specs.declared.message.Message.TheVariants as messages
 use Rattle.qc_msg.specs.declared.message.Outcome.{Outcome}
@@ -39,7 +38,7 @@ use Rattle.qc_recover.specs.Vocabulary.{nothing_kept, site_of, site_rises}
 use Rattle.qc_stamp.specs.declared.stamp.Stamp.{Stamp}
 use Rattle.qc_stamp.specs.declared.stamp.TxId.{TxId}
 use Rattle.laws_votes.proofs.PromisesKept.{HoldsLocks, PassesDones, Keeps, IsPassed, WritePasses, MoveKeeps, clock_up}
-use Rattle.laws_votes.proofs.LocksPromised.{holds_dropped, has_locks, stays, append, asked}
+use Rattle.laws_votes.proofs.LocksPromised.{holds_dropped, has_locks, stays, asked}
 use Rattle.qc_core.proofs.PostsByTurns.{called_turn}
 use Rattle.qc_core.proofs.SiteStates.{was_written}
 use Rattle.laws_refinement.proofs.HeldByPromises.{locks_new}

@@ -1,12 +1,10 @@
 -- What a site keeps of its promises: their locks are held, and its clock has passed its Dones.
 use Rattle.std.proofs.Common.{◌≤◌, max, ℕ, List, [], ◌∷◌, Option, Some, None, arith}
-use Rattle.qc_core.specs.Vocabulary.{rises}
 use Rattle.qc_entry.specs.declared.line.Line.{Line}
 use Rattle.qc_entry.specs.declared.line.ReadLock.{ReadLock}
 use Rattle.qc_entry.specs.declared.record.Prepared.{Prepared}
 use Rattle.qc_list.specs.Vocabulary.{In}
 use Rattle.qc_lock.specs.Vocabulary.{held_of}
-use Rattle.qc_msg.specs.declared.message.Answer.{Answer}
 use Rattle.qc_msg.specs.declared.message.Message.{Message}
 use Rattle.qc_msg.specs.declared.message.Message.TheVariants as messages
 use Rattle.qc_msg.specs.declared.message.Outcome.{Outcome}

@@ -21,7 +21,7 @@ use Rattle.laws_votes.proofs.SiteLives.{record_stays}
 use Rattle.qc_list.specs.Vocabulary.{In}
 use Rattle.qc_list.proofs.Members.{In-first}
 use Rattle.qc_msg.proofs.GrownMail.{mail-append}
-use Rattle.qc_msg.specs.Vocabulary.{Deed, Entry, Sends, Takes, by, deeds, grant_with, has_granted, mail}
+use Rattle.qc_msg.specs.Vocabulary.{Deed, Entry, Sends, Takes, by, deeds, has_granted, mail}
 use Rattle.qc_msg.specs.declared.message.Answer.TheVariants as answers
 use Rattle.qc_msg.specs.declared.message.Envelope.{Envelope}
 use Rattle.qc_msg.specs.declared.message.Message.TheVariants as messages
@@ -88,15 +88,14 @@ module _ (fits : ℕ → List Record → Type 0) (decl : Declaration) (script : 
   pub granted_site : (site : ℕ) → (account decl a h).current ≡ Some t → has_granted t.lives site ≡ true
       → is_site decl site ≡ true
   granted_site site current has = by (backed fits decl script h open_inputs accepted sound run kept g.taken.envelope
-      (messages.Answer g.number (answers.Granted (grant_with g.life g.clock g.log)))
-      (took_sent a [] h g.taken.envelope g.taken.taken) g.taken.is)
+      (messages.Answer g.number (answers.Granted g.grant)) (took_sent a [] h g.taken.envelope g.taken.taken) g.taken.is)
     where
       g : WasGranted ds t.tx site
       g = grounds.granted t site current has
 
       by : IsGrantTo decl (now fits decl script h open_inputs accepted sound run kept)
-          (net fits decl script h open_inputs accepted sound run kept).mail g.taken.envelope.from g.number g.life
-          g.clock g.log → is_site decl site ≡ true
+          (net fits decl script h open_inputs accepted sound run kept).mail g.taken.envelope.from g.number g.grant
+          → is_site decl site ≡ true
       by b =
           let one = same_asked g.number g.taken.envelope.from site b.tx t.tx b.want g.want
           (to_history g.number g.taken.envelope.from b.tx b.want

@@ -1,5 +1,5 @@
 -- A commit record is in a client's journal or pending: a post makes known what was known, or its turn's record.
-use Rattle.std.proofs.Common.{[], ◌≡◌, ◌⊎◌, ◌+◌, ◌==◌, ℕ, Bool, true, false, List, ◌∷◌, ◌++◌, inl, inr, Option, Some}
+use Rattle.std.proofs.Common.{[], ◌≡◌, ◌⊎◌, ◌==◌, ℕ, Bool, true, false, List, ◌∷◌, ◌++◌, inl, inr, Option, Some}
 use Rattle.std.proofs.Common.{None, option_to_list, refl, sym, ap, subst}
 use Rattle.qc_core.specs.Vocabulary.{IsLawfulWithFalls}
 use Rattle.qc_decl.specs.Vocabulary.{IsAccepted}

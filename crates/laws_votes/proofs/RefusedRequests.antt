@@ -1,5 +1,5 @@
 -- Requests of an earlier epoch, and those that name another life, are refused for that.
-use Rattle.std.proofs.Common.{◌≡◌, ◌≢◌, ◌⊎◌, ◌<◌, ◌≤◌, ◌-◌, ◌==◌, nat_lt, if◌then◌else◌, ℕ, Bool, true, false, List, []}
+use Rattle.std.proofs.Common.{◌≡◌, ◌≢◌, ◌⊎◌, ◌<◌, ◌≤◌, ◌==◌, nat_lt, if◌then◌else◌, ℕ, Bool, true, false, List, []}
 use Rattle.std.proofs.Common.{◌∷◌, ◌++◌, inl, inr, Option, Some, None, refl, sym, ap, ◌∙◌, subst, arith, ltb-true}
 use Rattle.std.proofs.Common.{eqb-true}
 use Rattle.qc_core.specs.Vocabulary.{Lives}

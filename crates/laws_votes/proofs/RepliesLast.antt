@@ -1,5 +1,5 @@
 -- Where a reply stands in a post: nothing comes behind it, or the fall.
-use Rattle.std.proofs.Common.{[], ◌≡◌, ◌+◌, ℕ, List, ◌∷◌, ◌++◌, Option, Some, None, refl, sym, ap, ◌∙◌, append_assoc}
+use Rattle.std.proofs.Common.{[], ◌≡◌, ℕ, List, ◌∷◌, ◌++◌, Option, Some, None, refl, sym, ap, ◌∙◌, append_assoc}
 use Rattle.std.proofs.lemmas.List.{append-nil}
 use Rattle.qc_msg.proofs.GrownMail.{by-append}
 use Rattle.qc_msg.specs.Vocabulary.{Entry, by, marked, posted_as, sents, told}

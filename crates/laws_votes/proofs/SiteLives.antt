@@ -8,7 +8,6 @@ use Rattle.qc_list.specs.Vocabulary.{In}
 use Rattle.laws_reach.specs.Vocabulary.{records_of}
 use Rattle.qc_msg.specs.Vocabulary.{Entry, own}
 use Rattle.qc_msg.specs.declared.record.Record.{Record}
-use Rattle.qc_msg.specs.declared.record.Record.TheVariants as records
 use Rattle.qc_msg.specs.declared.step.Step.{Step}
 use Rattle.qc_msg.specs.declared.step.Step.TheVariants as steps
 use Rattle.qc_promise.specs.Vocabulary.{IsGivenBack, IsKeptAt, Journal, Kept, journal_of, journal_with}

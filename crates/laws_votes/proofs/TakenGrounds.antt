@@ -1,5 +1,5 @@
 -- What is taken and counts keeps what stands behind the lives of a begun transaction.
-use Rattle.std.proofs.Common.{[], ◌≡◌, ◌+◌, ℕ, ◌==◌, Bool, true, false, List, ◌∷◌, ◌++◌, inl, inr, Option, Some, None}
+use Rattle.std.proofs.Common.{[], ◌≡◌, ℕ, ◌==◌, Bool, true, false, List, ◌∷◌, ◌++◌, inl, inr, Option, Some, None}
 use Rattle.std.proofs.Common.{refl, sym, ap, ◌∙◌, subst, eqb-true}
 use Rattle.std.specs.Prelude.{is_none}
 use Rattle.std.specs.List.{find}
@@ -13,13 +13,13 @@ use Rattle.qc_msg.specs.declared.message.Message.TheVariants as messages
 use Rattle.qc_msg.specs.declared.message.Want.{Want}
 use Rattle.qc_msg.specs.declared.step.Input.{Input}
 use Rattle.qc_msg.specs.declared.step.Input.TheVariants as inputs
-use Rattle.qc_msg.specs.Vocabulary.{Deed, Takes, has_granted, life_of, grant_with}
+use Rattle.qc_msg.specs.Vocabulary.{Deed, Takes, has_granted, life_of}
 use Rattle.qc_promise.specs.Vocabulary.{Account, ClientRequest, Current, account_heard, account_taken, counted}
 use Rattle.qc_promise.specs.Vocabulary.{counted_for, is_open, taken_for, told_by}
-use Rattle.qc_entry.specs.declared.line.Line.{Line}
 use Rattle.qc_msg.specs.declared.message.Answer.TheVariants as answers
 use Rattle.qc_msg.specs.declared.message.Envelope.{Envelope}
 use Rattle.qc_msg.specs.declared.message.Want.TheVariants.{Prepare}
+use Rattle.qc_msg.specs.declared.payload.Grant.{Grant}
 use Rattle.laws_guarantees.proofs.Accounts.{HasGrounds, WasSent, WasTaken, after_taken, found_in, sent_more}
 use Rattle.laws_guarantees.proofs.Accounts.{told_requests}
 use Rattle.laws_guarantees.proofs.SiteMoves.{IsFull}
@@ -76,18 +76,18 @@ module _ (ds : List Deed) (x : Deed) (d : Account) (n : ℕ) (answer : Option An
   now_told p among number t site at has =
       by (told_changed (record d { requests = taken_for n answer d.requests }) p answer t at)
     where
-      added_here : (life clock : ℕ) (log : List Line) → answer ≡ Some (answers.Granted (grant_with life clock log))
-          → (m : HasOneMore d.current p.site life t) → (b : Bool) → has_granted m.old.lives site ≡ b
+      added_here : (g : Grant) → answer ≡ Some (answers.Granted g)
+          → (m : HasOneMore d.current p.site g.life t) → (b : Bool) → has_granted m.old.lives site ≡ b
           → IsToldLife (ds ++ x ∷ []) t.tx site (life_of t.lives site)
-      added_here life clock log is m true before_it =
+      added_here g is m true before_it =
           subst (λ (tx : TxId). IsToldLife (ds ++ x ∷ []) tx site (life_of t.lives site)) (sym m.its)
           (subst (λ (l : ℕ). IsToldLife (ds ++ x ∷ []) m.old.tx site l)
           (sym (ap (λ (ls : List LifeAt). life_of ls site) m.lives
-          ∙ (life_added m.old.lives p.site life site before_it).1))
+          ∙ (life_added m.old.lives p.site g.life site before_it).1))
           (told_more ds x m.old.tx site (life_of m.old.lives site) (k.told m.old site m.was before_it)))
-      added_here life clock log is m false before_it =
+      added_here g is m false before_it =
           let new =
-          not_yet m.old.lives p.site life site before_it
+          not_yet m.old.lives p.site g.life site before_it
           (subst (λ (ls : List LifeAt). has_granted ls site ≡ true) m.lives has) in
           let s : (c : Current) × (d.current ≡ Some c) × WasSent ds p c.tx = grounds.sent p among in
           let same : s.0 ≡ m.old = (let both : Some s.0 ≡ Some m.old = sym s.1 ∙ m.was in cc) in
@@ -100,12 +100,11 @@ module _ (ds : List Deed) (x : Deed) (d : Account) (n : ℕ) (answer : Option An
             sent = sent_more ds x p t.tx sent;
             at = new.0;
             full = k.full p among;
-            clock = clock;
-            log = log;
+            grant = g;
+            its = refl;
             taken =
-                subst (λ (number : ℕ). WasTaken (ds ++ x ∷ []) number (answers.Granted (grant_with life clock log)))
-                (sym number)
-                (now_taken (answers.Granted (grant_with life clock log)) is);
+                subst (λ (number : ℕ). WasTaken (ds ++ x ∷ []) number (answers.Granted g)) (sym number)
+                (now_taken (answers.Granted g) is);
           })
 
       by : IsChangedBy d.current p.site answer t → IsToldLife (ds ++ x ∷ []) t.tx site (life_of t.lives site)
@@ -114,7 +113,7 @@ module _ (ds : List Deed) (x : Deed) (d : Account) (n : ℕ) (answer : Option An
           (subst (λ (tx : TxId). IsToldLife (ds ++ x ∷ []) tx site (life_of old.lives site)) (sym its)
           (told_more ds x old.tx site (life_of old.lives site)
           (k.told old site was (subst (λ (ls : List LifeAt). has_granted ls site ≡ true) lives has))))
-      by (inr (life, clock, log, is, m)) = added_here life clock log is m (has_granted m.old.lives site) refl
+      by (inr (g, is, m)) = added_here g is m (has_granted m.old.lives site) refl
 
   counted_grounds : HasLifeGrounds (ds ++ x ∷ []) (counted d n answer)
   counted_grounds = by (find (is_open n) d.requests) refl

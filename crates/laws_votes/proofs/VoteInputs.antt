@@ -5,7 +5,7 @@ use Rattle.qc_decl.specs.declared.declaration.Declaration.{Declaration}
 use Rattle.qc_mailbox.specs.Vocabulary.{is_down}
 use Rattle.qc_list.specs.Vocabulary.{In}
 use Rattle.laws_turns.proofs.Downs.{up_is}
-use Rattle.qc_msg.specs.Vocabulary.{Deed, by}
+use Rattle.qc_msg.specs.Vocabulary.{Deed}
 use Rattle.qc_msg.specs.declared.message.Answer.TheVariants as answers
 use Rattle.qc_msg.specs.declared.message.Envelope.{Envelope}
 use Rattle.qc_msg.specs.declared.message.Message.{Message}
@@ -43,7 +43,7 @@ IsVote p to = (clock : ℕ) × (p.message ≡ messages.Answer to (answers.Yes cl
 other_life : (decl : Declaration) (s : SiteState) (from number : ℕ) (m : Message) → ((k : ℕ) → m ≡ messages.Close k → ⊥)
     → (site_at decl s from number m).site.life ≡ s.life
 other_life decl s from number m never =
-    state_cases (λ (t : SiteState). t.life ≡ s.life) decl s from number m refl (λ tx epoch life object inv is. refl)
+    state_cases (λ (t : SiteState). t.life ≡ s.life) decl s from number m refl (λ tx epoch life r is. refl)
     (λ tx epoch life object view own is. refl) (λ tx. refl)
     (λ tx verdict is final. refl) (λ tx stamp p is. refl) (λ k is. absurd (never k is)) (λ k clock lines is later. refl)
 
@@ -83,7 +83,7 @@ promised_none s from number tx =
 wanted_none : (decl : Declaration) (s : SiteState) (from number : ℕ) (tx : TxId) (want : Want)
     → TellsNone (grants decl s from number tx want)
 wanted_none decl s from number tx (Read read) =
-    read_cases TellsNone decl s from number tx read.object read.inv
+    read_cases TellsNone decl s from number tx read
     (λ free closes p among to v. let never : ⊥ = cc in never)
     (λ c clash closes p among to v. let never : ⊥ = cc in never)
 wanted_none decl s from number tx (Append object view own) =

@@ -1,5 +1,5 @@
 -- The row of a commit is Committed where all its votes are in and for it; what is taken meanwhile changes no more.
-use Rattle.std.proofs.Common.{[], ◌≡◌, ◌-◌, ◌==◌, ◌&&◌, ℕ, Bool, true, false, cond, if◌then◌else◌, List, ◌∷◌, inl, inr}
+use Rattle.std.proofs.Common.{[], ◌≡◌, ◌==◌, ◌&&◌, ℕ, Bool, true, false, cond, if◌then◌else◌, List, ◌∷◌, inl, inr}
 use Rattle.std.proofs.Common.{length, Option, Some, None, is_some, refl, sym, ap, ◌∙◌, eqb-true}
 use Rattle.std.specs.Prelude.{option_and_then}
 use Rattle.std.specs.List.{list_all}

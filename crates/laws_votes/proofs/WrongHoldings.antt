@@ -10,7 +10,7 @@ use Rattle.qc_msg.specs.declared.message.Envelope.{Envelope}
 use Rattle.qc_msg.specs.declared.message.Message.TheVariants.{Answer, Request}
 use Rattle.qc_msg.specs.declared.message.Want.TheVariants.{Prepare, Read}
 use Rattle.qc_msg.specs.declared.step.Input.TheVariants.{Got}
-use Rattle.qc_msg.specs.Vocabulary.{read_of}
+use Rattle.qc_msg.specs.Vocabulary.{first_read}
 use Rattle.qc_promise.specs.Vocabulary.{last_cut}
 
 abbrev request : ℕ → Envelope
@@ -101,9 +101,9 @@ promise_kept = record {
 
 -- grants
 
-pub granted_now : IsGrantedSince (last_cut granted).since tx (Read (read_of 0 0))
+pub granted_now : IsGrantedSince (last_cut granted).since tx (Read (first_read 0 0))
 granted_now = record {
-  request = record { number = 0; from = 1; to = 0; message = Request tx 1 0 (Read (read_of 0 0)) };
+  request = record { number = 0; from = 1; to = 0; message = Request tx 1 0 (Read (first_read 0 0)) };
   epoch = 1;
   life = 0;
   content = refl;
@@ -114,7 +114,7 @@ granted_now = record {
   undecided = λ e stamp among is. elim among [ inl same ↦ (let never : ⊥ = cc in never) | inr never ↦ never ];
 }
 
-pub granted_before : IsGrantedSince (last_cut (fallen [])).since tx (Read (read_of 0 0)) → ⊥
+pub granted_before : IsGrantedSince (last_cut (fallen [])).since tx (Read (first_read 0 0)) → ⊥
 granted_before g = by g.before g.stands
   where
     by : (before : List Deed) → (last_cut (fallen [])).since ≡ before ++ Takes (Got g.request) ∷ g.since → ⊥

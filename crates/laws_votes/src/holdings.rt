@@ -1,10 +1,9 @@
 //! Laws of what sites granted in every run with falls whose records are kept,
 //! each the contract of a function with nothing to do.
 
-ghost use Rattle.std.specs.Prelude.{◌≡◌, ℕ, true, false, List, [], Some, slice_get};
+ghost use Rattle.std.specs.Prelude.{◌≡◌, ℕ, true, false, [], Some, slice_get};
 ghost use Rattle.qc_core.specs.Lives.{is_up};
 ghost use Rattle.qc_decl.specs.Actors.{is_site};
-ghost use Rattle.qc_entry.specs.declared.line.Line.{Line};
 ghost use Rattle.qc_entry.specs.declared.record.Commit.{Commit};
 ghost use Rattle.qc_entry.specs.declared.record.Prepared.{Prepared};
 ghost use Rattle.laws_guarantees.specs.Held.{HasWanted, IsGrantedSince};
@@ -16,8 +15,9 @@ ghost use Rattle.qc_msg.specs.declared.message.Envelope.{Envelope};
 ghost use Rattle.qc_msg.specs.declared.message.Message.TheVariants.{Answer, Request};
 ghost use Rattle.qc_msg.specs.declared.message.Want.{Want};
 ghost use Rattle.qc_msg.specs.declared.message.Want.TheVariants.{Read};
+ghost use Rattle.qc_msg.specs.declared.payload.Grant.{Grant};
 ghost use Rattle.qc_msg.specs.Deeds.{deeds, mail};
-ghost use Rattle.qc_msg.specs.Payloads.{grant_with, read_of};
+ghost use Rattle.qc_msg.specs.Payloads.{first_read};
 ghost use Rattle.theory_onecopy.specs.Logged.{IsClosedLog};
 ghost use Rattle.qc_promise.specs.Committed.{committed};
 ghost use Rattle.qc_promise.specs.SiteHeld.{held_shown, last_cut};
@@ -40,10 +40,9 @@ pub fn granted_items_are_held_in_their_lives<C: ConductWithFalls>()
 /// object before it on which its invocation depends: through all falls.
 pub fn granted_logs_are_closed_through_falls<C: ConductWithFalls>()
     ensures { OfEachKeptRun C.fits (λ decl script h open_inputs. (request answer : Envelope) (tx : TxId) (number epoch
-        named object inv life clock : ℕ) (log : List Line) → slice_get (mail h) number ≡ Some request
-        → request.message ≡ Request tx epoch named (Read (read_of object inv)) → In answer (mail h)
-        → answer.message ≡ Answer number (Granted
-        (grant_with life clock log)) → IsClosedLog decl (committed decl h) log) }
+        named object inv : ℕ) (grant : Grant) → slice_get (mail h) number ≡ Some request
+        → request.message ≡ Request tx epoch named (Read (first_read object inv)) → In answer (mail h)
+        → answer.message ≡ Answer number (Granted grant) → IsClosedLog decl (committed decl h) grant.log) }
 {}
 
 /// What was promised is held: while a promise stands on a site's disk, the last of

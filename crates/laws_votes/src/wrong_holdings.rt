@@ -12,7 +12,7 @@ ghost use Rattle.laws_votes.specs.WrongHoldings.{voting};
 ghost use Rattle.qc_lock.specs.Held.{held_of};
 ghost use Rattle.qc_msg.specs.Deeds.{deeds};
 ghost use Rattle.qc_msg.specs.declared.message.Want.TheVariants.{Read};
-ghost use Rattle.qc_msg.specs.Payloads.{read_of};
+ghost use Rattle.qc_msg.specs.Payloads.{first_read};
 ghost use Rattle.qc_promise.specs.SiteHeld.{held_shown, last_cut};
 
 /// A site that rose doesn't vote for what it was asked for in its former life.
@@ -35,11 +35,11 @@ pub fn votes_without_promises_are_refused()
 /// After a fall a lock is had where it was promised, and isn't where it was
 /// granted alone: then it isn't granted in the present life.
 pub fn locks_of_former_lives_are_refused()
-    ensures granted { HasWanted (held_of (held_shown granted) tx) (Read (read_of 0 0)) }
-    ensures forgotten { HasWanted (held_of (held_shown (fallen [])) tx) (Read (read_of 0 0)) → ⊥ }
-    ensures promised { HasWanted (held_of (held_shown (fallen (promise ∷ []))) tx) (Read (read_of 0 0)) }
-    ensures present { IsGrantedSince (last_cut granted).since tx (Read (read_of 0 0)) }
-    ensures former { IsGrantedSince (last_cut (fallen [])).since tx (Read (read_of 0 0)) → ⊥ }
+    ensures granted { HasWanted (held_of (held_shown granted) tx) (Read (first_read 0 0)) }
+    ensures forgotten { HasWanted (held_of (held_shown (fallen [])) tx) (Read (first_read 0 0)) → ⊥ }
+    ensures promised { HasWanted (held_of (held_shown (fallen (promise ∷ []))) tx) (Read (first_read 0 0)) }
+    ensures present { IsGrantedSince (last_cut granted).since tx (Read (first_read 0 0)) }
+    ensures former { IsGrantedSince (last_cut (fallen [])).since tx (Read (first_read 0 0)) → ⊥ }
 {}
 
 /// A promise that isn't on the disk doesn't stand, nor does one that is done.

@@ -1,45 +1,21 @@
 -- Whether an actor is a site, where it is up.
-use Rattle.std.proofs.Common.{◌≡◌, ℕ, ◌+◌, ◌-◌, ◌<◌, Bool, true, false, cond, not, List, [], ◌∷◌, ◌++◌, fold, ◌&&◌}
-use Rattle.std.proofs.Common.{Option, Some, None, is_some, refl, sym, ap, ◌∙◌, subst, ◌⊎◌, inl, inr}
-use Rattle.std.proofs.lemmas.List.Sums.{fold-append}
+use Rattle.std.proofs.Common.{◌≡◌, ℕ, ◌-◌, Bool, true, false, cond, List, [], ◌∷◌, fold}
+use Rattle.std.proofs.Common.{refl}
 use Rattle.qc_decl.specs.declared.declaration.Declaration.{Declaration}
-use Rattle.qc_decl.specs.Vocabulary.{administrator, is_administrator, is_client, is_site}
-use Rattle.qc_client.specs.Vocabulary.{client_takes, new_client}
+use Rattle.qc_decl.specs.Vocabulary.{is_client, is_site}
+use Rattle.qc_client.specs.Vocabulary.{new_client}
 use Rattle.qc_msg.specs.declared.record.Record.{Record}
-use Rattle.qc_msg.specs.declared.record.Record.TheVariants as records
-use Rattle.qc_msg.specs.declared.reply.Reply.{Reply}
-use Rattle.qc_msg.specs.declared.reply.Reply.TheVariants as replies
-use Rattle.qc_msg.specs.declared.step.Fall.{Fall}
-use Rattle.qc_msg.specs.declared.step.Fall.TheVariants as causes
 use Rattle.qc_msg.specs.declared.step.Input.{Input}
-use Rattle.qc_msg.specs.declared.step.Input.TheVariants as inputs
-use Rattle.qc_msg.specs.declared.turn.Appended.{Appended}
-use Rattle.qc_msg.specs.declared.turn.Appended.TheVariants.{Done, Failed, Stopped}
-use Rattle.qc_msg.specs.declared.turn.Posting.{Posting}
-use Rattle.qc_msg.specs.declared.turn.Turn.{Turn}
-use Rattle.qc_msg.specs.Vocabulary.{Deed, Falls, HasRecord, IsByDisk, MayEnd, Rises, Sends, Takes, Tells, Writes}
-use Rattle.qc_msg.specs.Vocabulary.{command_in, deeds_as, is_life, quiet, sends_of, telling, tells_of, writes_of}
-use Rattle.qc_msg.specs.declared.step.Command.{Command}
-use Rattle.std.specs.List.{AllByRecursion as Every}
-use Rattle.qc_promise.specs.Vocabulary.{AreByTurns, Called, Failing, Fallen, Faulted, Idle, Open, Place, Rising, Saying}
-use Rattle.qc_promise.specs.Vocabulary.{SaysDown, SaysFault, SaysNeither, SaysUnwritten, Sending, Written, fallen_with}
-use Rattle.qc_promise.specs.Vocabulary.{goes_on, other, place_after, saying_of, told_first, told_last}
+use Rattle.qc_msg.specs.Vocabulary.{Deed, Falls, Rises, Sends, Takes, Tells, Writes}
+use Rattle.qc_msg.specs.Vocabulary.{quiet}
 use Rattle.qc_epoch.specs.Vocabulary.{new_admin}
-use Rattle.qc_recover.specs.Vocabulary.{admin_rises, client_rises, rising, site_rises}
-use Rattle.qc_site.specs.Vocabulary.{new_site, site_takes}
+use Rattle.qc_recover.specs.Vocabulary.{admin_rises, client_rises, site_rises}
+use Rattle.qc_site.specs.Vocabulary.{new_site}
 use Rattle.qc_core.specs.declared.actor.Actor.{Actor}
 use Rattle.qc_core.specs.declared.actor.Actor.TheVariants as actor
-use Rattle.qc_core.specs.Vocabulary.{ActorMove, AreUncommanded, IsLawfulWithFalls, IsUncommanded, Lives, MayReach}
+use Rattle.qc_core.specs.Vocabulary.{ActorMove}
 use Rattle.qc_core.specs.Vocabulary.{actor_after, actor_does, actor_rises, actor_sends, actor_takes, by_admin}
-use Rattle.qc_core.specs.Vocabulary.{by_client, by_site, down_takes, is_up, moved, up_at, with_record}
-use Rattle.qc_core.specs.Lives as lives
-use Rattle.qc_core.proofs.AdminTurns.{FaultsAlone, IsAdminTurn, TellsNone, no_life}
-use Rattle.qc_core.proofs.AdminWrites.{admin_written}
-use Rattle.qc_core.proofs.LivesOfActors.{down, rises, turn_by, up}
-use Rattle.qc_core.proofs.FrontWrites.{FailsAlone, IsClientTurn, says_neither, says_unwritten, tells_neither}
-use Rattle.qc_core.proofs.FrontWrites.{tells_unwritten}
-use Rattle.qc_core.proofs.SiteWrites.{IsSiteTurn, site_written, writes_no_life}
-use Rattle.qc_core.proofs.Written.{client_written}
+use Rattle.qc_core.specs.Vocabulary.{by_client, by_site, moved}
 
 -- whether it is a site, where it is up
 

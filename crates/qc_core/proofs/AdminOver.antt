@@ -1,21 +1,18 @@
 -- Over all his deeds the administrator is himself, or down; what he tells ends his commands, and what he writes is a
 -- decision, or that he lives.
-use Rattle.std.proofs.Common.{◌≡◌, ℕ, Bool, List, [], ◌∷◌, fold, Option, Some, None, sym, subst}
+use Rattle.std.proofs.Common.{ℕ, List, [], ◌∷◌, fold, Option, Some, None, sym, subst}
 use Rattle.qc_decl.specs.Vocabulary.{administrator}
 use Rattle.qc_decl.specs.declared.declaration.Declaration.{Declaration}
-use Rattle.qc_epoch.specs.Vocabulary.{new_admin}
 use Rattle.qc_msg.specs.declared.message.Message.{Message}
 use Rattle.qc_msg.specs.declared.record.Record.{Record}
 use Rattle.qc_msg.specs.declared.record.Record.TheVariants as records
 use Rattle.qc_msg.specs.declared.step.Input.{Input}
 use Rattle.qc_msg.specs.declared.step.Input.TheVariants as inputs
-use Rattle.qc_msg.specs.declared.turn.Turn.{Turn}
 use Rattle.qc_msg.specs.Vocabulary.{Deed, Falls, Rises, Sends, Takes, Tells, Writes, quiet}
-use Rattle.qc_recover.specs.Vocabulary.{admin_rises}
 use Rattle.qc_core.specs.declared.actor.Actor.{Actor}
 use Rattle.qc_core.specs.declared.actor.Actor.TheVariants.{Site, Client, Admin, Down}
 use Rattle.qc_core.specs.Vocabulary.{ActorMove, actor_after, actor_does, actor_rises, actor_sends, actor_takes}
-use Rattle.qc_core.specs.Vocabulary.{by_admin, moved, new_actor}
+use Rattle.qc_core.specs.Vocabulary.{moved, new_actor}
 use Rattle.qc_core.proofs.AdminTurns.{IsAdminTurn, SaysAsAdmin, WritesDecision}
 use Rattle.qc_core.proofs.AdminWrites.{admin_written}
 use Rattle.qc_core.proofs.ByNumber.{admin_new, admin_no_client, admin_no_site, admin_risen}

@@ -4,7 +4,6 @@ use Rattle.std.specs.List.{AllByRecursion as Every}
 use Rattle.qc_core.proofs.FrontWrites.{NoAnswer, says_neither, tells_neither}
 use Rattle.qc_core.proofs.SiteWrites.{writes_no_life}
 use Rattle.qc_msg.specs.Vocabulary.{answer_in, quiet, sending, telling}
-use Rattle.qc_msg.specs.declared.message.Answer.{Answer}
 use Rattle.qc_msg.specs.declared.message.Message.{Message}
 use Rattle.qc_msg.specs.declared.message.Message.TheVariants as messages
 use Rattle.qc_msg.specs.declared.record.Record.{Record}

@@ -1,10 +1,9 @@
 -- Who lives goes by turns: what stands in one place of this order, after each thing that an actor does.
-use Rattle.std.proofs.Common.{[], ◌≡◌, ℕ, ◌+◌, ◌-◌, Bool, true, false, cond, List, ◌∷◌, ◌++◌, fold, ◌&&◌, Option, Some}
+use Rattle.std.proofs.Common.{[], ◌≡◌, ℕ, ◌-◌, Bool, true, false, cond, List, ◌∷◌, ◌++◌, fold, ◌&&◌, Option, Some}
 use Rattle.std.proofs.Common.{None, is_some, refl, sym, ap, ◌∙◌, subst}
 use Rattle.qc_decl.specs.declared.declaration.Declaration.{Declaration}
 use Rattle.qc_decl.specs.Vocabulary.{is_client, is_site}
 use Rattle.qc_msg.specs.declared.record.Record.{Record}
-use Rattle.qc_msg.specs.declared.record.Record.TheVariants as records
 use Rattle.qc_msg.specs.declared.reply.Reply.TheVariants as replies
 use Rattle.qc_msg.specs.declared.step.Fall.{Fall}
 use Rattle.qc_msg.specs.declared.step.Fall.TheVariants as causes
@@ -20,7 +19,6 @@ use Rattle.qc_promise.specs.Vocabulary.{AreByTurns, Called, Failing, Fallen, Fau
 use Rattle.qc_promise.specs.Vocabulary.{Sending, Written, place_after}
 use Rattle.qc_recover.specs.Vocabulary.{admin_rises, client_rises, rising, site_rises}
 use Rattle.qc_core.specs.declared.actor.Actor.{Actor}
-use Rattle.qc_core.specs.declared.actor.Actor.TheVariants as actor
 use Rattle.qc_core.specs.Vocabulary.{ActorMove, AreUncommanded, IsLawfulWithFalls, IsUncommanded, Lives, MayReach}
 use Rattle.qc_core.specs.Vocabulary.{actor_after, actor_rises, actor_takes, by_admin, by_client, by_site, down_takes}
 use Rattle.qc_core.specs.Vocabulary.{is_up, up_at, with_record}

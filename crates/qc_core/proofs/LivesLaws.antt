@@ -1,6 +1,6 @@
 -- An actor through its falls and rises: who is down has no state; who never falls lives as it acts; what it puts into
 -- its journal its steps put there.
-use Rattle.std.proofs.Common.{[], ◌≡◌, ℕ, ◌+◌, ◌-◌, ◌==◌, Bool, true, false, cond, List, ◌∷◌, ◌++◌, fold, length}
+use Rattle.std.proofs.Common.{[], ◌≡◌, ℕ, ◌+◌, ◌==◌, Bool, true, false, cond, List, ◌∷◌, ◌++◌, fold, length}
 use Rattle.std.proofs.Common.{filter, map, Option, Some, None, option_to_list, slice_get, append_assoc, refl, sym, ap}
 use Rattle.std.proofs.Common.{◌∙◌, subst}
 use Rattle.std.proofs.lemmas.List.Sums.{fold-append}
@@ -18,14 +18,13 @@ use Rattle.qc_msg.specs.declared.turn.Turn.{Turn}
 use Rattle.qc_msg.specs.Vocabulary.{Deed, Entry, Falls, MayEnd, Rises, Sends, Takes, Tells, Writes, deed_at, deeds}
 use Rattle.qc_msg.specs.Vocabulary.{deeds_as, envelope_of, heard, own, sends_as, sends_of, tells_of, turn_deeds}
 use Rattle.qc_promise.specs.Vocabulary.{Journal, journal_of, journal_with, no_journal}
-use Rattle.qc_core.specs.declared.actor.Actor.TheVariants as actor
 use Rattle.qc_core.specs.Vocabulary.{Acts, AreSteady, IsLawful, IsLawfulWithFalls, Lives, actor_after, is_up}
 use Rattle.qc_core.specs.Vocabulary.{journal_after, journal_at, turn_with_falls, up_at}
 use Rattle.qc_core.specs.Acts as acts
 use Rattle.qc_core.specs.Lives as lives
 use Rattle.qc_core.proofs.Steady.{acts_steady, turn_steady}
 use Rattle.qc_core.proofs.Written.{after_written}
-use Rattle.qc_core.proofs.LivesOfActors.{rises, reaches, turn_by, same_turn, who_acts}
+use Rattle.qc_core.proofs.LivesOfActors.{reaches, turn_by, same_turn, who_acts}
 
 -- any turn that it calls for has its record written
 pub called_written : (decl : Declaration) (a : ℕ) (ds : List Deed) (turn : Turn) → turn_with_falls decl a ds ≡ Some turn

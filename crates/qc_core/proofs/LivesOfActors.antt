@@ -1,5 +1,5 @@
 -- An actor through its falls and rises, deed by deed.
-use Rattle.std.proofs.Common.{[], ◌≡◌, ℕ, ◌+◌, ◌-◌, ◌<◌, nat_le, nat_lt, arith, ltb-true, Bool, true, false, cond, not}
+use Rattle.std.proofs.Common.{[], ◌≡◌, ℕ, ◌-◌, ◌<◌, nat_le, nat_lt, arith, ltb-true, Bool, true, false, cond, not}
 use Rattle.std.proofs.Common.{List, ◌∷◌, ◌++◌, fold, Option, Some, None, refl, sym, ap, ◌∙◌}
 use Rattle.std.proofs.lemmas.List.Sums.{fold-append}
 use Rattle.qc_decl.specs.declared.declaration.Declaration.{Declaration}

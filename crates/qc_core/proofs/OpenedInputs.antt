@@ -1,10 +1,9 @@
 -- The input that is open at an actor that lives, and who is up behind a turn.
-use Rattle.std.proofs.Common.{◌≡◌, ℕ, ◌+◌, ◌-◌, Bool, true, false, List, [], ◌∷◌, ◌++◌, fold, ◌&&◌, Option, Some, None}
+use Rattle.std.proofs.Common.{◌≡◌, ℕ, ◌+◌, Bool, true, false, List, [], ◌∷◌, ◌++◌, fold, ◌&&◌, Option, Some, None}
 use Rattle.std.proofs.Common.{refl, ◌∙◌}
 use Rattle.std.proofs.lemmas.List.Sums.{fold-append}
 use Rattle.qc_decl.specs.declared.declaration.Declaration.{Declaration}
 use Rattle.qc_msg.specs.declared.record.Record.{Record}
-use Rattle.qc_msg.specs.declared.record.Record.TheVariants as records
 use Rattle.qc_msg.specs.declared.reply.Reply.{Reply}
 use Rattle.qc_msg.specs.declared.step.Fall.TheVariants as causes
 use Rattle.qc_msg.specs.declared.step.Input.{Input}
@@ -15,7 +14,6 @@ use Rattle.qc_msg.specs.declared.turn.Turn.{Turn}
 use Rattle.qc_msg.specs.Vocabulary.{Deed, Falls, Takes, deeds_as, sends_of, tells_of, writes_of}
 use Rattle.qc_core.specs.Vocabulary.{Lives, MayReach, is_up, up_at}
 use Rattle.qc_core.specs.Lives as lives
-use Rattle.qc_core.proofs.LivesOfActors.{rises}
 use Rattle.qc_core.proofs.RestingPlaces.{still_up}
 
 -- the input that is open

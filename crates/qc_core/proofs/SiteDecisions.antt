@@ -24,7 +24,8 @@ use Rattle.qc_msg.specs.declared.turn.Appended.TheVariants.{Done}
 use Rattle.qc_msg.specs.declared.turn.Turn.{Turn}
 use Rattle.qc_msg.specs.Vocabulary.{Deed, Finished, Takes, quiet, turn_deeds}
 use Rattle.qc_promise.specs.Vocabulary.{Grant, Lines, done_lines, is_ended, is_final, last_cut, learning, lines_of}
-use Rattle.qc_promise.specs.Vocabulary.{lines_shown, records_in, standing, view_in, with_promise}
+use Rattle.qc_promise.specs.Vocabulary.{all_arrived, lines_shown, records_in, standing, unknown, view_in}
+use Rattle.qc_promise.specs.Vocabulary.{with_promise}
 use Rattle.qc_site.specs.Vocabulary.{SiteState, answering, dropped, finishes, is_prepared, joins, moved, prepared_of}
 use Rattle.qc_core.proofs.SiteDrops.{drops, drops_promises}
 use Rattle.qc_core.proofs.SiteGrowth.{lasts, stays}
@@ -85,6 +86,8 @@ module _ (site : ℕ) (ds : List Deed) (n number from to : ℕ) where
         ∙ ap (λ (v : List Line). (learning (lines_shown ds) v).since)
         (none_seen ((number == number) && false || false)) ∙ union-nil (shown site ds).log)
         refl
+        (append-nil _ ∙ ap (λ (v : List Line). all_arrived ds ++ unknown (lines_shown ds) v)
+        (none_seen ((number == number) && false || false)) ∙ append-nil (all_arrived ds))
         (stays_held ds preparing n (promising from number clock p) (λ t. refl, λ t. refl) []
         (ap (λ (b : Bool). cond ((b || false) && true) (record { tx = tx; want = Prepare } ∷ []) [])
         (and_false (number == number))))
@@ -143,6 +146,7 @@ module _ (site : ℕ) (ds : List Deed) (n number from to : ℕ) where
       refl refl refl refl refl
       (union-nil (shown site ds).log)
       refl
+      (append-nil (all_arrived ds))
       (ended tx Aborted quiet refl)
       (append-nil (filter (lasts (Takes (deciding tx Aborted) ∷ [])) (shown site ds).prepared)
       ∙ filter_same (lasts (Takes (deciding tx Aborted) ∷ [])) (λ (q : Prepared). not (same_tx q.tx tx)) apart
@@ -186,6 +190,7 @@ module _ (site : ℕ) (ds : List Deed) (n number from to : ℕ) where
           refl refl refl refl refl
           (union-nil (shown site ds).log)
           refl
+          (append-nil (all_arrived ds))
           (ended tx (Committed stamp) quiet refl)
           (append-nil (filter (lasts (Takes (deciding tx (Committed stamp)) ∷ [])) (shown site ds).prepared)
           ∙ filter_all (lasts (Takes (deciding tx (Committed stamp)) ∷ [])) not_aborted (shown site ds).prepared
@@ -197,6 +202,7 @@ module _ (site : ℕ) (ds : List Deed) (n number from to : ℕ) where
           (record (dropped (with_clock tx (Committed stamp)) tx) {
             log = union (shown site ds).log (without (lines_of stamp tx p.own) (shown site ds).began);
             recorded = union (shown site ds).recorded (without (lines_of stamp tx p.own) (shown site ds).began);
+            arrived = all_arrived ds ++ unknown (lines_shown ds) (lines_of stamp tx p.own);
           })
           refl refl refl refl refl
           (ap (λ (l : Lines). (learning l (done_lines (records_in ds) done)).since) (learning-nil (lines_shown ds))
@@ -204,6 +210,9 @@ module _ (site : ℕ) (ds : List Deed) (n number from to : ℕ) where
           (ap (λ (v : List Line). union (shown site ds).recorded (without (done_lines (records_in ds) done) v))
           (sym (began_shows ds)) ∙ ap (λ (v : List Line). union (shown site ds).recorded
           (without v (shown site ds).began)) (lines_are p is))
+          ((λ i. append-nil (all_arrived ds) i
+          ++ unknown (learning-nil (lines_shown ds) i) (done_lines (records_in ds) done))
+          ∙ ap (λ (v : List Line). all_arrived ds ++ unknown (lines_shown ds) v) (lines_are p is))
           (ended tx (Committed stamp) (finishing tx stamp.clock) refl)
           (append-nil (filter (lasts (Takes (deciding tx (Committed stamp)) ∷ turn_deeds n (finishing tx stamp.clock)))
           (shown site ds).prepared)

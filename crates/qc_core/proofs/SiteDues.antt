@@ -23,7 +23,6 @@ use Rattle.qc_msg.specs.declared.message.Outcome.TheVariants.{Committed, Aborted
 use Rattle.qc_msg.specs.declared.message.Want.{Want}
 use Rattle.qc_msg.specs.declared.message.Want.TheVariants.{Read, Append, Prepare}
 use Rattle.qc_msg.specs.declared.record.Record.TheVariants as records
-use Rattle.qc_msg.specs.declared.turn.Appended.TheVariants.{Done}
 use Rattle.qc_msg.specs.declared.step.Input.{Input}
 use Rattle.qc_msg.specs.declared.step.Input.TheVariants as inputs
 use Rattle.qc_msg.specs.declared.turn.Posting.{Posting}
@@ -101,7 +100,7 @@ module _ (decl : Declaration) (site : ℕ) (ds : List Deed) (from number : ℕ) 
       (due_for want (want_refusal decl ds tx want))
   grant_does (Read read) = by (read_clash (relation_at decl read.object) now.held tx read.object read.inv)
     where
-      by : (o : Option Conflict) → Does (reads_by decl now from number tx read.object read.inv o).turn
+      by : (o : Option Conflict) → Does (reads_by decl now from number tx read o).turn
           (due_for (Read read) (option_map clash_told o))
       by None = record { same = refl; untold = refl; failed_untold = refl }
       by (Some c) = record { same = refl; untold = refl; failed_untold = refl }

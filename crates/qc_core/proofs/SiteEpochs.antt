@@ -13,6 +13,7 @@ use Rattle.qc_msg.specs.declared.record.Record.TheVariants as records
 use Rattle.qc_msg.specs.declared.step.Input.{Input}
 use Rattle.qc_msg.specs.declared.turn.Turn.{Turn}
 use Rattle.qc_msg.specs.Vocabulary.{Deed, epoch_length, start_with}
+use Rattle.qc_promise.specs.Vocabulary.{all_arrived}
 use Rattle.qc_promise.specs.Vocabulary.{Lines, learning, lines_shown, prepared_shown, recorded_by, records_in}
 use Rattle.qc_promise.specs.Vocabulary.{with_promise}
 use Rattle.qc_site.specs.Vocabulary.{SiteState, answering, answers as answered, closed, closes, installed, installs}
@@ -52,6 +53,7 @@ module _ (site : ℕ) (ds : List Deed) (n number from to : ℕ) where
         refl refl refl refl refl
         (ap (λ (l : Lines). l.since) (learning-nil (learning (lines_shown ds) []) ∙ learning-nil (lines_shown ds)))
         (ap (λ (l : Lines). l.since) (learning-nil (recorded_by (records_in ds))))
+        (append-nil _ ∙ append-nil (all_arrived ds))
         (ap (λ (v : List Prepared). fold with_promise [] v) all_last)
         all_last
         refl)
@@ -99,7 +101,7 @@ module _ (site : ℕ) (ds : List Deed) (n number from to : ℕ) where
     writes_install =
         sym (shown-more site ds installing n turn
         ∙ same_state (grown site ds installing n turn) (installed at_install k clock lines)
-        refl refl refl refl refl refl refl
+        refl refl refl refl refl refl refl refl
         (ap (λ (v : List Prepared). fold with_promise [] v) none_last)
         none_last
         (ap (λ (c : ℕ). max c clock)

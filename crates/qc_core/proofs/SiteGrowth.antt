@@ -14,11 +14,12 @@ use Rattle.qc_msg.specs.declared.record.Record.{Record}
 use Rattle.qc_msg.specs.declared.turn.Posting.{Posting}
 use Rattle.qc_msg.specs.Vocabulary.{Deed, Requested, got_in, install_in, prepare_in, request_in, written_in}
 use Rattle.qc_msg.specs.declared.payload.EpochStart.{EpochStart}
-use Rattle.qc_promise.specs.Vocabulary.{Act, Grant, Lines, begun_with_lines, frees, grants, is_decision, is_ended}
+use Rattle.qc_promise.specs.Vocabulary.{Act, Grant, Lines, arrived_from, begun_with_lines, frees, grants, is_decision}
+use Rattle.qc_promise.specs.Vocabulary.{is_ended}
 use Rattle.qc_promise.specs.Vocabulary.{is_final, is_granted, is_over, joining, learning, left_of, lines_done}
 use Rattle.qc_promise.specs.Vocabulary.{lines_from, posted_next, promises_since, recorded_from, sent_by, standing}
 use Rattle.qc_promise.specs.Vocabulary.{standing_as, standing_by, unless_over, view_by, view_in, with_given}
-use Rattle.qc_promise.specs.Vocabulary.{with_joined, with_written}
+use Rattle.qc_promise.specs.Vocabulary.{with_joined, with_written, unknown, with_arrived}
 use Rattle.qc_promise.proofs.Posts.{posted-more}
 
 abbrev pub stays : List Deed → Grant → Bool
@@ -92,6 +93,19 @@ module _ (ys : List Deed) (apart : posted_next ys ≡ []) where
       (option_and_then install_in (written_in d)) (learning l v)) (with_written before d) (xs ++ ys))
       (joining-more before d xs)
       ∙ lines-more (with_joined l before d xs) (with_written before d) xs
+
+  -- and in the order in which they joined
+  pub arrived-more : (arrived : List Line) (l : Lines) (before : List Record) (xs : List Deed)
+      → arrived_from arrived l before (xs ++ ys)
+      ≡ arrived_from (arrived_from arrived l before xs) (lines_from l before xs) (fold with_written before xs) ys
+  arrived-more arrived l before [] = refl
+  arrived-more arrived l before (d ∷ xs) =
+      ap (λ (v : List Line). arrived_from (option_map_or (λ (i : EpochStart). i.lines)
+      (option_and_then install_in (written_in d)) (arrived ++ unknown l v))
+      (option_map_or (λ (i : EpochStart). begun_with_lines i.lines)
+      (option_and_then install_in (written_in d)) (learning l v)) (with_written before d) (xs ++ ys))
+      (joining-more before d xs)
+      ∙ arrived-more (with_arrived arrived l before d xs) (with_joined l before d xs) (with_written before d) xs
 
 -- the records by then are those before and those that the deeds write
 pub written_then : (before : List Record) (xs : List Deed)

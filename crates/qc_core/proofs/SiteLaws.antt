@@ -253,6 +253,7 @@ sites_are_read_off_their_steps decl site ds below served = (
     began = began_shows ds;
     log = refl;
     recorded = refl;
+    arrived = refl;
     held = refl;
     prepared = refl;
     clock = refl;

@@ -12,11 +12,12 @@ use Rattle.qc_msg.specs.declared.step.Input.{Input}
 use Rattle.qc_msg.specs.declared.turn.Turn.{Turn}
 use Rattle.qc_msg.specs.Vocabulary.{Deed, heard_in, install_in, prepare_in, turn_deeds, written_in}
 use Rattle.qc_msg.specs.declared.payload.EpochStart.{EpochStart}
+use Rattle.qc_promise.specs.Vocabulary.{all_arrived, arrived_from, risen_with, unknown}
 use Rattle.qc_promise.specs.Vocabulary.{Lifetime, Lines, begun_with_lines, joining, learning, lifetime, lines_done}
 use Rattle.qc_promise.specs.Vocabulary.{lines_from, lines_shown, no_lines, recorded_by, recorded_from, records_in}
 use Rattle.qc_promise.specs.Vocabulary.{view_by, with_given, with_written}
-use Rattle.qc_core.proofs.SiteGrowth.{lines-more, recorded-more, written_then}
-use Rattle.qc_core.proofs.SitePosts.{lines_written, post_lines}
+use Rattle.qc_core.proofs.SiteGrowth.{arrived-more, lines-more, recorded-more, written_then}
+use Rattle.qc_core.proofs.SitePosts.{arrived_written, lines_written, post_arrived, post_lines}
 use Rattle.qc_core.proofs.SiteRecorded.{all_records, life_goes_on, posted}
 
 -- the view that an input brings, where it is granted
@@ -37,6 +38,27 @@ module _ (ds : List Deed) (g : Input) (n : ℕ) (turn : Turn) where
       ∙ ap (λ (v : List Record). lines_from (lines_shown ds) v (posted ds g n turn))
       (written_then (lifetime ds).kept (lifetime ds).since)
       ∙ post_lines n turn (learning (lines_shown ds) (view_given g (turn_deeds n turn))) (records_in ds)
+
+  -- in the order in which they joined
+
+  abbrev view : List Line
+  view = view_given g (turn_deeds n turn)
+
+  abbrev pub arrived_then : List Line
+  arrived_then =
+      option_map_or (arrived_written (all_arrived ds ++ unknown (lines_shown ds) view) (learning (lines_shown ds) view)
+      (records_in ds)) turn.write (all_arrived ds ++ unknown (lines_shown ds) view)
+
+  pub more_arrived : all_arrived (ds ++ posted ds g n turn) ≡ arrived_then
+  more_arrived =
+      ap (λ (l : Lifetime). arrived_from (risen_with (recorded_by l.kept)) (recorded_by l.kept) l.kept l.since)
+      (life_goes_on ds g n turn)
+      ∙ arrived-more (posted ds g n turn) refl (risen_with (recorded_by (lifetime ds).kept))
+      (recorded_by (lifetime ds).kept) (lifetime ds).kept (lifetime ds).since
+      ∙ ap (λ (v : List Record). arrived_from (all_arrived ds) (lines_shown ds) v (posted ds g n turn))
+      (written_then (lifetime ds).kept (lifetime ds).since)
+      ∙ post_arrived n turn (all_arrived ds ++ unknown (lines_shown ds) view) (learning (lines_shown ds) view)
+      (records_in ds)
 
   -- those that the records give
   abbrev pub recorded_then : Lines

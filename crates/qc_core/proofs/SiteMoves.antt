@@ -64,8 +64,8 @@ module _ (decl : Declaration) (site : ℕ) (ds : List Deed) (n : ℕ) where
         by (read_clash (relation_at decl read_here.object) (shown site ds).held tx read_here.object read_here.inv)
       where
         by : (o : Option Conflict) → IsStep site ds (given_want (Read read_here)) n
-            (reads_by decl (state (Read read_here)) from number tx read_here.object read_here.inv o)
-        by None = read site ds n number from to tx epoch life read_here.object read_here.inv
+            (reads_by decl (state (Read read_here)) from number tx read_here o)
+        by None = read site ds n number from to tx epoch life read_here
         by (Some c) = clashes site ds n number from to tx epoch life decl (Read read_here) c
     grant (Append object view own) = by (append_clash (relation_at decl object) (shown site ds).held tx own)
       where

@@ -5,6 +5,7 @@ use Rattle.std.specs.Prelude.{cond, map, option_to_list}
 use Rattle.std.specs.List.{filter_map, flat_map}
 use Rattle.std.specs.Option.{option_map_or}
 use Rattle.std.proofs.lemmas.List.{append-nil}
+use Rattle.qc_entry.specs.declared.line.Line.{Line}
 use Rattle.qc_stamp.specs.declared.stamp.TxId.{TxId}
 use Rattle.qc_entry.specs.declared.record.Prepared.{Prepared}
 use Rattle.qc_msg.specs.declared.record.Record.{Record}
@@ -15,7 +16,8 @@ use Rattle.qc_msg.specs.Vocabulary.{Deed, install_in, prepare_in, sends_of, tell
 use Rattle.qc_msg.specs.declared.payload.EpochStart.{EpochStart}
 use Rattle.qc_promise.specs.Vocabulary.{Act, Lines, Sent, Told, Wrote, begun_with_lines, clocks_at, clocks_written}
 use Rattle.qc_promise.specs.Vocabulary.{is_ended, is_over, learning, lines_done, lines_from, posted_next}
-use Rattle.qc_promise.specs.Vocabulary.{promises_since, redeems, sent_by, standing, unless_over}
+use Rattle.qc_promise.specs.Vocabulary.{arrived_from}
+use Rattle.qc_promise.specs.Vocabulary.{promises_since, redeems, sent_by, standing, unless_over, unknown}
 use Rattle.qc_promise.proofs.Lifetimes.{AreNoRises}
 use Rattle.qc_promise.proofs.Posts.{posted_sends, learning-nil}
 
@@ -72,6 +74,20 @@ talk_lines l before n [] (Some r) = learning-nil l
 talk_lines l before n (p ∷ ps) told =
     ap (λ (v : Lines). lines_from v before (talk (n + 1) ps told)) (learning-nil l)
     ∙ talk_lines l before (n + 1) ps told
+
+-- in the order in which they joined
+
+abbrev pub arrived_written : List Line → Lines → List Record → Record → List Line
+arrived_written arrived l before w =
+    option_map_or (λ (i : EpochStart). i.lines) (install_in w) (arrived ++ unknown l (lines_done before w))
+
+talk_arrived : (arrived : List Line) (l : Lines) (before : List Record) (n : ℕ) (ps : List Posting)
+    (told : Option Reply) → arrived_from arrived l before (talk n ps told) ≡ arrived
+talk_arrived arrived l before n [] None = refl
+talk_arrived arrived l before n [] (Some r) = append-nil arrived
+talk_arrived arrived l before n (p ∷ ps) told =
+    ap (λ (v : List Line). arrived_from v (learning l []) before (talk (n + 1) ps told)) (append-nil arrived)
+    ∙ talk_arrived arrived (learning l []) before (n + 1) ps told
 
 -- the acts of a reply
 
@@ -192,3 +208,13 @@ module _ (n : ℕ) (turn : Turn) where
           (lines_written l before) w l
       by None = talk_lines l before n turn.sends turn.told
       by (Some w) = talk_lines (lines_written l before w) (before ++ w ∷ []) n turn.sends turn.told
+
+  pub post_arrived : (arrived : List Line) (l : Lines) (before : List Record)
+      → arrived_from arrived l before post ≡ option_map_or (arrived_written arrived l before) turn.write arrived
+  post_arrived arrived l before = by turn.write
+    where
+      by : (w : Option Record) → arrived_from arrived l before (writes_of w ++ talk n turn.sends turn.told)
+          ≡ option_map_or (arrived_written arrived l before) w arrived
+      by None = talk_arrived arrived l before n turn.sends turn.told
+      by (Some w) = talk_arrived (arrived_written arrived l before w) (lines_written l before w) (before ++ w ∷ []) n
+          turn.sends turn.told

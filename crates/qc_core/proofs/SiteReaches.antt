@@ -7,7 +7,6 @@ use Rattle.qc_stamp.specs.declared.stamp.TxId.{TxId}
 use Rattle.qc_entry.specs.declared.line.Line.{Line}
 use Rattle.qc_entry.specs.declared.line.OwnLine.{OwnLine}
 use Rattle.qc_entry.specs.declared.record.Prepared.{Prepared}
-use Rattle.qc_entry.specs.Vocabulary.{of_object}
 use Rattle.qc_decl.specs.declared.declaration.Declaration.{Declaration}
 use Rattle.qc_decl.specs.Vocabulary.{IsAccepted, most_clients, most_record_bytes}
 use Rattle.qc_lock.specs.declared.clash.Clash.{Clash as Conflict}
@@ -25,10 +24,11 @@ use Rattle.qc_msg.specs.declared.step.Input.TheVariants as inputs
 use Rattle.qc_msg.specs.declared.record.Record.{Record}
 use Rattle.qc_msg.specs.declared.record.Record.TheVariants as records
 use Rattle.qc_msg.specs.Vocabulary.{epoch_length, quiet}
-use Rattle.qc_msg.specs.Vocabulary.{grant_with, read_of, start_with}
+use Rattle.qc_msg.specs.Vocabulary.{append_grant, start_with}
+use Rattle.qc_msg.specs.declared.payload.ReadRequest.{ReadRequest}
 use Rattle.qc_site.specs.Vocabulary.{AreByClients, AreOfClients, SiteMove, SiteState, answers as answered, appends_by}
 use Rattle.qc_site.specs.Vocabulary.{clashing, closed, closes, dropped, fault_of, finishes, grants, installed, installs}
-use Rattle.qc_site.specs.Vocabulary.{is_closed_for, is_prepared, joins, known as known_lines, moved, names_declared}
+use Rattle.qc_site.specs.Vocabulary.{grant_told, is_closed_for, is_prepared, joins, moved, names_declared}
 use Rattle.qc_site.specs.Vocabulary.{names_object, passed, prepare_length, prepared_of, prepares, promise_of, promised}
 use Rattle.qc_site.specs.Vocabulary.{reads_by, recording, relation_at, requested, shut_answer, site_at, site_takes}
 use Rattle.qc_site.specs.Vocabulary.{votes}
@@ -64,23 +64,23 @@ module _ (decl : Declaration) (accepted : IsAccepted decl) (from number : ℕ) (
       let sites : decl.sites ≤ 16 = accepted.sites in
       record { turn = record { receivers = (low, (omega arith, tt)); few = omega arith }; clients = clients }
 
-  reads_reach : (s : SiteState) (tx : TxId) (object inv : ℕ) → tx.client < most_clients → IsOfClients s
-      → SiteReach (grants decl s from number tx (Read (read_of object inv)))
-  reads_reach s tx object inv known clients = by (read_clash (relation_at decl object) s.held tx object inv) refl
+  reads_reach : (s : SiteState) (tx : TxId) (r : ReadRequest) → tx.client < most_clients → IsOfClients s
+      → SiteReach (grants decl s from number tx (Read r))
+  reads_reach s tx r known clients = by (read_clash (relation_at decl r.object) s.held tx r.object r.inv) refl
     where
-      by : (o : Option Conflict) → read_clash (relation_at decl object) s.held tx object inv ≡ o
-          → SiteReach (reads_by decl s from number tx object inv o)
+      by : (o : Option Conflict) → read_clash (relation_at decl r.object) s.held tx r.object r.inv ≡ o
+          → SiteReach (reads_by decl s from number tx r o)
       by None is = record {
         turn = one_short from (messages.Answer number
-            (answers.Granted (grant_with s.life s.clock (of_object (known_lines s) object)))) low;
+            (answers.Granted (grant_told s r))) low;
         clients = record {
           held = clients-held s.held tx
-              (record { object = object; inv = inv } ∷ []) [] clients.held known;
+              (record { object = r.object; inv = r.inv } ∷ []) [] clients.held known;
           prepared = clients.prepared;
         };
       }
       by (Some c) is = clash_reach s c clients
-          (read_client (relation_at decl object) s.held tx object inv c clients.held is)
+          (read_client (relation_at decl r.object) s.held tx r.object r.inv c clients.held is)
 
   appends_reach : (s : SiteState) (tx : TxId) (object : ℕ) (view : List Line) (own : List OwnLine)
       → tx.client < most_clients → IsOfClients s → SiteReach (grants decl s from number tx (Append object view own))
@@ -89,7 +89,7 @@ module _ (decl : Declaration) (accepted : IsAccepted decl) (from number : ℕ) (
       by : (o : Option Conflict) → append_clash (relation_at decl object) s.held tx own ≡ o
           → SiteReach (appends_by decl s from number tx view own o)
       by None is = record {
-        turn = one_short from (messages.Answer number (answers.Granted (grant_with s.life s.clock []))) low;
+        turn = one_short from (messages.Answer number (answers.Granted (append_grant s.life s.clock))) low;
         clients = record { held = clients-held s.held tx [] own clients.held known; prepared = clients.prepared };
       }
       by (Some c) is = clash_reach s c clients (append_client (relation_at decl object) s.held tx own c clients.held is)
@@ -117,7 +117,7 @@ module _ (decl : Declaration) (accepted : IsAccepted decl) (from number : ℕ) (
 
   grants_reach : (s : SiteState) (tx : TxId) (want : Want) → tx.client < most_clients → IsOfClients s
       → SiteReach (grants decl s from number tx want)
-  grants_reach s tx (Read read) known clients = reads_reach s tx read.object read.inv known clients
+  grants_reach s tx (Read read) known clients = reads_reach s tx read known clients
   grants_reach s tx (Append object view own) known clients = appends_reach s tx object view own known clients
   grants_reach s tx Prepare known clients = prepares_reach s tx known clients
 

@@ -18,7 +18,9 @@ use Rattle.qc_msg.specs.Vocabulary.{Deed, Rises, first_epoch, turn_deeds, writes
 use Rattle.qc_promise.specs.Vocabulary.{Grant, Holding, Lifetime, Lines, clock_shown, clocks_at, clocks_in_record}
 use Rattle.qc_promise.specs.Vocabulary.{closed_by, epoch_by, held_shown, is_over, last_cut, left_of, life_by, lifetime}
 use Rattle.qc_promise.specs.Vocabulary.{lines_from, lines_shown, no_lines, prepared_shown, promises_of, promises_since}
-use Rattle.qc_promise.specs.Vocabulary.{recorded_by, records_in, redeems, with_cut, with_promise}
+use Rattle.qc_promise.specs.Vocabulary.{all_arrived, arrived_from, recorded_by, records_in, redeems, risen_with}
+use Rattle.qc_promise.specs.Vocabulary.{with_cut, with_promise}
+use Rattle.qc_entry.specs.Vocabulary.{union}
 use Rattle.qc_promise.specs.SiteDue.{rising_turn}
 use Rattle.qc_promise.proofs.Lifetimes.{life_after, life_begins}
 use Rattle.qc_site.specs.Vocabulary.{held_by}
@@ -28,6 +30,7 @@ use Rattle.qc_core.proofs.SiteGrowth.{recorded-more}
 use Rattle.qc_core.proofs.SiteKept.{clock_by_records, closed_by_records, epoch_by_records, life_by_records}
 use Rattle.qc_core.proofs.SiteKept.{lines_by_records, promises_by_records}
 use Rattle.qc_core.proofs.SiteHolds.{AreNoCuts, held_in, hold, none_ended, remaining, talk_uncut, uncut, whole}
+use Rattle.qc_core.proofs.SitePosts.{arrived_written, post_arrived}
 use Rattle.qc_core.proofs.SitePosts.{clocks_by, lines_written, post_clocks, post_ends, post_frees, post_lines}
 use Rattle.qc_core.proofs.SitePosts.{post_prepares, post_records, post_rises, post_stands, promises_by, talk}
 use Rattle.qc_core.proofs.SiteShown.{same_state, shown}
@@ -84,6 +87,15 @@ module _ (site : ℕ) (before : List Deed) (rs : List Record) (n : ℕ) (turn : 
       ∙ learning-nil (recorded_by rs)
       ∙ lines_by_records rs
 
+  arrived_after : all_arrived (before ++ Rises rs ∷ post) ≡ union (kept_by rs).began (kept_by rs).lines
+  arrived_after =
+      ap (λ (l : Lifetime). arrived_from (risen_with (recorded_by l.kept)) (recorded_by l.kept) l.kept l.since) life_now
+      ∙ post_arrived n turn (risen_with (recorded_by rs)) (recorded_by rs) rs
+      ∙ ap (λ (w : Option Record). option_map_or (arrived_written (risen_with (recorded_by rs)) (recorded_by rs) rs) w
+      (risen_with (recorded_by rs))) life
+      ∙ append-nil (risen_with (recorded_by rs))
+      ∙ ap risen_with (lines_by_records rs)
+
   post_uncut : AreNoCuts post
   post_uncut = subst (λ (w : Option Record). AreNoCuts (writes_of w ++ talk n turn.sends turn.told)) (sym life)
       (refl, talk_uncut n turn.sends turn.told)
@@ -130,6 +142,7 @@ module _ (site : ℕ) (before : List Deed) (rs : List Record) (n : ℕ) (turn : 
       (ap (λ (l : Lines). l.began) lines_after)
       (ap (λ (l : Lines). l.since) lines_after)
       (ap (λ (l : Lines). l.since) recorded_after)
+      arrived_after
       held_after prepared_after clock_after
       ∙ ap (site_by site) (sym (fold-append keeps nothing_kept rs (journals.Life ∷ [])))
 

@@ -2,9 +2,9 @@
 use Rattle.std.proofs.Common.{◌≡◌, ℕ, ◌==◌, ◌&&◌, ◌||◌, Bool, true, false, cond, List, [], ◌∷◌, ◌++◌, Option, None}
 use Rattle.std.proofs.Common.{is_some, refl, sym, ap, ◌∙◌, eq-eqb}
 use Rattle.qc_stamp.specs.declared.stamp.TxId.{TxId}
+use Rattle.std.proofs.lemmas.List.{append-nil}
 use Rattle.qc_entry.specs.declared.line.Line.{Line}
 use Rattle.qc_entry.specs.declared.line.OwnLine.{OwnLine}
-use Rattle.qc_entry.specs.Vocabulary.{of_object}
 use Rattle.qc_decl.specs.declared.declaration.Declaration.{Declaration}
 use Rattle.qc_lock.specs.declared.clash.Clash.{Clash as Conflict}
 use Rattle.qc_msg.specs.declared.message.Answer.{Answer}
@@ -17,10 +17,12 @@ use Rattle.qc_msg.specs.declared.reply.Reply.{Reply}
 use Rattle.qc_msg.specs.declared.step.Input.{Input}
 use Rattle.qc_msg.specs.declared.step.Input.TheVariants as inputs
 use Rattle.qc_msg.specs.declared.turn.Posting.{Posting}
-use Rattle.qc_msg.specs.Vocabulary.{Deed, Takes, granted_in, quiet, says, turn_deeds, grant_with, read_of}
-use Rattle.qc_promise.specs.Vocabulary.{Lines, lines_shown, view_in}
+use Rattle.qc_msg.specs.Vocabulary.{Deed, Takes, granted_in, quiet, says, turn_deeds, append_grant}
+use Rattle.qc_msg.specs.declared.payload.Grant.{Grant}
+use Rattle.qc_msg.specs.declared.payload.ReadRequest.{ReadRequest}
+use Rattle.qc_promise.specs.Vocabulary.{all_arrived, lines_shown, view_in}
 use Rattle.qc_site.specs.Vocabulary.{SiteMove, SiteState, answering, answers as answered, appends, clashing}
-use Rattle.qc_site.specs.Vocabulary.{clock_after, known, learned, moved, reads}
+use Rattle.qc_site.specs.Vocabulary.{arriving, clock_after, grant_told, learned, moved, reads}
 use Rattle.qc_core.proofs.SiteHolds.{hold, standing_given}
 use Rattle.qc_core.proofs.SiteLines.{view_given}
 use Rattle.qc_core.proofs.SiteShown.{shown, shown-more}
@@ -91,15 +93,16 @@ module _ (site : ℕ) (ds : List Deed) (n number from to : ℕ) where
 
     -- a grant
 
-    pub granted : (want : Want) (l c : ℕ) (log : List Line) (r : SiteState)
+    pub granted : (want : Want) (x : Grant) (r : SiteState)
         → r ≡ record (passed site ds (asked want)) {
           log = learned (shown site ds) (view_in want);
+          arrived = arriving (shown site ds) (view_in want);
           held = hold (shown site ds).held (record { tx = tx; want = want });
         }
-        → IsStep site ds (asking want) n (moved r (answered from number (answers.Granted (grant_with l c log))))
-    granted want l c log r is =
-        is ∙ sym (shown-more site ds (asking want) n (answered from number (answers.Granted (grant_with l c log)))
-        ∙ talks site ds (asking want) n (answering from number (answers.Granted (grant_with l c log)) ∷ []) None
+        → IsStep site ds (asking want) n (moved r (answered from number (answers.Granted x)))
+    granted want x r is =
+        is ∙ sym (shown-more site ds (asking want) n (answered from number (answers.Granted x))
+        ∙ talks site ds (asking want) n (answering from number (answers.Granted x) ∷ []) None
         (nothing want)
         (record { tx = tx; want = want } ∷ []) (view_in want)
         (ap (λ (b : Bool). cond ((b && true || false) && true) (record { tx = tx; want = want } ∷ []) [])
@@ -107,23 +110,25 @@ module _ (site : ℕ) (ds : List Deed) (n number from to : ℕ) where
         (ap (λ (b : Bool). cond (b && true || false) (view_in want) []) (eq-eqb number number refl))
         ∙ ap (λ (v : ℕ). record (shown site ds) {
           log = learned (shown site ds) (view_in want);
+          arrived = arriving (shown site ds) (view_in want);
           held = hold (shown site ds).held (record { tx = tx; want = want });
           clock = v;
         })
         (clock_passes (shown site ds).clock (asked want)))
 
-    pub read : (object inv : ℕ) → IsStep site ds (asking (Read (read_of object inv))) n
-        (reads (passed site ds (asked (Read (read_of object inv)))) from number tx object inv)
-    read object inv = granted (Read (read_of object inv)) (shown site ds).life (shown site ds).clock
-        (of_object (known (shown site ds)) object)
-        (reads (passed site ds (asked (Read (read_of object inv)))) from number tx object inv).site
-        (ap (λ (l : Lines). record (shown site ds)
-        { log = l.since; held = hold (shown site ds).held (record { tx = tx; want = Read (read_of object inv) }) })
-        (sym (learning-nil (lines_shown ds))))
+    pub read : (r : ReadRequest) → IsStep site ds (asking (Read r)) n
+        (reads (passed site ds (asked (Read r))) from number tx r)
+    read r =
+        granted (Read r) (grant_told (shown site ds) r) (reads (passed site ds (asked (Read r))) from number tx r).site
+        (sym (λ i. record (shown site ds) {
+          log = (learning-nil (lines_shown ds) i).since;
+          arrived = append-nil (all_arrived ds) i;
+          held = hold (shown site ds).held (record { tx = tx; want = Read r });
+        }))
 
     pub append : (object : ℕ) (view : List Line) (own : List OwnLine)
         → IsStep site ds (asking (Append object view own)) n
         (appends (passed site ds (asked (Append object view own))) from number tx view own)
-    append object view own = granted (Append object view own) (shown site ds).life
-        (passed site ds (asked (Append object view own))).clock []
+    append object view own = granted (Append object view own)
+        (append_grant (shown site ds).life (passed site ds (asked (Append object view own))).clock)
         (appends (passed site ds (asked (Append object view own))) from number tx view own).site refl

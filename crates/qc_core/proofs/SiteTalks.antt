@@ -1,5 +1,6 @@
 -- What a site becomes, where its turn writes no record, or a promise.
-use Rattle.std.proofs.Common.{◌≡◌, ℕ, ◌||◌, not, max, Bool, true, false, cond, List, [], ◌∷◌, Option, refl, ap, ◌∙◌}
+use Rattle.std.proofs.Common.{◌≡◌, ℕ, ◌||◌, not, max, Bool, true, false, cond, List, [], ◌∷◌, ◌++◌, Option, refl, ap}
+use Rattle.std.proofs.Common.{◌∙◌}
 use Rattle.std.specs.Prelude.{filter, fold}
 use Rattle.std.proofs.lemmas.List.{append-nil}
 use Rattle.qc_stamp.specs.declared.stamp.TxId.{TxId}
@@ -14,9 +15,9 @@ use Rattle.qc_msg.specs.declared.step.Input.{Input}
 use Rattle.qc_msg.specs.declared.turn.Posting.{Posting}
 use Rattle.qc_msg.specs.declared.turn.Turn.{Turn}
 use Rattle.qc_msg.specs.Vocabulary.{Deed, Takes, says, turn_deeds}
-use Rattle.qc_promise.specs.Vocabulary.{Grant, Lines, clock_shown, clocks_in, clocks_of, held_shown, is_aborted}
+use Rattle.qc_promise.specs.Vocabulary.{Grant, clock_shown, clocks_in, clocks_of, held_shown, is_aborted}
 use Rattle.qc_promise.specs.Vocabulary.{is_decision, is_ended, is_final, is_over, last_cut, learning, lines_shown}
-use Rattle.qc_promise.specs.Vocabulary.{prepared_shown, standing, with_promise}
+use Rattle.qc_promise.specs.Vocabulary.{all_arrived, prepared_shown, standing, unknown, with_promise}
 use Rattle.qc_site.specs.Vocabulary.{clock_after, latest}
 use Rattle.qc_core.proofs.SiteGrowth.{lasts, stays}
 use Rattle.qc_core.proofs.SiteHolds.{hold, held_on, remaining, remains, standing_given}
@@ -68,6 +69,7 @@ module _ (site : ℕ) (ds : List Deed) (g : Input) (n : ℕ) (sends : List Posti
       → grown site ds g n (says sends told) ≡ record
       (shown site ds) {
         log = (learning (lines_shown ds) view).since;
+        arrived = all_arrived ds ++ unknown (lines_shown ds) view;
         held = fold hold (held_shown ds) gs;
         clock = fold max (clock_shown ds) (clocks_given g);
       }
@@ -75,12 +77,14 @@ module _ (site : ℕ) (ds : List Deed) (g : Input) (n : ℕ) (sends : List Posti
       same_state (grown site ds g n (says sends told))
       (record (shown site ds) {
         log = (learning (lines_shown ds) view).since;
+        arrived = all_arrived ds ++ unknown (lines_shown ds) view;
         held = fold hold (held_shown ds) gs;
         clock = fold max (clock_shown ds) (clocks_given g);
       })
       refl refl refl refl refl
       (ap (λ (v : List Line). (learning (lines_shown ds) v).since) joins)
       refl
+      (ap (λ (v : List Line). all_arrived ds ++ unknown (lines_shown ds) v) joins)
       (stays_held ds g n (says sends told) still gs stand)
       (append-nil (filter (lasts (Takes g ∷ turn_deeds n (says sends told))) (prepared_shown ds))
       ∙ filter_all (lasts (Takes g ∷ turn_deeds n (says sends told))) last (prepared_shown ds))
@@ -97,8 +101,11 @@ module _ (site : ℕ) (ds : List Deed) (g : Input) (n : ℕ) (sends : List Posti
       → grown site ds g n (says sends told) ≡ record
       (shown site ds) { clock = fold max (clock_shown ds) (clocks_given g) }
   stands_still stand joins = talks [] [] stand joins
-      ∙ ap (λ (l : Lines). record (shown site ds) { log = l.since; clock = fold max (clock_shown ds) (clocks_given g) })
-      (learning-nil (lines_shown ds))
+      ∙ (λ i. record (shown site ds) {
+        log = (learning-nil (lines_shown ds) i).since;
+        arrived = append-nil (all_arrived ds) i;
+        clock = fold max (clock_shown ds) (clocks_given g);
+      })
 
 -- the clock
 

@@ -1,12 +1,11 @@
 -- A site's turns tell nothing, and write no record of a rise; and what they answer, where the record fails too, it was
 -- asked for.
-use Rattle.std.proofs.Common.{◌≡◌, ℕ, ◌+◌, not, nat_le, nat_lt, Bool, true, false, cond, List, [], Option, Some, None}
+use Rattle.std.proofs.Common.{◌≡◌, ℕ, ◌+◌, not, nat_le, nat_lt, Bool, true, false, cond, List, Option, Some, None}
 use Rattle.std.proofs.Common.{refl, ap}
 use Rattle.qc_stamp.specs.declared.stamp.Stamp.{Stamp}
 use Rattle.qc_stamp.specs.declared.stamp.TxId.{TxId}
 use Rattle.qc_entry.specs.declared.line.Line.{Line}
 use Rattle.qc_entry.specs.declared.record.Prepared.{Prepared}
-use Rattle.qc_entry.specs.Vocabulary.{of_object}
 use Rattle.qc_decl.specs.declared.declaration.Declaration.{Declaration}
 use Rattle.qc_decl.specs.Vocabulary.{most_record_bytes}
 use Rattle.qc_lock.specs.declared.clash.Clash.{Clash as Conflict}
@@ -31,10 +30,12 @@ use Rattle.qc_msg.specs.declared.record.Record.TheVariants as records
 use Rattle.qc_msg.specs.declared.step.Input.{Input}
 use Rattle.qc_msg.specs.declared.step.Input.TheVariants as inputs
 use Rattle.qc_msg.specs.declared.turn.Appended.TheVariants.{Done}
-use Rattle.qc_msg.specs.Vocabulary.{grant_with, start_with}
+use Rattle.qc_msg.specs.Vocabulary.{append_grant, start_with}
+use Rattle.qc_msg.specs.declared.payload.ReadRequest.{ReadRequest}
 use Rattle.qc_site.specs.Vocabulary.{SiteState, answers as answered_with, appends_by, clashing, closed, closes}
 use Rattle.qc_site.specs.Vocabulary.{fault_of, finishes, grants, installed, installs, is_closed_for, is_prepared, joins}
-use Rattle.qc_site.specs.Vocabulary.{known, moved as site_moved, names_declared, passed, prepare_length, prepared_of}
+use Rattle.qc_site.specs.Vocabulary.{grant_told, moved as site_moved, names_declared, passed, prepare_length}
+use Rattle.qc_site.specs.Vocabulary.{prepared_of}
 use Rattle.qc_site.specs.Vocabulary.{prepares, promise_of, promised, reads_by, recording, records_done, relation_at}
 use Rattle.qc_site.specs.Vocabulary.{requested, shut_answer, site_at, site_takes, votes}
 
@@ -99,15 +100,14 @@ module _ (decl : Declaration) (s : SiteState) (e : Envelope) (asks : asks_answer
     failed_sends = ((refl, (refl, asks)), tt);
   }
 
-  reads_written : (object inv : ℕ) (o : Option Conflict)
-      → IsSiteTurn (inputs.Got e) (reads_by decl s e.from e.number tx object inv o).turn
-  reads_written object inv None =
-      answers_well (answers.Granted (grant_with s.life s.clock (of_object (known s) object)))
-  reads_written object inv (Some c) = clashes_well c
+  reads_written : (r : ReadRequest) (o : Option Conflict)
+      → IsSiteTurn (inputs.Got e) (reads_by decl s e.from e.number tx r o).turn
+  reads_written r None = answers_well (answers.Granted (grant_told s r))
+  reads_written r (Some c) = clashes_well c
 
   appends_written : (view : List _) (own : List _) (o : Option Conflict)
       → IsSiteTurn (inputs.Got e) (appends_by decl s e.from e.number tx view own o).turn
-  appends_written view own None = answers_well (answers.Granted (grant_with s.life s.clock []))
+  appends_written view own None = answers_well (answers.Granted (append_grant s.life s.clock))
   appends_written view own (Some c) = clashes_well c
 
   prepares_written : IsSiteTurn (inputs.Got e) (prepares s e.from e.number tx).turn
@@ -125,7 +125,7 @@ module _ (decl : Declaration) (s : SiteState) (e : Envelope) (asks : asks_answer
       by true false false = answers_well answers.Stale
 
   grants_written : (want : Want) → IsSiteTurn (inputs.Got e) (grants decl s e.from e.number tx want).turn
-  grants_written (Read read) = reads_written read.object read.inv
+  grants_written (Read read) = reads_written read
       (read_clash (relation_at decl read.object) s.held tx read.object read.inv)
   grants_written (Append object view own) =
       appends_written view own (append_clash (relation_at decl object) s.held tx own)

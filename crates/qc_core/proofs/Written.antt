@@ -26,7 +26,6 @@ use Rattle.qc_msg.specs.declared.step.Command.TheVariants as commands
 use Rattle.qc_msg.specs.declared.step.Input.{Input}
 use Rattle.qc_msg.specs.declared.step.Input.TheVariants as inputs
 use Rattle.qc_msg.specs.declared.turn.Appended.TheVariants.{Done}
-use Rattle.qc_site.specs.Vocabulary.{passed}
 use Rattle.qc_commit.specs.declared.ballot.Ballot.{Ballot}
 use Rattle.qc_commit.specs.declared.desk.Desk.{Desk}
 use Rattle.qc_commit.specs.declared.desk.Voting.{Voting}
@@ -35,7 +34,6 @@ use Rattle.qc_commit.specs.Vocabulary.{are_cast, blank, cast, first_against, mov
 use Rattle.qc_commit.specs.Vocabulary.{prepares as asks_for, vote_of}
 use Rattle.qc_front.specs.declared.transaction.Transaction.{Transaction}
 use Rattle.qc_front.specs.Conduct as fronts
-use Rattle.qc_front.specs.Vocabulary.{answered, learns}
 use Rattle.qc_client.specs.declared.client.Client.{Client}
 use Rattle.qc_client.specs.Vocabulary.{by_desk, by_front}
 use Rattle.qc_client.specs.Conduct as clients

@@ -15,7 +15,8 @@ use Rattle.qc_msg.specs.declared.turn.Appended.{Appended}
 use Rattle.qc_msg.specs.declared.turn.Appended.TheVariants.{Done, Failed, Stopped}
 use Rattle.qc_msg.specs.declared.turn.Turn.{Turn}
 use Rattle.qc_msg.specs.Vocabulary.{Deed, Falls, Rises, Sends, Takes, Tells, Writes, deeds_as, Decided, decision_in}
-use Rattle.qc_promise.specs.Vocabulary.{began_shown, clock_shown, closed_shown, epoch_shown, held_shown, life_shown}
+use Rattle.qc_promise.specs.Vocabulary.{all_arrived, began_shown, clock_shown, closed_shown, epoch_shown, held_shown}
+use Rattle.qc_promise.specs.Vocabulary.{life_shown}
 use Rattle.qc_promise.specs.Vocabulary.{prepared_shown, recorded_shown, since_shown}
 use Rattle.qc_site.specs.Vocabulary.{SiteState}
 use Rattle.qc_core.specs.Conduct.{IsLawfulWithFalls}
@@ -86,6 +87,7 @@ pub record IsShown (ds : List Deed) (s : SiteState) : Type 0 where
   pub began : s.began ≡ began_shown ds
   pub log : s.log ≡ since_shown ds
   pub recorded : s.recorded ≡ recorded_shown ds
+  pub arrived : s.arrived ≡ all_arrived ds
   pub held : s.held ≡ held_shown ds
   pub prepared : s.prepared ≡ prepared_shown ds
   pub clock : s.clock ≡ clock_shown ds

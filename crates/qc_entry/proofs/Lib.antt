@@ -7,3 +7,4 @@ pub mod Members
 pub mod Walks
 mod OneObject
 pub mod Logs
+mod Placed

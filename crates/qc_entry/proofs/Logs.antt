@@ -1,8 +1,10 @@
 -- The log of lines in any order: it ascends, has just these lines, and is that of its parts, merged.
-use Rattle.std.proofs.Common.{◌≡◌, ◌<◌, inl, inr, List, [], ◌∷◌, ◌++◌, arith, length, refl}
+use Rattle.std.proofs.Common.{◌≡◌, ℕ, zero, suc, inl, inr, List, [], ◌∷◌, ◌++◌, take, Some, sym, subst}
+use Rattle.std.specs.List.{AllByRecursion as Every, slice_get}
+use Rattle.std.specs.declared.cmp.Ordering.TheVariants.{Less}
 use Rattle.qc_entry.specs.declared.line.Line.{Line}
-use Rattle.qc_entry.specs.Vocabulary.{IsAscending, log_of, union}
-use Rattle.qc_list.specs.Vocabulary.{In}
+use Rattle.qc_entry.specs.Vocabulary.{IsAscending, line_cmp, log_of, union}
+use Rattle.qc_list.specs.Vocabulary.{In, IsBelowAll}
 use Rattle.qc_list.proofs.Members.{In-first, In-second, In-either}
 use Rattle.qc_entry.proofs.Union.{ascending-union, in_either, in_first, in_second}
 use Rattle.qc_entry.proofs.Members.{ascending-same}
@@ -35,8 +37,25 @@ log-append xs ys =
           (in_log l ys b)
     ])
 
--- at most one line is its own log
-pub short-log : (xs : List Line) → length xs < 2 → (xs ≡ log_of xs) × IsAscending xs
-short-log [] few = (refl, tt)
-short-log (x ∷ []) few = (refl, (tt, tt))
-short-log (x ∷ y ∷ xs) few = absurd (omega (few, arith))
+-- ascending lines are their own log
+pub ascending-is-log : (xs : List Line) → IsAscending xs → xs ≡ log_of xs
+ascending-is-log xs up =
+    ascending-same xs (log_of xs) up (ascending-log xs) (λ l h. in_log l xs h) (λ l h. of_log l xs h)
+
+below-more : (x : Line) (xs : List Line) (n : ℕ) (y : Line) → slice_get xs n ≡ Some y
+    → IsBelowAll line_cmp x (take n xs) → line_cmp x y ≡ Less → IsBelowAll line_cmp x (take (suc n) xs)
+below-more x [] n y at below less = tt
+below-more x (z ∷ zs) zero y at below less =
+    let same : z ≡ y = cc in
+    (subst (λ (l : Line). line_cmp x l ≡ Less) (sym same) less, tt)
+below-more x (z ∷ zs) (suc n) y at below less = (below.0, below-more x zs n y at below.1 less)
+
+-- the first lines ascend, and each of them is before the next one: then they ascend with it
+pub ascending-more : (xs : List Line) (n : ℕ) (y : Line) → slice_get xs n ≡ Some y → IsAscending (take n xs)
+    → Every (λ l. line_cmp l y ≡ Less) (take n xs) → IsAscending (take (suc n) xs)
+ascending-more [] n y at up all = tt
+ascending-more (x ∷ xs) zero y at up all = (tt, tt)
+ascending-more (x ∷ xs) (suc n) y at up all = (
+  below-more x xs n y at up.0 all.0,
+  ascending-more xs n y at up.1 all.1,
+)

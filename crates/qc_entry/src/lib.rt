@@ -13,13 +13,17 @@
 //! hold records.
 #![tactic(auto)]
 
+mod arrivals;
 mod laws;
 mod line;
 mod log;
+mod mark;
 mod record;
 mod slices;
 
+pub use arrivals::{Arrivals, Told};
 pub use laws::{lines_are_ordered, union_is_a_union};
 pub use line::{Line, Op, Ops, OwnLine, Owns, ReadLock, Reads};
 pub use log::Log;
+pub use mark::Mark;
 pub use record::{Commit, Prepared};

@@ -5,7 +5,7 @@ ghost use Rattle.qc_entry.specs.Line.{IsAscending};
 ghost use Rattle.qc_entry.specs.Log.{log_of, union, of_object, since_stamp, without};
 
 use crate::Line;
-use crate::slices::{all_are_of, behind, both, later, merged, of_one, rest_of};
+use crate::slices::{all_are_of, ascend, behind, both, later, merged, of_one, rest_of};
 use qc_list::OutOfMemory;
 use qc_stamp::Stamp;
 use std::alloc::Global;
@@ -40,11 +40,12 @@ impl Log {
         })
     }
 
-    /// The log of lines in any order, each once: those of either half, merged.
+    /// The log of lines in any order, each once: these where they ascend, as most
+    /// that arrive do, or else those of either half, merged.
     pub fn of_lines(alloc: Global, lines: &[Line]) -> Result<Log, OutOfMemory>
         ensures { IfOk result (λ l. l ≡ log_of lines.now) }
     {
-        if lines.len() < 2 {
+        if ascend(lines) {
             return Ok(Log {
                 lines: Vec::from_slice(alloc, lines)?,
             });

@@ -1,6 +1,6 @@
 //! Work on slices of lines, each linear in their lengths.
 
-ghost use Rattle.std.specs.Prelude.{◌≡◌, ◌≤◌, ◌↔◌, ◌++◌, ◌==◌, ℕ, IfOk, IfSome, IsTrue, length, take};
+ghost use Rattle.std.specs.Prelude.{◌≡◌, ◌≤◌, ◌<◌, true, false, ◌↔◌, ◌++◌, ◌==◌, ℕ, IfOk, IfSome, IsTrue, length, take};
 ghost use Rattle.std.specs.List.{AllByRecursion, list_all};
 ghost use Rattle.std.specs.declared.cmp.Ordering.TheVariants.{Less};
 ghost use Rattle.qc_entry.specs.Line.{line_cmp, IsAscending};
@@ -167,6 +167,21 @@ fn shared(a: &[Line], b: &[Line]) -> usize
         n += 1;
     }
     n
+}
+
+/// Whether lines ascend. One line does, and so does none.
+pub(crate) fn ascend(lines: &[Line]) -> bool
+    ensures ascending { result ≡ true → IsAscending lines.now }
+    ensures others { result ≡ false → 1 < length lines.now }
+{
+    let mut count = 0;
+    'lines: while count < lines.len() {
+        if !all_before(&lines[..count], &lines[count]) {
+            return false;
+        }
+        count += 1;
+    }
+    true
 }
 
 /// Whether each of the sorted lines comes before another line.

@@ -1,9 +1,10 @@
 -- The clock and the known epoch never fall, and pass those of what counts.
-use Rattle.std.proofs.Common.{◌≡◌, ℕ, ◌≤◌, Option, Some, None, refl, sym, ◌∙◌, subst, arith}
+use Rattle.std.proofs.Common.{◌≡◌, ℕ, ◌≤◌, Option, Some, None, refl, sym, ap, ◌∙◌, subst, arith}
 use Rattle.qc_stamp.specs.declared.clock.Clock.{Clock}
 use Rattle.qc_decl.specs.declared.declaration.Declaration.{Declaration}
 use Rattle.qc_msg.specs.declared.message.Answer.{Answer}
 use Rattle.qc_msg.specs.declared.message.Answer.TheVariants as answers
+use Rattle.qc_msg.specs.declared.payload.Grant.{Grant}
 use Rattle.qc_msg.specs.Vocabulary.{site_called, without_call}
 use Rattle.qc_plan.specs.Vocabulary.{note, verdict}
 use Rattle.qc_front.specs.declared.doing.Doing.{Doing}
@@ -21,82 +22,84 @@ learned_by front site None =
     record {
       clock = omega arith;
       epoch = omega arith;
-      granted = λ s life told log asked is. (let never : ⊥ = cc in absurd never);
+      granted = λ s g asked is. (let never : ⊥ = cc in absurd never);
       closed = λ s told asked is. (let never : ⊥ = cc in absurd never);
     }
 learned_by front site (Some (answers.Granted grant)) = record {
   clock = omega arith;
   epoch = omega arith;
-  granted = λ s l told ls asked is. (let same : grant.clock ≡ told = cc in omega arith);
+  granted =
+      λ s g asked is. (let same : grant ≡ g = cc in
+      let clock : grant.clock ≡ g.clock = ap (λ (x : Grant). x.clock) same in omega arith);
   closed = λ s told asked is. (let never : ⊥ = cc in absurd never);
 }
 learned_by front site (Some (answers.Closed epoch)) = record {
   clock = omega arith;
   epoch = omega arith;
-  granted = λ s l told ls asked is. (let never : ⊥ = cc in absurd never);
+  granted = λ s g asked is. (let never : ⊥ = cc in absurd never);
   closed = λ s told asked is. (let same : epoch ≡ told = cc in omega arith);
 }
 learned_by front site (Some (answers.Clash holder inv event)) =
     record {
       clock = omega arith;
       epoch = omega arith;
-      granted = λ s life told log asked is. (let never : ⊥ = cc in absurd never);
+      granted = λ s g asked is. (let never : ⊥ = cc in absurd never);
       closed = λ s told asked is. (let never : ⊥ = cc in absurd never);
     }
 learned_by front site (Some (answers.Behind epoch)) =
     record {
       clock = omega arith;
       epoch = omega arith;
-      granted = λ s life told log asked is. (let never : ⊥ = cc in absurd never);
+      granted = λ s g asked is. (let never : ⊥ = cc in absurd never);
       closed = λ s told asked is. (let never : ⊥ = cc in absurd never);
     }
 learned_by front site (Some (answers.Restarted now)) =
     record {
       clock = omega arith;
       epoch = omega arith;
-      granted = λ s life told log asked is. (let never : ⊥ = cc in absurd never);
+      granted = λ s g asked is. (let never : ⊥ = cc in absurd never);
       closed = λ s told asked is. (let never : ⊥ = cc in absurd never);
     }
 learned_by front site (Some answers.Stale) =
     record {
       clock = omega arith;
       epoch = omega arith;
-      granted = λ s life told log asked is. (let never : ⊥ = cc in absurd never);
+      granted = λ s g asked is. (let never : ⊥ = cc in absurd never);
       closed = λ s told asked is. (let never : ⊥ = cc in absurd never);
     }
 learned_by front site (Some answers.Fault) =
     record {
       clock = omega arith;
       epoch = omega arith;
-      granted = λ s life told log asked is. (let never : ⊥ = cc in absurd never);
+      granted = λ s g asked is. (let never : ⊥ = cc in absurd never);
       closed = λ s told asked is. (let never : ⊥ = cc in absurd never);
     }
 learned_by front site (Some (answers.Yes clock)) =
     record {
       clock = omega arith;
       epoch = omega arith;
-      granted = λ s life told log asked is. (let never : ⊥ = cc in absurd never);
+      granted = λ s g asked is. (let never : ⊥ = cc in absurd never);
       closed = λ s told asked is. (let never : ⊥ = cc in absurd never);
     }
 learned_by front site (Some (answers.Shut snapshot)) =
     record {
       clock = omega arith;
       epoch = omega arith;
-      granted = λ s life told log asked is. (let never : ⊥ = cc in absurd never);
+      granted = λ s g asked is. (let never : ⊥ = cc in absurd never);
       closed = λ s told asked is. (let never : ⊥ = cc in absurd never);
     }
 learned_by front site (Some answers.Installed) =
     record {
       clock = omega arith;
       epoch = omega arith;
-      granted = λ s life told log asked is. (let never : ⊥ = cc in absurd never);
+      granted = λ s g asked is. (let never : ⊥ = cc in absurd never);
       closed = λ s told asked is. (let never : ⊥ = cc in absurd never);
     }
 learned_by front site (Some (answers.Answered verdict)) =
     record {
       clock = omega arith;
       epoch = omega arith;
-      granted = λ s life told log asked is. (let never : ⊥ = cc in absurd never);
+      granted = λ s g asked is. (let never : ⊥ = cc in absurd never);
       closed = λ s told asked is. (let never : ⊥ = cc in absurd never);
     }
 
@@ -104,7 +107,7 @@ nothing_learned : (front : Front) (answer : Option Answer) → Learns front fron
 nothing_learned front answer = record {
   clock = omega arith;
   epoch = omega arith;
-  granted = λ site life told log asked is. (let never : ⊥ = cc in absurd never);
+  granted = λ site g asked is. (let never : ⊥ = cc in absurd never);
   closed = λ site told asked is. (let never : ⊥ = cc in absurd never);
 }
 
@@ -116,8 +119,8 @@ learned_move front after site answer keeps =
       clock = subst (λ (c : Clock). front.clock.value ≤ c.value) (sym keeps.clock) l.clock;
       epoch = subst (λ (e : ℕ). front.epoch ≤ e) (sym keeps.epoch) l.epoch;
       granted =
-          λ s life told log asked is. subst (λ (c : Clock). told ≤ c.value) (sym keeps.clock)
-          (l.granted s life told log asked is);
+          λ s g asked is. subst (λ (c : Clock). g.clock ≤ c.value) (sym keeps.clock)
+          (l.granted s g asked is);
       closed = λ s told asked is. subst (λ (e : ℕ). told ≤ e) (sym keeps.epoch) (l.closed s told asked is);
     }
 

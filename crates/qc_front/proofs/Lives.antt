@@ -12,7 +12,7 @@ use Rattle.qc_msg.specs.declared.begun.LifeAt.{LifeAt}
 use Rattle.qc_msg.specs.declared.call.Call.{Call}
 use Rattle.qc_msg.specs.declared.message.Answer.{Answer}
 use Rattle.qc_msg.specs.declared.message.Answer.TheVariants as answers
-use Rattle.qc_msg.specs.Vocabulary.{has_granted, life_of, site_called, with_life, without_call, grant_with}
+use Rattle.qc_msg.specs.Vocabulary.{has_granted, life_of, site_called, with_life, without_call}
 use Rattle.qc_plan.specs.declared.standing.Verdict.{Verdict}
 use Rattle.qc_plan.specs.declared.standing.Verdict.TheVariants as verdicts
 use Rattle.qc_plan.specs.Vocabulary.{RoundState, note, verdict}
@@ -160,7 +160,7 @@ no_grant lives asked answer none = record {
 with_keeps : (lives : List LifeAt) (site : ℕ) (answer : Option Answer)
     → KeepsLives lives (lives_with lives site answer) (Some site) answer
 with_keeps lives site None = no_grant lives (Some site) None
-    (λ s life g. (let is : None ≡ Some (answers.Granted (grant_with life g.clock g.log)) = g.is in
+    (λ s life g. (let is : None ≡ Some (answers.Granted g.grant) = g.is in
     let never : ⊥ = cc in never))
 with_keeps lives site (Some (answers.Granted grant)) = record {
   kept = λ s has. kept_by lives site grant.life s has (has_granted lives site);
@@ -168,9 +168,9 @@ with_keeps lives site (Some (answers.Granted grant)) = record {
       (let both : (site ≡ s) × (life_of (with_life lives site grant.life) s ≡ grant.life) =
       gained_by lives site grant.life s none (has_granted lives site) has in
       record {
-        clock = grant.clock;
-        log = grant.log;
-        is = ap (λ (l : ℕ). Some (answers.Granted (grant_with l grant.clock grant.log))) (sym both.1);
+        grant = grant;
+        is = refl;
+        its = sym both.1;
         counts = ap (λ (n : ℕ). Some n) both.0;
       });
   counted = λ s told g.
@@ -181,43 +181,43 @@ with_keeps lives site (Some (answers.Granted grant)) = record {
 with_keeps lives site (Some (answers.Clash holder inv event)) =
     no_grant lives (Some site) (Some (answers.Clash holder inv event))
     (λ s life g. (let is : Some (answers.Clash holder inv event)
-    ≡ Some (answers.Granted (grant_with life g.clock g.log)) = g.is in let never : ⊥ = cc in never))
+    ≡ Some (answers.Granted g.grant) = g.is in let never : ⊥ = cc in never))
 with_keeps lives site (Some (answers.Closed epoch)) =
     no_grant lives (Some site) (Some (answers.Closed epoch))
     (λ s life g. (let is : Some (answers.Closed epoch)
-    ≡ Some (answers.Granted (grant_with life g.clock g.log)) = g.is in let never : ⊥ = cc in never))
+    ≡ Some (answers.Granted g.grant) = g.is in let never : ⊥ = cc in never))
 with_keeps lives site (Some (answers.Behind epoch)) =
     no_grant lives (Some site) (Some (answers.Behind epoch))
     (λ s life g. (let is : Some (answers.Behind epoch)
-    ≡ Some (answers.Granted (grant_with life g.clock g.log)) = g.is in let never : ⊥ = cc in never))
+    ≡ Some (answers.Granted g.grant) = g.is in let never : ⊥ = cc in never))
 with_keeps lives site (Some (answers.Restarted told)) =
     no_grant lives (Some site) (Some (answers.Restarted told))
     (λ s life g. (let is : Some (answers.Restarted told)
-    ≡ Some (answers.Granted (grant_with life g.clock g.log)) = g.is in let never : ⊥ = cc in never))
+    ≡ Some (answers.Granted g.grant) = g.is in let never : ⊥ = cc in never))
 with_keeps lives site (Some answers.Stale) =
     no_grant lives (Some site) (Some answers.Stale)
-    (λ s life g. (let is : Some answers.Stale ≡ Some (answers.Granted (grant_with life g.clock g.log)) = g.is in
+    (λ s life g. (let is : Some answers.Stale ≡ Some (answers.Granted g.grant) = g.is in
     let never : ⊥ = cc in never))
 with_keeps lives site (Some answers.Fault) =
     no_grant lives (Some site) (Some answers.Fault)
-    (λ s life g. (let is : Some answers.Fault ≡ Some (answers.Granted (grant_with life g.clock g.log)) = g.is in
+    (λ s life g. (let is : Some answers.Fault ≡ Some (answers.Granted g.grant) = g.is in
     let never : ⊥ = cc in never))
 with_keeps lives site (Some (answers.Yes clock)) =
     no_grant lives (Some site) (Some (answers.Yes clock))
-    (λ s life g. (let is : Some (answers.Yes clock) ≡ Some (answers.Granted (grant_with life g.clock g.log)) = g.is in
+    (λ s life g. (let is : Some (answers.Yes clock) ≡ Some (answers.Granted g.grant) = g.is in
     let never : ⊥ = cc in never))
 with_keeps lives site (Some (answers.Shut snapshot)) =
     no_grant lives (Some site) (Some (answers.Shut snapshot))
     (λ s life g. (let is : Some (answers.Shut snapshot)
-    ≡ Some (answers.Granted (grant_with life g.clock g.log)) = g.is in let never : ⊥ = cc in never))
+    ≡ Some (answers.Granted g.grant) = g.is in let never : ⊥ = cc in never))
 with_keeps lives site (Some answers.Installed) =
     no_grant lives (Some site) (Some answers.Installed)
-    (λ s life g. (let is : Some answers.Installed ≡ Some (answers.Granted (grant_with life g.clock g.log)) = g.is in
+    (λ s life g. (let is : Some answers.Installed ≡ Some (answers.Granted g.grant) = g.is in
     let never : ⊥ = cc in never))
 with_keeps lives site (Some (answers.Answered told)) =
     no_grant lives (Some site) (Some (answers.Answered told))
     (λ s life g. (let is : Some (answers.Answered told)
-    ≡ Some (answers.Granted (grant_with life g.clock g.log)) = g.is in let never : ⊥ = cc in never))
+    ≡ Some (answers.Granted g.grant) = g.is in let never : ⊥ = cc in never))
 
 -- nothing else changes them
 

@@ -12,7 +12,7 @@ use Rattle.qc_msg.specs.declared.message.Want.{Want}
 use Rattle.qc_msg.specs.declared.message.Want.TheVariants.{Read, Append}
 use Rattle.qc_msg.specs.declared.turn.Posting.{Posting}
 use Rattle.qc_msg.specs.Vocabulary.{life_of}
-use Rattle.qc_msg.specs.Vocabulary.{read_of}
+use Rattle.qc_msg.specs.Vocabulary.{first_read}
 use Rattle.qc_front.specs.declared.front.Front.{Front}
 use Rattle.qc_front.specs.declared.transaction.Transaction.{Transaction}
 use Rattle.qc_front.specs.Answering.{next_own, view_log}
@@ -29,7 +29,7 @@ own_appended decl t object event = filter (weighs decl t.begun.epoch object) t.o
 -- what a round wants of a site: the same of each
 
 abbrev pub read_want : ℕ → ℕ → ℕ → Want
-read_want object inv site = Read (read_of object inv)
+read_want object inv site = Read (first_read object inv)
 
 abbrev pub append_want : Declaration → Transaction → ℕ → ℕ → ℕ → Want
 append_want decl t object event site = Append object (view_log t object) (own_appended decl t object event)

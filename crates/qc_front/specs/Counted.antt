@@ -1,11 +1,10 @@
 -- What counts, and what is learned of it: lives of participants, clocks (Lamport 1978), epochs.
 use Rattle.std.specs.Prelude.{◌≡◌, ℕ, ◌≤◌, true, false, List, [], Option, Some, None}
-use Rattle.qc_entry.specs.declared.line.Line.{Line}
 use Rattle.qc_msg.specs.declared.begun.LifeAt.{LifeAt}
 use Rattle.qc_msg.specs.declared.message.Answer.{Answer}
 use Rattle.qc_msg.specs.declared.message.Answer.TheVariants.{Granted, Closed}
 use Rattle.qc_msg.specs.Vocabulary.{has_granted, life_of, site_called}
-use Rattle.qc_msg.specs.Vocabulary.{grant_with}
+use Rattle.qc_msg.specs.declared.payload.Grant.{Grant}
 use Rattle.qc_front.specs.declared.doing.Doing.{Doing}
 use Rattle.qc_front.specs.declared.doing.Doing.TheVariants.{Idle, Reading, Appending}
 use Rattle.qc_front.specs.declared.front.Front.{Front}
@@ -28,9 +27,9 @@ lives_of (Some t) = t.begun.lives
 
 -- a grant by this site, in this life, to a request that counts; `asked` is the site of the open request, if it is one
 pub record IsGrant (asked : Option ℕ) (answer : Option Answer) (site life : ℕ) : Type 0 where
-  pub clock : ℕ
-  pub log : List Line
-  pub is : answer ≡ Some (Granted (grant_with life clock log))
+  pub grant : Grant
+  pub is : answer ≡ Some (Granted grant)
+  pub its : grant.life ≡ life
   pub counts : asked ≡ Some site
 
 -- a site becomes a participant with its first grant that counts, in the life of that, which stays
@@ -45,6 +44,6 @@ pub record KeepsLives (before after : List LifeAt) (asked : Option ℕ) (answer 
 pub record Learns (before after : Front) (asked : Option ℕ) (answer : Option Answer) : Type 0 where
   pub clock : before.clock.value ≤ after.clock.value
   pub epoch : before.epoch ≤ after.epoch
-  pub granted : (site life told : ℕ) (log : List Line) → asked ≡ Some site
-      → answer ≡ Some (Granted (grant_with life told log)) → told ≤ after.clock.value
+  pub granted : (site : ℕ) (g : Grant) → asked ≡ Some site → answer ≡ Some (Granted g)
+      → g.clock ≤ after.clock.value
   pub closed : (site told : ℕ) → asked ≡ Some site → answer ≡ Some (Closed told) → told ≤ after.epoch

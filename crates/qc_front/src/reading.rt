@@ -16,6 +16,7 @@ use crate::front::Front;
 use crate::next::Next;
 use crate::transaction::Transaction;
 use qc_decl::{Declaration, MOST_TRANSACTION_OPERATIONS};
+use qc_entry::Mark;
 use qc_list::OutOfMemory;
 use qc_msg::{Calls, Half, ReadRequest, Reply, Turn, Want};
 use qc_plan::Verdict;
@@ -140,7 +141,11 @@ fn ask_to_read(
 {
     let OpenRound { calls, mut round } = open_round;
     let object = draft.object;
-    let want = Want::Read(ReadRequest { object, inv });
+    let want = Want::Read(ReadRequest {
+        object,
+        inv,
+        mark: Mark::NONE,
+    });
     let turn = draft.ask(alloc, &want, &mut round)?;
     let doing = Doing::Reading {
         object,

@@ -85,7 +85,8 @@ pub none_found : (places : BTreeSet HolderKey) (object number : ℕ) (lo : Bound
 none_found places object number lo test from range =
     λ tx passes. range.5 refl (place object number tx) (from tx passes, tt)
 
-pub one_found : (places : BTreeSet HolderKey) (object number : ℕ) (lo : Bound HolderKey) (start : TxId) (test : TxId → Bool)
+pub one_found : (places : BTreeSet HolderKey) (object number : ℕ) (lo : Bound HolderKey) (start : TxId)
+    (test : TxId → Bool)
     (p : HolderKey) (rest : List HolderKey)
     → ((tx : TxId) → test tx ≡ true → From lo (place object number tx))
     → ((q : HolderKey) → From lo q → is_gt (place_cmp (place object number start) q) ≡ false)

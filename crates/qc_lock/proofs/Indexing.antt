@@ -115,7 +115,8 @@ narrows_own before after tx test spared a b narrows = narrows tx a b
 
 -- after want of memory: what was added goes
 
-pub index_undone : (places wide after : BTreeSet HolderKey) (tx : TxId) (was : TxId → ℕ → ℕ → Bool) (given : ℕ → ℕ → Bool)
+pub index_undone : (places wide after : BTreeSet HolderKey) (tx : TxId) (was : TxId → ℕ → ℕ → Bool)
+    (given : ℕ → ℕ → Bool)
     (all : Bool)
     → IsIndex places was → Widens places wide tx given all → Narrows wide after tx given (was tx) → IsIndex after was
 index_undone places wide after tx was given all index widens narrows = record {
@@ -194,7 +195,8 @@ index_done places wide mid after tx was now given index widens first second othe
 
 -- where the transaction held nothing before, nothing is left to go
 
-pub narrows_empty : (places : BTreeSet HolderKey) (tx : TxId) (test spared : ℕ → ℕ → Bool) → ((a b : ℕ) → test a b ≡ false)
+pub narrows_empty : (places : BTreeSet HolderKey) (tx : TxId) (test spared : ℕ → ℕ → Bool)
+    → ((a b : ℕ) → test a b ≡ false)
     → Narrows places places tx test spared
 narrows_empty places tx test spared none = λ other a b.
     bools (is_there places a b other) (same_tx other tx)

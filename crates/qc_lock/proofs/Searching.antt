@@ -40,7 +40,8 @@ pub none_holds : (relation : List ℕ) (places : BTreeSet HolderKey) (tx : TxId)
 none_holds relation places tx object number inv event none =
     λ d placed. both_ways (is_there places object number d.holder) (none d.holder (ap not placed.another)) placed.there
 
-pub one_holds : (relation : List ℕ) (places : BTreeSet HolderKey) (tx : TxId) (object number inv event : ℕ) (holder : TxId)
+pub one_holds : (relation : List ℕ) (places : BTreeSet HolderKey) (tx : TxId) (object number inv event : ℕ)
+    (holder : TxId)
     → depends relation inv event ≡ true
     → IsFirst places object number (λ other. not (same_tx other tx)) (Some holder)
     → IsSmallest (IsPlaced relation places tx object number inv event)
@@ -146,7 +147,8 @@ read_conflict relation held places tx object inv d index found =
       told = told_as d holder.0.tx inv line.0.event holder.2 placed.inv_is (placed.event_is ∙ sym event_is);
     }
 
-read_placed : (relation : List ℕ) (held : List Held) (places : BTreeSet HolderKey) (tx : TxId) (object inv : ℕ) (d : Clash)
+read_placed : (relation : List ℕ) (held : List Held) (places : BTreeSet HolderKey) (tx : TxId) (object inv : ℕ)
+    (d : Clash)
     → IsSingle held → IsIndex places (lines_held held)
     → IsReadConflict relation held tx object inv d → IsReadPlaced relation places tx object inv d
 read_placed relation held places tx object inv d single index c =

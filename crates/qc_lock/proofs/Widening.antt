@@ -132,7 +132,8 @@ narrows_none places tx spared = λ other a b. by (is_there places a b other) (sa
   by true false = refl
   by false s = refl
 
-pub narrows_more : (before mid after : BTreeSet HolderKey) (tx : TxId) (test more spared : ℕ → ℕ → Bool) (object number : ℕ)
+pub narrows_more : (before mid after : BTreeSet HolderKey) (tx : TxId) (test more spared : ℕ → ℕ → Bool)
+    (object number : ℕ)
     → spared object number ≡ false
     → Narrows before mid tx test spared → Sets mid after object number tx false → Grows test more object number
     → Narrows before after tx more spared

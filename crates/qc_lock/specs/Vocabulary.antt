@@ -5,7 +5,8 @@ pub use Rattle.qc_lock.specs.Conflict.{In, IsAppendConflict, IsReadConflict, IsS
 pub use Rattle.qc_lock.specs.Held.{entry_of, has_lock, held_of, inserted, is_held, lock_cmp, own_cmp, same_lock}
 pub use Rattle.qc_lock.specs.Held.{same_tx, with_entry, with_held, with_lock, with_locks, with_own, with_owns}
 pub use Rattle.qc_lock.specs.Held.{without_held}
-pub use Rattle.qc_lock.specs.TransactionMap.{AreBelow, AreNumbered, AreOfOthers, IsOneForEach, number_of, one_of, put_one}
+pub use Rattle.qc_lock.specs.TransactionMap.{AreBelow, AreNumbered, AreOfOthers, IsOneForEach, number_of, one_of}
+pub use Rattle.qc_lock.specs.TransactionMap.{put_one}
 pub use Rattle.qc_lock.specs.TransactionMap.{without_one}
 pub use Rattle.qc_lock.specs.HolderSets.{AreIndexed, AreSmall, IsAppendPlaced, IsFirst, IsIndex, IsLinePlaced, IsPlaced}
 pub use Rattle.qc_lock.specs.HolderSets.{IsReadPlaced, Narrows, Sets, Widens, has_line, has_read, holder_at, is_there}

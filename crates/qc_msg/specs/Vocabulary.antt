@@ -14,7 +14,8 @@ pub use Rattle.qc_msg.specs.Steps.{sents, step_of, told, wrote}
 pub use Rattle.qc_msg.specs.Turns.{ending, quiet, says, sending, telling}
 pub use Rattle.qc_msg.specs.InputReadings.{Invocation, command_in, decided_in, do_in, epoch_in, got_in, heard_in}
 pub use Rattle.qc_msg.specs.InputReadings.{risen_in, taken_in, written_in}
-pub use Rattle.qc_msg.specs.Payloads.{grant_with, read_of, snapshot_with, start_with}
+pub use Rattle.qc_msg.specs.Payloads.{append_grant, first_read, grant_with, read_of, snapshot_with, start_with}
+pub use Rattle.qc_msg.specs.Payloads.{whole_grant}
 pub use Rattle.qc_msg.specs.Readings.{Answered, Clashing, Decided, Finished, Requested}
 pub use Rattle.qc_msg.specs.Readings.{answer_in, asking_in, clash_in, close_in, closed_in, closing_in, decide_in}
 pub use Rattle.qc_msg.specs.Readings.{decision_in, done_in, granted_in, has_installed, inquiry_in, install_in}

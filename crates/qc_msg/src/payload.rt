@@ -3,7 +3,7 @@
 
 ghost use Rattle.std.specs.Prelude.{◌≡◌, ◌++◌, ◌∷◌, [], IfOk};
 
-use qc_entry::{Log, Prepared};
+use qc_entry::{Log, Mark, Prepared};
 use qc_list::{List, OutOfMemory};
 use std::alloc::Global;
 
@@ -14,6 +14,8 @@ pub struct ReadRequest {
     pub object: u8,
     /// The invocation.
     pub inv: u8,
+    /// How much of the site's log of the object the client was told.
+    pub mark: Mark,
 }
 
 /// The transactions that a site has promised to keep, in the order of its
@@ -27,8 +29,12 @@ pub struct Grant {
     pub life: u32,
     /// The site's clock.
     pub clock: u64,
-    /// The site's lines of the object of a Read; of an Append none.
+    /// Of a Read, the site's lines of the object that its mark doesn't count; of
+    /// an Append none.
     pub log: Log,
+    /// Of a Read, how many lines of the object joined the site's log since it rose
+    /// or began its epoch, whichever came later; of an Append 0.
+    pub count: u64,
 }
 
 impl Grant {
@@ -40,6 +46,7 @@ impl Grant {
             life: self.life,
             clock: self.clock,
             log: self.log.copy()?,
+            count: self.count,
         })
     }
 }

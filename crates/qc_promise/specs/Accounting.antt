@@ -15,7 +15,6 @@ use Rattle.qc_msg.specs.declared.record.Record.{Record}
 use Rattle.qc_msg.specs.declared.reply.Half.{Half}
 use Rattle.qc_msg.specs.declared.reply.Half.TheVariants as halves
 use Rattle.qc_msg.specs.declared.reply.Reply.{Reply}
-use Rattle.qc_msg.specs.declared.reply.Reply.TheVariants as replies
 use Rattle.qc_msg.specs.declared.step.Command.{Command}
 use Rattle.qc_msg.specs.declared.step.Input.{Input}
 use Rattle.qc_msg.specs.declared.step.Input.TheVariants as inputs
@@ -45,13 +44,13 @@ abbrev pub with_read : Current → ℕ → List Line → Current
 with_read t object log =
     record t { read_grants = t.read_grants ++ record { object = object; log = log } ∷ [] }
 
-abbrev pub granted : Account → ℕ → ℕ → ℕ → List Line → Want → Account
-granted d site life clock log (Read read) =
-    with_current (record d { clock = max d.clock clock })
-    (λ (t : Current). with_read (lived t site life) read.object log)
-granted d site life clock log (Append object view own) =
-    with_current (record d { clock = max d.clock clock }) (λ (t : Current). lived t site life)
-granted d site life clock log Prepare = d
+abbrev pub granted : Account → ℕ → Grant → Want → Account
+granted d site g (Read read) =
+    with_current (record d { clock = max d.clock g.clock })
+    (λ (t : Current). with_read (lived t site g.life) read.object g.log)
+granted d site g (Append object view own) =
+    with_current (record d { clock = max d.clock g.clock }) (λ (t : Current). lived t site g.life)
+granted d site g Prepare = d
 
 abbrev pub promised : Account → ℕ → Want → Account
 promised d clock (Read read) = d
@@ -60,7 +59,7 @@ promised d clock Prepare = record d { clock = max d.clock clock }
 
 abbrev pub told_by : Account → ClientRequest → Option Answer → Account
 told_by d q answer =
-    option_map_or (λ (g : Grant). granted d q.site g.life g.clock g.log q.want) (option_and_then granted_in answer)
+    option_map_or (λ (g : Grant). granted d q.site g q.want) (option_and_then granted_in answer)
     (option_map_or (λ (epoch : ℕ). record d { known = max d.known epoch }) (option_and_then closed_in answer)
     (option_map_or (λ (clock : ℕ). promised d clock q.want) (option_and_then promised_in answer) d))
 

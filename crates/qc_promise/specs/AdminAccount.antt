@@ -1,8 +1,7 @@
 -- The administrator's account: the epoch that he decided last, and of the running command its requests in asked order,
 -- what was taken first for each, and the record that he wrote since.
-use Rattle.std.specs.Prelude.{ℕ, ◌==◌, ◌&&◌, Bool, true, false, List, [], ◌∷◌, filter, map, Option, Some, None, is_none}
-use Rattle.std.specs.Prelude.{is_some, option_and_then, option_map}
-use Rattle.std.specs.List.{filter_map, find}
+use Rattle.std.specs.Prelude.{ℕ, Bool, true, false, List, [], filter, Option, None}
+use Rattle.std.specs.Prelude.{option_and_then}
 use Rattle.std.specs.Option.{option_map_or}
 use Rattle.qc_stamp.specs.declared.stamp.TxId.{TxId}
 use Rattle.qc_stamp.specs.Vocabulary.{same_tx}

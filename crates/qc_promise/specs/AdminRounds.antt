@@ -1,7 +1,7 @@
 -- How far a command of the administrator has come: the round of Closes, what the closed sites told, the transactions
 -- that these have promised with what their clients told of them, and what is decided of it.
-use Rattle.std.specs.Prelude.{ℕ, ◌+◌, max, if◌then◌else◌, Bool, true, false, not, List, [], ◌∷◌, ◌++◌, drop, fold}
-use Rattle.std.specs.Prelude.{length, map, take, filter, Option, Some, None, is_some, option_and_then, option_map}
+use Rattle.std.specs.Prelude.{ℕ, ◌+◌, max, if◌then◌else◌, Bool, false, not, List, [], ◌∷◌, ◌++◌, drop, fold}
+use Rattle.std.specs.Prelude.{length, map, take, Option, Some, None, is_some, option_and_then, option_map}
 use Rattle.std.specs.List.{filter_map, find, flat_map, list_all, list_any}
 use Rattle.std.specs.Option.{option_map_or}
 use Rattle.qc_stamp.specs.declared.stamp.Stamp.{Stamp}

@@ -1,6 +1,6 @@
 -- The reply that is due to a command of the administrator: that of the first row that applies. And the decision that he
 -- is to write, once all that the command asked for is answered or lost.
-use Rattle.std.specs.Prelude.{ℕ, ◌+◌, ◌==◌, ◌&&◌, nat_le, if◌then◌else◌, Bool, true, false, List, [], filter}
+use Rattle.std.specs.Prelude.{ℕ, ◌+◌, ◌==◌, ◌&&◌, nat_le, if◌then◌else◌, Bool, false, List, [], filter}
 use Rattle.std.specs.Prelude.{length, map, Option, Some, None, is_some, option_and_then}
 use Rattle.std.specs.List.{list_all}
 use Rattle.std.specs.Option.{option_map_or}

@@ -8,7 +8,8 @@ use Rattle.qc_stamp.specs.declared.stamp.TxId.{TxId}
 use Rattle.qc_stamp.specs.Vocabulary.{same_tx}
 use Rattle.qc_entry.specs.declared.line.Line.{Line}
 use Rattle.qc_entry.specs.declared.line.OwnLine.{OwnLine}
-use Rattle.qc_entry.specs.Vocabulary.{line_cmp}
+use Rattle.qc_entry.specs.declared.mark.Mark.{Mark}
+use Rattle.qc_entry.specs.Vocabulary.{line_cmp, no_mark}
 use Rattle.qc_plan.specs.Vocabulary.{next_site, verdict}
 use Rattle.qc_plan.specs.declared.standing.Verdict.{Verdict}
 use Rattle.qc_plan.specs.declared.standing.Verdict.TheVariants as verdicts
@@ -16,6 +17,7 @@ use Rattle.qc_decl.specs.Vocabulary.{append_need_of, read_need_of}
 use Rattle.qc_decl.specs.declared.declaration.Declaration.{Declaration}
 use Rattle.qc_msg.specs.declared.message.Want.{Want}
 use Rattle.qc_msg.specs.declared.message.Want.TheVariants.{Read, Append, Prepare}
+use Rattle.qc_msg.specs.declared.payload.ReadRequest.{ReadRequest}
 use Rattle.qc_msg.specs.declared.step.Command.{Command}
 use Rattle.qc_msg.specs.declared.step.Command.TheVariants.{Begin, Do, Commit, Abort, Epoch}
 use Rattle.qc_msg.specs.Vocabulary.{life_of}
@@ -68,6 +70,13 @@ carries decl t object view own None = false
 carries decl t object view own (Some event) =
     pointwise same_line view (view_of t object) && pointwise same_own own (own_appended decl t object event)
 
+-- a Read of this invocation, by a client that keeps this mark
+abbrev pub same_mark : Mark → Mark → Bool
+same_mark a b = (a.life == b.life) && ((a.epoch == b.epoch) && (a.count == b.count))
+
+abbrev pub reads_as : ℕ → ℕ → Mark → ReadRequest → Bool
+reads_as object inv mark r = (r.object == object) && ((r.inv == inv) && same_mark r.mark mark)
+
 -- the weight that the event that answers has to have to append
 abbrev pub append_need : Declaration → Current → ℕ → ℕ → ℕ
 append_need decl t object inv = option_map_or (append_need_of decl t.epoch object) (answer_of decl t object inv) 0
@@ -76,7 +85,7 @@ append_need decl t object inv = option_map_or (append_need_of decl t.epoch objec
 
 abbrev pub do_asks : Declaration → Account → Current → ℕ → ℕ → ℕ → Want → Bool
 do_asks decl d t object inv site (Read read) =
-    ((read.object == object) && (read.inv == inv))
+    reads_as object inv no_mark read
     && (is_next_voter decl d t is_read (read_need_of decl t.epoch object inv) site
     && (length (requests_for is_append d) == 0))
 do_asks decl d t object inv site (Append o view own) =

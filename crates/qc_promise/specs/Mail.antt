@@ -1,10 +1,9 @@
 -- Messages reach those whom they were sent to: each has its number, who takes it is its receiver, an answer comes from
 -- who was asked, to who asked; and what an actor takes as lost is a request of its own.
-use Rattle.std.specs.Prelude.{[], MatchOption, ◌≡◌, ℕ, Bool, true, false, List, ◌∷◌, ◌++◌, length, Option, Some, None}
+use Rattle.std.specs.Prelude.{[], MatchOption, ◌≡◌, ℕ, Bool, true, List, ◌∷◌, ◌++◌, length, Option, Some, None}
 use Rattle.std.specs.Prelude.{slice_get, option_to_list}
 use Rattle.qc_msg.specs.declared.message.Envelope.{Envelope}
 use Rattle.qc_msg.specs.declared.message.Message.{Message}
-use Rattle.qc_msg.specs.declared.message.Message.TheVariants as messages
 use Rattle.qc_msg.specs.declared.step.Step.{Step}
 use Rattle.qc_msg.specs.Vocabulary.{Answered, Entry, answer_in, envelope_of, Mailed, lost_in, mailed_in, received_in}
 use Rattle.qc_msg.specs.Vocabulary.{wants_answer}

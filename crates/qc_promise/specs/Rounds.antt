@@ -1,26 +1,24 @@
 -- How far a command has come: a half of a `do` is a round over the sites that it asked, a commit a vote of
 -- participants.
 use Rattle.std.specs.Prelude.{[], ℕ, ◌+◌, ◌==◌, ◌&&◌, Bool, List, ◌∷◌, ◌++◌, drop, filter, length, map, is_some}
-use Rattle.std.specs.Prelude.{slice_get, unwrap_or, Option, Some, None, option_map, option_and_then}
+use Rattle.std.specs.Prelude.{Option, Some, None, option_map, option_and_then}
 use Rattle.std.specs.List.{list_all}
 use Rattle.std.specs.Option.{option_map_or, option_or}
 use Rattle.qc_entry.specs.declared.line.Line.{Line}
 use Rattle.qc_entry.specs.declared.line.OwnLine.{OwnLine}
-use Rattle.qc_table.specs.declared.row.Event.{Event}
-use Rattle.qc_table.specs.Vocabulary.{Rules, after, events_of, first_of, step_of}
-use Rattle.qc_plan.specs.declared.plan.Plan.{Plan}
+use Rattle.qc_table.specs.Vocabulary.{Rules, after, first_of, step_of}
 use Rattle.qc_plan.specs.declared.standing.Asked.{Asked}
 use Rattle.qc_plan.specs.declared.standing.Standing.{Standing}
 use Rattle.qc_plan.specs.declared.standing.Standing.TheVariants as standings
 use Rattle.qc_plan.specs.Vocabulary.{RoundState, cyclic, start}
-use Rattle.qc_decl.specs.Vocabulary.{first_site, plan_in, table_at}
+use Rattle.qc_decl.specs.Vocabulary.{first_site, table_at}
 use Rattle.qc_decl.specs.declared.declaration.Declaration.{Declaration}
 use Rattle.qc_msg.specs.declared.message.Answer.{Answer}
 use Rattle.qc_msg.specs.declared.message.Answer.TheVariants as answers
 use Rattle.qc_msg.specs.declared.message.Want.{Want}
 use Rattle.qc_msg.specs.declared.reply.AbortCause.{AbortCause}
 use Rattle.qc_msg.specs.declared.reply.AbortCause.TheVariants as causes
-use Rattle.qc_msg.specs.Vocabulary.{has_granted, Answered, Clashing, clash_in, closed_in, granted_in}
+use Rattle.qc_msg.specs.Vocabulary.{has_granted, Clashing, clash_in, closed_in, granted_in}
 use Rattle.qc_msg.specs.declared.payload.Grant.{Grant}
 use Rattle.qc_promise.specs.Account.{Account, Current, ClientRequest, is_prepare, requests_for, view_of}
 pub use Rattle.qc_decl.specs.Vocabulary.{resp_of, weights_of}

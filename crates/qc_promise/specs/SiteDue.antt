@@ -1,16 +1,14 @@
 -- What a site is to write and to send for what it takes, and as it rises, by what its own steps show: the first row
 -- that applies.
 use Rattle.std.specs.Prelude.{[], ℕ, ◌+◌, ◌==◌, ◌&&◌, nat_lt, nat_le, Bool, true, false, not, if◌then◌else◌, is_some}
-use Rattle.std.specs.Prelude.{List, ◌∷◌, ◌++◌, map, take, fold, Option, Some, None, option_map}
+use Rattle.std.specs.Prelude.{List, ◌∷◌, ◌++◌, map, take, drop, fold, length, Option, Some, None, option_map}
 use Rattle.std.specs.Option.{option_map_or, option_or}
-use Rattle.std.specs.Ordering.{on}
-use Rattle.std.specs.declared.cmp.Ordering.{Ordering}
 use Rattle.qc_list.specs.Vocabulary.{inserted}
 use Rattle.qc_stamp.specs.declared.stamp.TxId.{TxId}
-use Rattle.qc_stamp.specs.Vocabulary.{tx_cmp}
 use Rattle.qc_entry.specs.declared.record.Prepared.{Prepared}
-use Rattle.qc_entry.specs.Vocabulary.{of_object, without}
-use Rattle.qc_table.specs.declared.kind.Kind.{Kind}
+use Rattle.qc_entry.specs.declared.line.Line.{Line}
+use Rattle.qc_entry.specs.declared.mark.Mark.{Mark}
+use Rattle.qc_entry.specs.Vocabulary.{log_of, without}
 use Rattle.qc_decl.specs.declared.declaration.Declaration.{Declaration}
 use Rattle.qc_decl.specs.Vocabulary.{client_actor, kind_at, most_record_bytes}
 use Rattle.qc_lock.specs.declared.clash.Clash.{Clash as Conflict}
@@ -32,11 +30,11 @@ use Rattle.qc_msg.specs.Vocabulary.{Decided, Deed, Falls, Requested, Rises, Send
 use Rattle.qc_msg.specs.declared.payload.EpochStart.{EpochStart}
 use Rattle.qc_msg.specs.Vocabulary.{closing_in, decision_in, epoch_length, heard_in, installing_in, prepare_length}
 use Rattle.qc_msg.specs.Vocabulary.{request_in, Clashing, clash_in}
-use Rattle.qc_msg.specs.Vocabulary.{grant_with, snapshot_with}
+use Rattle.qc_msg.specs.Vocabulary.{append_grant, grant_with, snapshot_with}
 use Rattle.qc_promise.specs.Posts.{IsPostOf, TurnDue, quiet_turn, sending}
 use Rattle.qc_promise.specs.SiteClocks.{clock_shown}
 use Rattle.qc_promise.specs.SiteHeld.{held_shown}
-use Rattle.qc_promise.specs.SiteLogs.{log_shown, recorded_shown, since_shown}
+use Rattle.qc_promise.specs.SiteLogs.{arrived_shown, log_shown, recorded_shown, since_shown}
 use Rattle.qc_promise.specs.SitePromises.{is_promised, prepared_shown}
 use Rattle.qc_promise.specs.SiteRecords.{closed_shown, epoch_shown, life_shown}
 pub use Rattle.qc_entry.specs.Vocabulary.{in_order, promise_cmp}
@@ -95,10 +93,21 @@ refusal_due decl ds tx epoch life want = option_or (epoch_refusal ds epoch life)
 
 -- the answer to a request that nothing refuses
 
+-- to a Read all lines of the object, but for those that its mark counts, where that is of this life and epoch; to an
+-- Append none
+
+abbrev pub is_marked : List Deed → Mark → ℕ → Bool
+is_marked ds mark count = (mark.life == life_shown ds) && ((mark.epoch == epoch_shown ds) && nat_le mark.count count)
+
+abbrev pub lines_due : List Deed → List Line → Mark → List Line
+lines_due ds lines mark = log_of (if is_marked ds mark (length lines) then drop mark.count lines else lines)
+
 abbrev pub grant_due : List Deed → Want → Answer
 grant_due ds (Read read) =
-    answers.Granted (grant_with (life_shown ds) (clock_shown ds) (of_object (log_shown ds) read.object))
-grant_due ds (Append object view own) = answers.Granted (grant_with (life_shown ds) (clock_shown ds) [])
+    answers.Granted
+    (grant_with (life_shown ds) (clock_shown ds) (lines_due ds (arrived_shown ds read.object) read.mark)
+    (length (arrived_shown ds read.object)))
+grant_due ds (Append object view own) = answers.Granted (append_grant (life_shown ds) (clock_shown ds))
 grant_due ds Prepare = answers.Yes (clock_shown ds)
 
 -- the client of a transaction is asked how it stands

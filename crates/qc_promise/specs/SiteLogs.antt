@@ -1,16 +1,14 @@
--- The lines that a site knows: those that its epoch began with, those that it learned since, and those of these that
--- its own records give.
-use Rattle.std.specs.Prelude.{List, [], ◌∷◌, ◌++◌, fold, cond, option_and_then}
+-- The lines that a site knows: those that its epoch began with, those that it learned since, those of these that its
+-- own records give, and the order in which it learned them.
+use Rattle.std.specs.Prelude.{ℕ, List, [], ◌∷◌, ◌++◌, fold, cond, option_and_then}
 use Rattle.std.specs.Option.{option_map_or}
 use Rattle.qc_stamp.specs.declared.stamp.Stamp.{Stamp}
 use Rattle.qc_stamp.specs.declared.stamp.TxId.{TxId}
 use Rattle.qc_entry.specs.declared.line.Line.{Line}
 use Rattle.qc_entry.specs.declared.line.OwnLine.{OwnLine}
 use Rattle.qc_entry.specs.declared.record.Prepared.{Prepared}
-use Rattle.qc_entry.specs.Vocabulary.{union, without}
+use Rattle.qc_entry.specs.Vocabulary.{of_object, union, without}
 use Rattle.qc_msg.specs.declared.message.Envelope.{Envelope}
-use Rattle.qc_msg.specs.declared.message.Want.{Want}
-use Rattle.qc_msg.specs.declared.message.Want.TheVariants.{Read, Append, Prepare}
 use Rattle.qc_msg.specs.declared.record.Record.{Record}
 use Rattle.qc_msg.specs.Vocabulary.{Deed, Finished, Requested, done_in, got_in, install_in, prepare_in}
 use Rattle.qc_msg.specs.declared.payload.EpochStart.{EpochStart}
@@ -107,3 +105,31 @@ since_shown ds = (lines_shown ds).since
 -- all lines that it knows
 abbrev pub log_shown : List Deed → List Line
 log_shown ds = union (lines_shown ds).began (lines_shown ds).since
+
+-- All lines that it knows in the order in which they joined since it rose or began its epoch, whichever came later:
+-- what stood there then is in line order, and so is what joins with one deed.
+
+abbrev pub unknown : Lines → List Line → List Line
+unknown l lines = without (without lines l.began) l.since
+
+abbrev pub with_arrived : List Line → Lines → List Record → Deed → List Deed → List Line
+with_arrived arrived l before d after =
+    option_map_or (λ (i : EpochStart). i.lines) (option_and_then install_in (written_in d))
+    (arrived ++ unknown l (joining before d after))
+
+abbrev pub arrived_from : List Line → Lines → List Record → List Deed → List Line
+arrived_from arrived l before [] = arrived
+arrived_from arrived l before (d ∷ after) =
+    arrived_from (with_arrived arrived l before d after) (with_joined l before d after) (with_written before d) after
+
+abbrev pub risen_with : Lines → List Line
+risen_with l = union l.began l.since
+
+abbrev pub all_arrived : List Deed → List Line
+all_arrived ds =
+    arrived_from (risen_with (recorded_by (lifetime ds).kept)) (recorded_by (lifetime ds).kept) (lifetime ds).kept
+    (lifetime ds).since
+
+-- those of an object
+abbrev pub arrived_shown : List Deed → ℕ → List Line
+arrived_shown ds object = of_object (all_arrived ds) object

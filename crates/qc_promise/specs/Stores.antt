@@ -5,7 +5,6 @@ use Rattle.std.specs.Option.{option_map_or}
 use Rattle.std.specs.List.{AllByRecursion as Every}
 use Rattle.qc_msg.specs.Vocabulary.{Entry, own, Arming, armed_in, damaged_in, rose_in}
 use Rattle.qc_msg.specs.declared.step.Step.{Step}
-use Rattle.qc_msg.specs.declared.step.Step.TheVariants as steps
 use Rattle.qc_promise.specs.DiskAccount.{DiskAccount, IsEverInTime, IsInTime, disk_account, disk_account_with}
 use Rattle.qc_promise.specs.Kept.{IsGivenBack, IsKeptAt, Journal, journal_of, journal_with}
 use Rattle.qc_msg.specs.declared.record.Record.{Record}

@@ -26,7 +26,7 @@ pub use Rattle.qc_promise.specs.AdminRows.{decided_met, decided_of, decided_row,
 pub use Rattle.qc_promise.specs.AdminRows.{site_set}
 pub use Rattle.qc_promise.specs.Asked.{append_need, are_reads_met, carries, command_asks, commit_asks, do_asks}
 pub use Rattle.qc_promise.specs.Asked.{is_asked_for, is_met, is_next_voter, is_of, is_this, own_appended, same_line}
-pub use Rattle.qc_promise.specs.Asked.{same_own, weighs}
+pub use Rattle.qc_promise.specs.Asked.{reads_as, same_mark, same_own, weighs}
 pub use Rattle.qc_promise.specs.Atomic.{Atomic, HasBefore, IsAfterSeen}
 pub use Rattle.qc_promise.specs.Committed.{commits_by, commits_in, committed, records}
 pub use Rattle.qc_promise.specs.Deals.{Dealing, deal, deal_taken, deal_told, dealing_in, deals, dealt, ended, endings}
@@ -58,14 +58,17 @@ pub use Rattle.qc_promise.specs.SiteClocks.{clocks_written}
 pub use Rattle.qc_promise.specs.SiteDue.{AreDue, IsDueAt, IsDueOrOpen, answers_due, clash_told, close_turn}
 pub use Rattle.qc_promise.specs.SiteDue.{closed_refusal, done_turn, epoch_refusal, fits_record, grant_due}
 pub use Rattle.qc_promise.specs.SiteDue.{granting_turn, heard_turn, inquiries_due, install_turn, is_declared, is_epoch}
-pub use Rattle.qc_promise.specs.SiteDue.{is_new_promise, promise_due, promise_turn, recording_turn, refusal_due}
+pub use Rattle.qc_promise.specs.SiteDue.{is_marked, is_new_promise, lines_due, promise_due, promise_turn}
+pub use Rattle.qc_promise.specs.SiteDue.{recording_turn, refusal_due}
 pub use Rattle.qc_promise.specs.SiteDue.{request_turn, shut_due, telling_turn, turn_due, want_refusal}
 pub use Rattle.qc_promise.specs.SiteEnds.{frees, is_aborted, is_decision, is_ended, is_final, is_over, redeems}
 pub use Rattle.qc_promise.specs.SiteHeld.{Grant, Holding, cuts, grants, held_of_promises, held_shown, holding}
 pub use Rattle.qc_promise.specs.SiteHeld.{is_granted, last_cut, standing, standing_as, standing_by, stands, with_cut}
 pub use Rattle.qc_promise.specs.SiteHeld.{with_promise}
-pub use Rattle.qc_promise.specs.SiteLogs.{Lines, began_shown, begun_with_lines, done_lines, joining, learning}
+pub use Rattle.qc_promise.specs.SiteLogs.{Lines, all_arrived, arrived_from, arrived_shown, began_shown}
+pub use Rattle.qc_promise.specs.SiteLogs.{begun_with_lines, done_lines, joining, learning}
 pub use Rattle.qc_promise.specs.SiteLogs.{lines_done, lines_from, lines_of, lines_shown, log_shown, no_lines}
+pub use Rattle.qc_promise.specs.SiteLogs.{risen_with, unknown, with_arrived}
 pub use Rattle.qc_promise.specs.SiteLogs.{recorded_by, recorded_from, recorded_shown, since_shown, stamped, view_by}
 pub use Rattle.qc_promise.specs.SiteLogs.{view_in, with_given, with_joined, with_written}
 pub use Rattle.qc_promise.specs.SitePromises.{is_promised, left_of, prepared_shown, promise_in, promises_of}

@@ -70,6 +70,7 @@ pub fn installs_begin_anew()
           life = (site_of number rs).life;
           epoch = epoch;
           began = lines;
+          arrived = lines;
           clock = max (latest (site_of number rs).clock lines) clock;
         } }
     ensures late { (number : ℕ) (rs : List Record) (epoch clock done : ℕ) (lines : List Line) (tx : TxId)

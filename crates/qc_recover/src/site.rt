@@ -78,7 +78,7 @@ fn site_by(alloc: Global, number: u8, kept: SiteRecords) -> Result<Site, OutOfMe
         prepared: kept.promises,
         clock: kept.clock,
     };
-    Site::risen(number, state)
+    Site::risen(alloc, number, state)
 }
 
 /// At most so many questions go out at a rise.

@@ -17,7 +17,8 @@ use Rattle.qc_msg.specs.declared.message.Want.TheVariants.{Read, Append, Prepare
 use Rattle.qc_msg.specs.declared.record.Record.TheVariants as records
 use Rattle.qc_msg.specs.declared.turn.Turn.{Turn}
 use Rattle.qc_msg.specs.Vocabulary.{epoch_length}
-use Rattle.qc_msg.specs.Vocabulary.{read_of, start_with}
+use Rattle.qc_msg.specs.declared.payload.ReadRequest.{ReadRequest}
+use Rattle.qc_msg.specs.Vocabulary.{start_with}
 use Rattle.qc_site.specs.Vocabulary.{SiteMove, SiteState, answers, appends, closed, closes_in, dropped, installed}
 use Rattle.qc_site.specs.Vocabulary.{installs, installs_in, is_final, joins, moved, promise_of, promised, reads}
 use Rattle.qc_site.specs.Vocabulary.{recording, site_at}
@@ -40,8 +41,8 @@ install_cases P s from number k clock lines told made =
 -- the state alone: as it was, or changed by a grant, a promise or a decision, or as an epoch is closed or begun
 pub state_cases : (P : SiteState → Type 0) (decl : Declaration) (s : SiteState) (from number : ℕ) (message : Message)
     → P s
-    → ((tx : TxId) (epoch life object inv : ℕ) → message ≡ messages.Request tx epoch life (Read (read_of object inv))
-    → P (reads s from number tx object inv).site)
+    → ((tx : TxId) (epoch life : ℕ) (r : ReadRequest) → message ≡ messages.Request tx epoch life (Read r)
+    → P (reads s from number tx r).site)
     →
     ((tx : TxId) (epoch life object : ℕ) (view : List Line) (own : List OwnLine)
     → message ≡ messages.Request tx epoch life (Append object view own)
@@ -59,8 +60,8 @@ pub state_cases : (P : SiteState → Type 0) (decl : Declaration) (s : SiteState
 state_cases P decl s from number (messages.Request tx epoch life (Read read_here)) same read append promise drop join
     close install =
     request_cases (λ m. P m.site) decl s from number tx epoch life (Read read_here) same (λ fault is. same)
-    (λ is. read_cases (λ m. P m.site) decl s from number tx read_here.object read_here.inv
-    (λ free. read tx epoch life read_here.object read_here.inv refl)
+    (λ is. read_cases (λ m. P m.site) decl s from number tx read_here
+    (λ free. read tx epoch life read_here refl)
     (λ c clash. same))
 state_cases P decl s from number (messages.Request tx epoch life (Append object view own)) same read append promise drop
     join close install =
@@ -89,8 +90,8 @@ state_cases P decl s from number (messages.Install start) same read append promi
 -- the same where the turn begins no epoch
 pub lasting_cases : (P : SiteState → Type 0) (decl : Declaration) (s : SiteState) (from number : ℕ) (message : Message)
     → P s
-    → ((tx : TxId) (epoch life object inv : ℕ) → message ≡ messages.Request tx epoch life (Read (read_of object inv))
-    → P (reads s from number tx object inv).site)
+    → ((tx : TxId) (epoch life : ℕ) (r : ReadRequest) → message ≡ messages.Request tx epoch life (Read r)
+    → P (reads s from number tx r).site)
     →
     ((tx : TxId) (epoch life object : ℕ) (view : List Line) (own : List OwnLine)
     → message ≡ messages.Request tx epoch life (Append object view own)
@@ -110,7 +111,7 @@ lasting_cases P decl s from number message same read append promise drop join cl
         → P (site_at decl s from number m).site
     others m is never =
         state_cases P decl s from number m same
-        (λ tx epoch life object inv this. read tx epoch life object inv (is ∙ this))
+        (λ tx epoch life r this. read tx epoch life r (is ∙ this))
         (λ tx epoch life object view own this. append tx epoch life object view own (is ∙ this))
         promise (λ tx verdict this. drop tx verdict (is ∙ this)) (λ tx stamp p this. join tx stamp p (is ∙ this))
         (λ k this. close k (is ∙ this)) (λ k clock lines this later. absurd (never k clock lines this))
@@ -137,8 +138,8 @@ IsSteady turn = (closes_in turn ≡ false) × (installs_in turn ≡ false)
 
 pub steady_cases : (P : SiteState → Type 0) (decl : Declaration) (s : SiteState) (from number : ℕ) (message : Message)
     → P s
-    → ((tx : TxId) (epoch life object inv : ℕ) → message ≡ messages.Request tx epoch life (Read (read_of object inv))
-    → P (reads s from number tx object inv).site)
+    → ((tx : TxId) (epoch life : ℕ) (r : ReadRequest) → message ≡ messages.Request tx epoch life (Read r)
+    → P (reads s from number tx r).site)
     →
     ((tx : TxId) (epoch life object : ℕ) (view : List Line) (own : List OwnLine)
     → message ≡ messages.Request tx epoch life (Append object view own)
@@ -156,7 +157,7 @@ steady_cases P decl s from number message same read append promise drop join = b
         → IsSteady (site_at decl s from number m).turn → P (site_at decl s from number m).site
     others m is never steady =
         lasting_cases P decl s from number m same
-        (λ tx epoch life object inv this. read tx epoch life object inv (is ∙ this))
+        (λ tx epoch life r this. read tx epoch life r (is ∙ this))
         (λ tx epoch life object view own this. append tx epoch life object view own (is ∙ this))
         promise (λ tx verdict this. drop tx verdict (is ∙ this)) (λ tx stamp p this. join tx stamp p (is ∙ this))
         (λ k this. absurd (never k this)) steady.1

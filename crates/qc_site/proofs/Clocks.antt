@@ -25,7 +25,7 @@ pub clock_on : (decl : Declaration) (s : SiteState) (from number : ℕ) (message
 clock_on decl s from number message =
     let p : SiteState = passed s message in
     state_cases (λ (x : SiteState). p.clock ≤ x.clock) decl p from number message (omega arith)
-    (λ tx epoch life object inv is. omega arith) (λ tx epoch life object view own is. omega arith) (λ tx. omega arith)
+    (λ tx epoch life r is. omega arith) (λ tx epoch life object view own is. omega arith) (λ tx. omega arith)
     (λ tx verdict is final. omega arith) (λ tx stamp q is. omega arith)
     (λ k is. omega arith) (λ k clock lines is later. omega arith)
 

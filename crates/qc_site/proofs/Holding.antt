@@ -23,7 +23,7 @@ use Rattle.qc_msg.specs.declared.message.Message.TheVariants as messages
 use Rattle.qc_msg.specs.declared.message.Outcome.{Outcome}
 use Rattle.qc_msg.specs.declared.message.Outcome.TheVariants.{Committed, Aborted, Active}
 use Rattle.qc_msg.specs.declared.message.Want.TheVariants.{Read, Append}
-use Rattle.qc_msg.specs.Vocabulary.{read_of}
+use Rattle.qc_msg.specs.declared.payload.ReadRequest.{ReadRequest}
 use Rattle.qc_site.specs.Vocabulary.{HasOperation, SiteMove, SiteState, ends, finishes, grants_in, is_final, passed}
 use Rattle.qc_site.specs.Vocabulary.{prepared_of, site_at, site_on, without_prepared}
 use Rattle.qc_site.proofs.RequestCases.{append_cases, fault_grants_not, never, join_cases, read_cases, request_cases}
@@ -113,7 +113,7 @@ kept_at : (P : Held → Type 0) (decl : Declaration) (s : SiteState) (from numbe
     → P (held_of (site_at decl s from number message).site.held tx)
 kept_at P decl s from number message tx given here ongoing =
     steady_cases (λ (x : SiteState). P (held_of x.held tx)) decl s from number message here
-    (λ t epoch life object inv same. given t (record { object = object; inv = inv } ∷ []) [])
+    (λ t epoch life r same. given t (record { object = r.object; inv = r.inv } ∷ []) [])
     (λ t epoch life object view own same. given t [] own)
     (λ t. here) drops (λ t stamp q same. drops t (Committed stamp) same refl)
   where
@@ -146,23 +146,21 @@ abbrev Locks : SiteState → TxId → ReadLock → SiteMove → Type 0
 Locks s tx lock m = grants_in m.turn ≡ true
     → (held_of m.site.held tx).locks ≡ with_locks (held_of s.held tx).locks (lock ∷ [])
 
-read_holds_at : (decl : Declaration) (s : SiteState) (from number : ℕ) (tx : TxId) (epoch life object inv : ℕ)
-    → Locks s tx (record { object = object; inv = inv })
-    (site_at decl s from number (messages.Request tx epoch life (Read (read_of object inv))))
-read_holds_at decl s from number tx epoch life object inv =
-    request_cases (Locks s tx (record { object = object; inv = inv })) decl s from number tx epoch life
-    (Read (read_of object inv)) never
+read_holds_at : (decl : Declaration) (s : SiteState) (from number : ℕ) (tx : TxId) (epoch life : ℕ) (r : ReadRequest)
+    → Locks s tx (record { object = r.object; inv = r.inv })
+    (site_at decl s from number (messages.Request tx epoch life (Read r)))
+read_holds_at decl s from number tx epoch life r =
+    request_cases (Locks s tx (record { object = r.object; inv = r.inv })) decl s from number tx epoch life
+    (Read r) never
     (λ fault is. fault_grants_not _ s epoch life fault is)
-    (λ is. read_cases (Locks s tx (record { object = object; inv = inv })) decl s from number tx object inv
-    (λ free granted. locks_given s.held tx (record { object = object; inv = inv } ∷ []) []) (λ c clash. never))
+    (λ is. read_cases (Locks s tx (record { object = r.object; inv = r.inv })) decl s from number tx r
+    (λ free granted. locks_given s.held tx (record { object = r.object; inv = r.inv } ∷ []) []) (λ c clash. never))
 
-pub read_holds : (decl : Declaration) (s : SiteState) (from number : ℕ) (tx : TxId) (epoch life object inv : ℕ)
-    → Locks s tx (record { object = object; inv = inv })
-    (site_on decl s from number (messages.Request tx epoch life (Read (read_of object inv))))
-read_holds decl s from number tx epoch life object inv =
-    read_holds_at decl (passed s (messages.Request tx epoch life (Read (read_of object inv)))) from number tx epoch life
-    object
-    inv
+pub read_holds : (decl : Declaration) (s : SiteState) (from number : ℕ) (tx : TxId) (epoch life : ℕ) (r : ReadRequest)
+    → Locks s tx (record { object = r.object; inv = r.inv })
+    (site_on decl s from number (messages.Request tx epoch life (Read r)))
+read_holds decl s from number tx epoch life r =
+    read_holds_at decl (passed s (messages.Request tx epoch life (Read r))) from number tx epoch life r
 
 abbrev Owns : SiteState → TxId → List OwnLine → SiteMove → Type 0
 Owns s tx own m = grants_in m.turn ≡ true → (held_of m.site.held tx).own ≡ with_owns (held_of s.held tx).own own

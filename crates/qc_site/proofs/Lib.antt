@@ -12,3 +12,5 @@ pub mod Votes
 pub mod Holding
 pub mod Rows
 pub mod Sorted
+pub mod KnownLines
+pub mod Arrived

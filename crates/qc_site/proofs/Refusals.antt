@@ -20,7 +20,7 @@ use Rattle.qc_msg.specs.declared.message.Outcome.TheVariants.{Committed, Aborted
 use Rattle.qc_msg.specs.declared.message.Want.{Want}
 use Rattle.qc_msg.specs.declared.message.Want.TheVariants.{Read, Append, Prepare}
 use Rattle.qc_msg.specs.declared.turn.Turn.{Turn}
-use Rattle.qc_msg.specs.Vocabulary.{read_of}
+use Rattle.qc_msg.specs.declared.payload.ReadRequest.{ReadRequest}
 use Rattle.qc_site.specs.Vocabulary.{SiteMove, SiteState, answer_of, answers, clashing, fault_of, grants, grants_in}
 use Rattle.qc_site.specs.Vocabulary.{passed, refuses_in, relation_at, site_at, site_on}
 use Rattle.qc_site.proofs.RequestCases.{append_cases, close_cases, fault_grants_not, fault_is, never, join_cases}
@@ -29,30 +29,30 @@ use Rattle.qc_site.proofs.Cases.{install_cases}
 
 -- what is granted conflicts with nothing
 
-read_free_at : (decl : Declaration) (s : SiteState) (from number : ℕ) (tx : TxId) (epoch life object inv : ℕ)
+read_free_at : (decl : Declaration) (s : SiteState) (from number : ℕ) (tx : TxId) (epoch life : ℕ) (r : ReadRequest)
     (holder : Held) (line : OwnLine)
-    → In holder s.held → same_tx holder.tx tx ≡ false → In line holder.own → line.object ≡ object
-    → grants_in (site_at decl s from number (messages.Request tx epoch life (Read (read_of object inv)))).turn ≡ true
-    → depends (relation_at decl object) inv line.event ≡ false
-read_free_at decl s from number tx epoch life object inv holder line holds another own here =
-    request_cases (λ (m : SiteMove). grants_in m.turn ≡ true → depends (relation_at decl object) inv line.event ≡ false)
-    decl s from number tx epoch life (Read (read_of object inv))
-    never (λ fault is. fault_grants_not (depends (relation_at decl object) inv line.event ≡ false) s epoch life fault
-    is)
+    → In holder s.held → same_tx holder.tx tx ≡ false → In line holder.own → line.object ≡ r.object
+    → grants_in (site_at decl s from number (messages.Request tx epoch life (Read r))).turn ≡ true
+    → depends (relation_at decl r.object) r.inv line.event ≡ false
+read_free_at decl s from number tx epoch life r holder line holds another own here =
+    request_cases (λ (m : SiteMove). grants_in m.turn ≡ true
+    → depends (relation_at decl r.object) r.inv line.event ≡ false)
+    decl s from number tx epoch life (Read r)
+    never
+    (λ fault is. fault_grants_not (depends (relation_at decl r.object) r.inv line.event ≡ false) s epoch life fault is)
     (λ is. read_cases (λ (m : SiteMove). grants_in m.turn ≡ true
-    → depends (relation_at decl object) inv line.event ≡ false) decl s from number tx object inv
-    (λ free yes. granted_reads_conflict_with_nothing (relation_at decl object) s.held tx object inv holder line free
-    holds another own here)
+    → depends (relation_at decl r.object) r.inv line.event ≡ false) decl s from number tx r
+    (λ free yes. granted_reads_conflict_with_nothing (relation_at decl r.object) s.held tx r.object r.inv holder line
+    free holds another own here)
     (λ c clash. never))
 
-pub read_conflicts_not : (decl : Declaration) (s : SiteState) (from number : ℕ) (tx : TxId) (epoch life object inv : ℕ)
-    (holder : Held) (line : OwnLine)
-    → grants_in (site_on decl s from number (messages.Request tx epoch life (Read (read_of object inv)))).turn ≡ true
-    → In holder s.held → same_tx holder.tx tx ≡ false → In line holder.own → line.object ≡ object
-    → depends (relation_at decl object) inv line.event ≡ false
-read_conflicts_not decl s from number tx epoch life object inv holder line granted holds another own here =
-    read_free_at decl (passed s (messages.Request tx epoch life (Read (read_of object inv)))) from number tx epoch life
-    object inv
+pub read_conflicts_not : (decl : Declaration) (s : SiteState) (from number : ℕ) (tx : TxId) (epoch life : ℕ)
+    (r : ReadRequest) (holder : Held) (line : OwnLine)
+    → grants_in (site_on decl s from number (messages.Request tx epoch life (Read r))).turn ≡ true
+    → In holder s.held → same_tx holder.tx tx ≡ false → In line holder.own → line.object ≡ r.object
+    → depends (relation_at decl r.object) r.inv line.event ≡ false
+read_conflicts_not decl s from number tx epoch life r holder line granted holds another own here =
+    read_free_at decl (passed s (messages.Request tx epoch life (Read r))) from number tx epoch life r
     holder line holds another own here granted
 
 append_free_at : (decl : Declaration) (s : SiteState) (from number : ℕ) (tx : TxId) (epoch life object : ℕ)
@@ -93,7 +93,7 @@ Unchanged s m = refuses_in m.turn ≡ true → (m.site ≡ s) × (m.turn.write �
 refused_want : (decl : Declaration) (s : SiteState) (from number : ℕ) (tx : TxId) (want : Want)
     → Unchanged s (grants decl s from number tx want)
 refused_want decl s from number tx (Read read) =
-    read_cases (Unchanged s) decl s from number tx read.object read.inv (λ free. never) (λ c clash yes. (refl, refl))
+    read_cases (Unchanged s) decl s from number tx read (λ free. never) (λ c clash yes. (refl, refl))
 refused_want decl s from number tx (Append object view own) =
     append_cases (Unchanged s) decl s from number tx object view own (λ free. never) (λ c clash yes. (refl, refl))
 refused_want decl s from number tx Prepare =
@@ -146,37 +146,35 @@ told_by decl from number IsConflict clash c d smallest is told =
       ap (λ (e : Conflict). clashing decl from number e) same,
     )
 
-abbrev ToldRead : Declaration → SiteState → ℕ → ℕ → TxId → ℕ → ℕ → Conflict → Turn → Type 0
-ToldRead decl s from number tx object inv d turn =
+abbrev ToldRead : Declaration → SiteState → ℕ → ℕ → TxId → ReadRequest → Conflict → Turn → Type 0
+ToldRead decl s from number tx r d turn =
     answer_of turn ≡ Some (says.Clash d.holder d.inv d.event)
-    → IsSmallest (IsReadConflict (relation_at decl object) s.held tx object inv) (Some d)
+    → IsSmallest (IsReadConflict (relation_at decl r.object) s.held tx r.object r.inv) (Some d)
     × (turn ≡ clashing decl from number d)
 
-read_clash_at : (decl : Declaration) (s : SiteState) (from number : ℕ) (tx : TxId) (epoch life object inv : ℕ)
+read_clash_at : (decl : Declaration) (s : SiteState) (from number : ℕ) (tx : TxId) (epoch life : ℕ) (r : ReadRequest)
     (d : Conflict)
-    → ToldRead decl s from number tx object inv d
-    (site_at decl s from number (messages.Request tx epoch life (Read (read_of object inv)))).turn
-read_clash_at decl s from number tx epoch life object inv d =
-    request_cases (λ (m : SiteMove). ToldRead decl s from number tx object inv d m.turn) decl s from number tx epoch
-    life (Read (read_of object inv))
+    → ToldRead decl s from number tx r d
+    (site_at decl s from number (messages.Request tx epoch life (Read r))).turn
+read_clash_at decl s from number tx epoch life r d =
+    request_cases (λ (m : SiteMove). ToldRead decl s from number tx r d m.turn) decl s from number tx epoch
+    life (Read r)
     (λ is. absurd (let none : ⊥ = cc in none))
-    (λ fault is. fault_clashes_not (IsSmallest (IsReadConflict (relation_at decl object) s.held tx object inv) (Some d)
+    (λ fault is. fault_clashes_not
+    (IsSmallest (IsReadConflict (relation_at decl r.object) s.held tx r.object r.inv) (Some d)
     × (answers from number fault ≡ clashing decl from number d)) s epoch life d fault is)
-    (λ is. read_cases (λ (m : SiteMove). ToldRead decl s from number tx object inv d m.turn) decl s from number tx
-    object inv
+    (λ is. read_cases (λ (m : SiteMove). ToldRead decl s from number tx r d m.turn) decl s from number tx r
     (λ free is. absurd (let none : ⊥ = cc in none))
-    (λ c clash. told_by decl from number (IsReadConflict (relation_at decl object) s.held tx object inv)
-    (read_clash (relation_at decl object) s.held tx object inv) c d
-    (reads_are_refused_on_conflict (relation_at decl object) s.held tx object inv) clash))
+    (λ c clash. told_by decl from number (IsReadConflict (relation_at decl r.object) s.held tx r.object r.inv)
+    (read_clash (relation_at decl r.object) s.held tx r.object r.inv) c d
+    (reads_are_refused_on_conflict (relation_at decl r.object) s.held tx r.object r.inv) clash))
 
 pub read_clash_is_smallest : (decl : Declaration) (s : SiteState) (from number : ℕ) (tx : TxId)
-    (epoch life object inv : ℕ) (d : Conflict)
-    → ToldRead decl s from number tx object inv d
-    (site_on decl s from number (messages.Request tx epoch life (Read (read_of object inv)))).turn
-read_clash_is_smallest decl s from number tx epoch life object inv d =
-    read_clash_at decl (passed s (messages.Request tx epoch life (Read (read_of object inv)))) from number tx epoch life
-    object
-    inv d
+    (epoch life : ℕ) (r : ReadRequest) (d : Conflict)
+    → ToldRead decl s from number tx r d
+    (site_on decl s from number (messages.Request tx epoch life (Read r))).turn
+read_clash_is_smallest decl s from number tx epoch life r d =
+    read_clash_at decl (passed s (messages.Request tx epoch life (Read r))) from number tx epoch life r d
 
 abbrev ToldAppend : Declaration → SiteState → ℕ → ℕ → TxId → ℕ → List OwnLine → Conflict → Turn → Type 0
 ToldAppend decl s from number tx object own d turn =

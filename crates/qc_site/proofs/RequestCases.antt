@@ -17,7 +17,8 @@ use Rattle.qc_msg.specs.declared.message.Outcome.TheVariants.{Committed}
 use Rattle.qc_msg.specs.declared.message.Want.{Want}
 use Rattle.qc_msg.specs.declared.message.Want.TheVariants.{Read, Append}
 use Rattle.qc_msg.specs.declared.record.Record.TheVariants as records
-use Rattle.qc_msg.specs.Vocabulary.{epoch_length, quiet, read_of, start_with}
+use Rattle.qc_msg.specs.Vocabulary.{epoch_length, quiet, start_with}
+use Rattle.qc_msg.specs.declared.payload.ReadRequest.{ReadRequest}
 use Rattle.qc_site.specs.Vocabulary.{SiteMove, SiteState, answers, appends, appends_by, clashing, closed, closed_fault}
 use Rattle.qc_site.specs.Vocabulary.{closes, dropped, fault_of, finishes, grants, installed, installs, is_closed_for}
 use Rattle.qc_site.specs.Vocabulary.{is_grant, is_prepared, joins, moved, names_declared, prepare_length, prepared_of}
@@ -79,16 +80,16 @@ request_cases P decl s from number tx epoch life want undeclared refused granted
     by None is = granted is
 
 pub read_cases : (P : SiteMove → Type 0) (decl : Declaration) (s : SiteState) (from number : ℕ) (tx : TxId)
-    (object inv : ℕ)
-    → (read_clash (relation_at decl object) s.held tx object inv ≡ None → P (reads s from number tx object inv))
-    → ((c : Conflict) → read_clash (relation_at decl object) s.held tx object inv ≡ Some c
+    (r : ReadRequest)
+    → (read_clash (relation_at decl r.object) s.held tx r.object r.inv ≡ None → P (reads s from number tx r))
+    → ((c : Conflict) → read_clash (relation_at decl r.object) s.held tx r.object r.inv ≡ Some c
     → P (moved s (clashing decl from number c)))
-    → P (grants decl s from number tx (Read (read_of object inv)))
-read_cases P decl s from number tx object inv free clash =
-    by (read_clash (relation_at decl object) s.held tx object inv) refl
+    → P (grants decl s from number tx (Read r))
+read_cases P decl s from number tx r free clash =
+    by (read_clash (relation_at decl r.object) s.held tx r.object r.inv) refl
   where
-    by : (o : Option Conflict) → read_clash (relation_at decl object) s.held tx object inv ≡ o
-        → P (reads_by decl s from number tx object inv o)
+    by : (o : Option Conflict) → read_clash (relation_at decl r.object) s.held tx r.object r.inv ≡ o
+        → P (reads_by decl s from number tx r o)
     by None is = free is
     by (Some c) is = clash c is
 

@@ -196,14 +196,14 @@ pub number_stays : (decl : Declaration) (s : SiteState) (from number : ℕ) (mes
     → (site_on decl s from number message).site.number ≡ s.number
 number_stays decl s from number message =
     state_cases (λ (x : SiteState). x.number ≡ s.number) decl (passed s message) from number message refl
-    (λ tx epoch life object inv is. refl) (λ tx epoch life object view own is. refl) (λ tx. refl)
+    (λ tx epoch life r is. refl) (λ tx epoch life object view own is. refl) (λ tx. refl)
     (λ tx verdict is final. refl) (λ tx stamp p is. refl) (λ k is. refl) (λ k clock lines is later. refl)
 
 pub life_rises : (decl : Declaration) (s : SiteState) (from number : ℕ) (message : Message)
     → s.life ≤ (site_on decl s from number message).site.life
 life_rises decl s from number message =
     state_cases (λ (x : SiteState). s.life ≤ x.life) decl (passed s message) from number message (omega arith)
-    (λ tx epoch life object inv is. omega arith) (λ tx epoch life object view own is. omega arith) (λ tx. omega arith)
+    (λ tx epoch life r is. omega arith) (λ tx epoch life object view own is. omega arith) (λ tx. omega arith)
     (λ tx verdict is final. omega arith) (λ tx stamp p is. omega arith)
     (λ k is. omega arith) (λ k clock lines is later. omega arith)
 
@@ -211,7 +211,7 @@ pub epoch_rises : (decl : Declaration) (s : SiteState) (from number : ℕ) (mess
     → s.epoch ≤ (site_on decl s from number message).site.epoch
 epoch_rises decl s from number message =
     state_cases (λ (x : SiteState). s.epoch ≤ x.epoch) decl (passed s message) from number message (omega arith)
-    (λ tx epoch life object inv is. omega arith) (λ tx epoch life object view own is. omega arith) (λ tx. omega arith)
+    (λ tx epoch life r is. omega arith) (λ tx epoch life object view own is. omega arith) (λ tx. omega arith)
     (λ tx verdict is final. omega arith) (λ tx stamp p is. omega arith)
     (λ k is. omega arith) (λ k clock lines is later. let above : s.epoch < k = leb-false k s.epoch later in omega arith)
 
@@ -219,40 +219,40 @@ pub steady_stays : (A : Type 0) (part : SiteState → A) (decl : Declaration) (s
     (message : Message)
     → IsSteady (site_on decl s from number message).turn
     → ((x : SiteState) (clock : ℕ) → part (record x { clock = clock }) ≡ part x)
-    → ((x : SiteState) (log recorded : List Line) (held : List Held) (prepared : List Prepared)
-    → part (record x { log = log; recorded = recorded; held = held; prepared = prepared }) ≡ part x)
+    → ((x : SiteState) (log recorded arrived : List Line) (held : List Held) (prepared : List Prepared)
+    → part (record x { log = log; recorded = recorded; arrived = arrived; held = held; prepared = prepared }) ≡ part x)
     → part (site_on decl s from number message).site ≡ part s
 steady_stays A part decl s from number message steady clocked changed =
     let p : SiteState = passed s message in
     let start : part p ≡ part s = clocked s (clock_after s.clock message) in
     steady_cases (λ (x : SiteState). part x ≡ part s) decl p from number message start
-    (λ tx epoch life object inv is. changed p p.log p.recorded _ p.prepared ∙ start)
-    (λ tx epoch life object view own is. changed p _ p.recorded _ p.prepared ∙ start)
-    (λ tx. changed p p.log _ p.held _ ∙ start)
-    (λ tx verdict is final. changed p p.log p.recorded _ _ ∙ start)
-    (λ tx stamp q is. changed p _ _ _ _ ∙ start) steady
+    (λ tx epoch life r is. changed p p.log p.recorded p.arrived _ p.prepared ∙ start)
+    (λ tx epoch life object view own is. changed p _ p.recorded _ _ p.prepared ∙ start)
+    (λ tx. changed p p.log _ p.arrived p.held _ ∙ start)
+    (λ tx verdict is final. changed p p.log p.recorded p.arrived _ _ ∙ start)
+    (λ tx stamp q is. changed p _ _ _ _ _ ∙ start) steady
 
 pub life_stays : (decl : Declaration) (s : SiteState) (from number : ℕ) (message : Message)
     → IsSteady (site_on decl s from number message).turn → (site_on decl s from number message).site.life ≡ s.life
 life_stays decl s from number message steady =
     steady_stays ℕ (λ (x : SiteState). x.life) decl s from number message steady (λ x clock. refl)
-    (λ x log recorded held prepared. refl)
+    (λ x log recorded arrived held prepared. refl)
 
 pub epoch_stays : (decl : Declaration) (s : SiteState) (from number : ℕ) (message : Message)
     → IsSteady (site_on decl s from number message).turn → (site_on decl s from number message).site.epoch ≡ s.epoch
 epoch_stays decl s from number message steady =
     steady_stays ℕ (λ (x : SiteState). x.epoch) decl s from number message steady (λ x clock. refl)
-    (λ x log recorded held prepared. refl)
+    (λ x log recorded arrived held prepared. refl)
 
 pub closing_stays : (decl : Declaration) (s : SiteState) (from number : ℕ) (message : Message)
     → IsSteady (site_on decl s from number message).turn
     → (site_on decl s from number message).site.closed_for ≡ s.closed_for
 closing_stays decl s from number message steady =
     steady_stays (Option ℕ) (λ (x : SiteState). x.closed_for) decl s from number message steady (λ x clock. refl)
-    (λ x log recorded held prepared. refl)
+    (λ x log recorded arrived held prepared. refl)
 
 pub began_stays : (decl : Declaration) (s : SiteState) (from number : ℕ) (message : Message)
     → IsSteady (site_on decl s from number message).turn → (site_on decl s from number message).site.began ≡ s.began
 began_stays decl s from number message steady =
     steady_stays (List Line) (λ (x : SiteState). x.began) decl s from number message steady (λ x clock. refl)
-    (λ x log recorded held prepared. refl)
+    (λ x log recorded arrived held prepared. refl)

@@ -126,11 +126,11 @@ sorted_at : (decl : Declaration) (s : SiteState) (from number : ℕ) (message : 
     → IsMessageSorted message → IsSiteSorted (site_at decl s from number message).site
 sorted_at decl s from number message w sorted =
     state_cases IsSiteSorted decl s from number message w
-    (λ tx epoch life object inv is. record {
+    (λ tx epoch life r is. record {
       began = w.began;
       log = w.log;
       recorded = w.recorded;
-      held = sound-held s.held tx (record { object = object; inv = inv } ∷ []) [] w.held;
+      held = sound-held s.held tx (record { object = r.object; inv = r.inv } ∷ []) [] w.held;
       prepared = w.prepared;
     })
     (λ tx epoch life object view own is.

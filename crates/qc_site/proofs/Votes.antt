@@ -99,7 +99,7 @@ prepare_backs s from number tx =
 want_backs : (decl : Declaration) (s : SiteState) (from number : ℕ) (tx : TxId) (want : Want)
     → Backs s from number tx (grants decl s from number tx want)
 want_backs decl s from number tx (Read read) =
-    read_cases (Backs s from number tx) decl s from number tx read.object read.inv (λ free. never) (λ c clash. never)
+    read_cases (Backs s from number tx) decl s from number tx read (λ free. never) (λ c clash. never)
 want_backs decl s from number tx (Append object view own) =
     append_cases (Backs s from number tx) decl s from number tx object view own (λ free. never) (λ c clash. never)
 want_backs decl s from number tx Prepare = prepare_backs s from number tx
@@ -130,7 +130,7 @@ stands_at : (decl : Declaration) (s : SiteState) (from number : ℕ) (message : 
     → prepared_of (site_at decl s from number message).site.prepared tx ≡ Some p
 stands_at decl s from number message tx p is ongoing =
     lasting_cases (λ (x : SiteState). prepared_of x.prepared tx ≡ Some p) decl s from number message is
-    (λ t epoch life object inv same. is) (λ t epoch life object view own same. is)
+    (λ t epoch life r same. is) (λ t epoch life object view own same. is)
     (λ t. prepared_first s.prepared (promise_of s t) p tx is)
     (λ t verdict same final. drops t verdict same final)
     (λ t stamp q same. drops t (Committed stamp) same refl) (λ k same. is)

@@ -58,6 +58,7 @@ installed s k clock lines =
       began = lines;
       log = [];
       recorded = [];
+      arrived = lines;
       held = [];
       prepared = [];
       clock = max s.clock clock;

@@ -6,6 +6,7 @@ pub mod Epochs
 pub mod Conduct
 pub mod Told
 pub mod Vote
+pub mod Arrived
 pub mod Brought
 pub mod Ended
 pub mod Sorted

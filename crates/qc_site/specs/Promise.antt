@@ -18,7 +18,7 @@ use Rattle.qc_msg.specs.declared.turn.Appended.TheVariants.{Done}
 use Rattle.qc_msg.specs.declared.turn.Turn.{Turn}
 pub use Rattle.qc_msg.specs.Lengths.{prepare_length}
 use Rattle.qc_msg.specs.Vocabulary.{quiet}
-use Rattle.qc_site.specs.Site.{SiteState, SiteMove, learned, moved, answers, recording}
+use Rattle.qc_site.specs.Site.{SiteState, SiteMove, arriving, learned, moved, answers, recording}
 pub use Rattle.qc_entry.specs.Vocabulary.{stamped}
 
 -- what the site would promise: all that the transaction holds, and the lines that no record gives yet
@@ -93,7 +93,11 @@ joins s tx stamp None = moved (dropped s tx) quiet
 joins s tx stamp (Some p) =
     let lines : List Line = lines_of stamp tx p.own in
     moved
-    (record (dropped s tx) { log = learned s lines; recorded = union s.recorded (without lines s.began) })
+    (record (dropped s tx) {
+      log = learned s lines;
+      recorded = union s.recorded (without lines s.began);
+      arrived = arriving s lines;
+    })
     (records_done tx stamp)
 
 -- a Decision

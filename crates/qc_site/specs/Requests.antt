@@ -1,10 +1,10 @@
 -- What a site does for a request: epoch and life first, then locks (Herlihy 1986).
 use Rattle.std.specs.Prelude.{ℕ, ◌==◌, nat_lt, Bool, true, if◌then◌else◌, ◌&&◌, is_some, List, [], ◌∷◌, Option, Some}
-use Rattle.std.specs.Prelude.{None}
+use Rattle.std.specs.Prelude.{None, length}
 use Rattle.qc_stamp.specs.declared.stamp.TxId.{TxId}
 use Rattle.qc_entry.specs.declared.line.Line.{Line}
 use Rattle.qc_entry.specs.declared.line.OwnLine.{OwnLine}
-use Rattle.qc_entry.specs.Vocabulary.{of_object}
+use Rattle.qc_entry.specs.Vocabulary.{of_object, told}
 use Rattle.qc_decl.specs.declared.declaration.Declaration.{Declaration}
 use Rattle.qc_decl.specs.Vocabulary.{client_actor, kind_at}
 use Rattle.qc_lock.specs.declared.clash.Clash.{Clash as Conflict}
@@ -16,8 +16,10 @@ use Rattle.qc_msg.specs.declared.message.Want.{Want}
 use Rattle.qc_msg.specs.declared.message.Want.TheVariants.{Read, Append, Prepare}
 use Rattle.qc_msg.specs.declared.turn.Turn.{Turn}
 use Rattle.qc_msg.specs.Vocabulary.{sending}
-use Rattle.qc_msg.specs.Vocabulary.{grant_with}
-use Rattle.qc_site.specs.Site.{SiteState, SiteMove, moved, answering, answers, known, learned}
+use Rattle.qc_msg.specs.Vocabulary.{append_grant, grant_with}
+use Rattle.qc_msg.specs.declared.payload.Grant.{Grant}
+use Rattle.qc_msg.specs.declared.payload.ReadRequest.{ReadRequest}
+use Rattle.qc_site.specs.Site.{SiteState, SiteMove, moved, answering, answers, arriving, learned}
 use Rattle.qc_site.specs.Promise.{prepares}
 pub use Rattle.qc_decl.specs.Vocabulary.{relation_at}
 
@@ -41,25 +43,32 @@ abbrev pub clashing : Declaration → ℕ → ℕ → Conflict → Turn
 clashing decl from number c = sending (answering from number (Clash c.holder c.inv c.event)
     ∷ record { to = client_actor decl c.holder.client; message = messages.Inquiry c.holder } ∷ [])
 
--- a Read: the lock is held, and all known lines of the object are granted
+-- a Read: the lock is held, and those of the known lines of the object are granted that its mark doesn't count
 
-abbrev pub reads : SiteState → ℕ → ℕ → TxId → ℕ → ℕ → SiteMove
-reads s from number tx object inv =
+abbrev pub arrived_of : SiteState → ℕ → List Line
+arrived_of s object = of_object s.arrived object
+
+abbrev pub grant_told : SiteState → ReadRequest → Grant
+grant_told s r =
+    grant_with s.life s.clock (told s.life s.epoch (arrived_of s r.object) r.mark) (length (arrived_of s r.object))
+
+abbrev pub reads : SiteState → ℕ → ℕ → TxId → ReadRequest → SiteMove
+reads s from number tx r =
     moved
-    (record s { held = with_held s.held tx (record { object = object; inv = inv } ∷ []) [] })
-    (answers from number (Granted (grant_with s.life s.clock (of_object (known s) object))))
+    (record s { held = with_held s.held tx (record { object = r.object; inv = r.inv } ∷ []) [] })
+    (answers from number (Granted (grant_told s r)))
 
-abbrev pub reads_by : Declaration → SiteState → ℕ → ℕ → TxId → ℕ → ℕ → Option Conflict → SiteMove
-reads_by decl s from number tx object inv None = reads s from number tx object inv
-reads_by decl s from number tx object inv (Some c) = moved s (clashing decl from number c)
+abbrev pub reads_by : Declaration → SiteState → ℕ → ℕ → TxId → ReadRequest → Option Conflict → SiteMove
+reads_by decl s from number tx r None = reads s from number tx r
+reads_by decl s from number tx r (Some c) = moved s (clashing decl from number c)
 
 -- an Append: the lines of its view are learned, and its own lines are held
 
 abbrev pub appends : SiteState → ℕ → ℕ → TxId → List Line → List OwnLine → SiteMove
 appends s from number tx view own =
     moved
-    (record s { log = learned s view; held = with_held s.held tx [] own })
-    (answers from number (Granted (grant_with s.life s.clock [])))
+    (record s { log = learned s view; arrived = arriving s view; held = with_held s.held tx [] own })
+    (answers from number (Granted (append_grant s.life s.clock)))
 
 abbrev pub appends_by : Declaration → SiteState → ℕ → ℕ → TxId → List Line → List OwnLine → Option Conflict → SiteMove
 appends_by decl s from number tx view own None = appends s from number tx view own
@@ -67,9 +76,8 @@ appends_by decl s from number tx view own (Some c) = moved s (clashing decl from
 
 -- a request of the site's epoch and life
 abbrev pub grants : Declaration → SiteState → ℕ → ℕ → TxId → Want → SiteMove
-grants decl s from number tx (Read read) =
-    reads_by decl s from number tx read.object read.inv
-    (read_clash (relation_at decl read.object) s.held tx read.object read.inv)
+grants decl s from number tx (Read r) =
+    reads_by decl s from number tx r (read_clash (relation_at decl r.object) s.held tx r.object r.inv)
 grants decl s from number tx (Append object view own) =
     appends_by decl s from number tx view own (append_clash (relation_at decl object) s.held tx own)
 grants decl s from number tx Prepare = prepares s from number tx

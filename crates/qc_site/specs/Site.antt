@@ -1,5 +1,5 @@
 -- A site's state, and what it answers.
-use Rattle.std.specs.Prelude.{ℕ, List, [], ◌∷◌, Option, Some, None}
+use Rattle.std.specs.Prelude.{ℕ, List, [], ◌∷◌, ◌++◌, Option, Some, None}
 use Rattle.qc_entry.specs.declared.line.Line.{Line}
 use Rattle.qc_entry.specs.declared.record.Prepared.{Prepared}
 use Rattle.qc_entry.specs.Vocabulary.{union, without}
@@ -25,6 +25,8 @@ pub record SiteState : Type 0 where
   pub began : List Line
   pub log : List Line
   pub recorded : List Line
+  -- all that it knows, in the order in which they joined since it rose or began its epoch, whichever came later
+  pub arrived : List Line
   -- what each unfinished transaction holds
   pub held : List Held
   -- the transactions that it has promised to keep, in the order of its promises
@@ -50,6 +52,7 @@ new_site number =
       began = [];
       log = [];
       recorded = [];
+      arrived = [];
       held = [];
       prepared = [];
       clock = 0;
@@ -62,6 +65,13 @@ known s = union s.began s.log
 -- it learns lines: those that its epoch didn't begin with join the log
 abbrev pub learned : SiteState → List Line → List Line
 learned s lines = union s.log (without lines s.began)
+
+-- those that it didn't know, which come last
+abbrev pub fresh : SiteState → List Line → List Line
+fresh s lines = without (without lines s.began) s.log
+
+abbrev pub arriving : SiteState → List Line → List Line
+arriving s lines = s.arrived ++ fresh s lines
 
 -- the answer to the request of this number, to its sender
 abbrev pub answering : ℕ → ℕ → Answer → Posting

@@ -1,4 +1,5 @@
 -- What proofs, and other crates, name of this crate's definitions.
+pub use Rattle.qc_site.specs.Arrived.{HasArrived}
 pub use Rattle.qc_site.specs.Brought.{brought, lines_promised, stamps_at, stamps_given, stamps_in, stamps_of}
 pub use Rattle.qc_site.specs.Brought.{stamps_taken, stamps_told, view_in}
 pub use Rattle.qc_site.specs.Conduct.{clock_after, clock_asked, clock_told, latest, passed, site_after, site_at}
@@ -11,8 +12,12 @@ pub use Rattle.qc_site.specs.Promise.{dropped, finishes, is_prepared, joins, lin
 pub use Rattle.qc_site.specs.Promise.{prepares, promise_of, promised, promises, records_done, stamped, votes}
 pub use Rattle.qc_site.specs.Promise.{with_stamped, without_prepared}
 pub use Rattle.qc_site.specs.Requests.{appends, appends_by, clashing, closed_fault, fault_of, grants, life_fault}
-pub use Rattle.qc_site.specs.Requests.{names_declared, names_object, reads, reads_by, relation_at, requested}
-pub use Rattle.qc_site.specs.Site.{SiteMove, SiteState, answering, answers, known, learned, moved, new_site, recording}
+pub use Rattle.qc_site.specs.Requests.{arrived_of, grant_told, names_declared, names_object, reads, reads_by}
+pub use Rattle.qc_site.specs.Requests.{relation_at}
+pub use Rattle.qc_site.specs.Requests.{requested}
+pub use Rattle.qc_site.specs.Site.{SiteMove, SiteState, answering, answers, arriving, fresh, known, learned, moved}
+pub use Rattle.qc_site.specs.Site.{new_site}
+pub use Rattle.qc_site.specs.Site.{recording}
 pub use Rattle.qc_site.specs.Sorted.{AreDeedsSorted, ArePromisesSorted, IsGivenSorted, IsMessageSorted, IsSiteSorted}
 pub use Rattle.qc_site.specs.Told.{answer_of, closes_in, grants_in, installs_in, is_grant, is_vote, refuses_in}
 pub use Rattle.qc_site.specs.Told.{votes_in}

@@ -1,6 +1,7 @@
 //! How a site learns that a transaction ended.
 
-ghost use Rattle.std.specs.Prelude.{◌≡◌, IfOk, OnErr};
+ghost use Rattle.std.specs.Prelude.{◌≡◌, ◌++◌, IfOk, OnErr, OnOk};
+ghost use Rattle.qc_entry.specs.Log.{union, without};
 ghost use Rattle.qc_site.specs.Promise.{dropped, finishes, joins, lines_of, prepared_of, records_done};
 ghost use Rattle.qc_entry.specs.Line.{stamped};
 
@@ -44,9 +45,29 @@ impl Site {
             return Ok(Turn::quiet(alloc));
         };
         let lines = lines_of(alloc, stamp, tx, promise.own.items())?.without(&self.began)?;
-        self.recorded.merge_both(&mut self.log, &lines)?;
+        self.learn_both(&lines)?;
         self.forget(tx);
         Ok(records_done(alloc, tx, stamp))
+    }
+
+    /// Learns lines that its epoch didn't begin with, and that its records will
+    /// give.
+    fn learn_both(&mut self, lines: &Log) -> Result<(), OutOfMemory>
+        ensures ok { OnOk result (self.new ≡ record self.old {
+          log = union self.old.log lines.now;
+          recorded = union self.old.recorded lines.now;
+          arrived = self.old.arrived ++ without lines.now self.old.log;
+        }) }
+        ensures err { OnErr result (self.new ≡ self.old) }
+    {
+        let fresh = lines.without(&self.log)?;
+        let count = self.arrived.count();
+        self.arrived.join(fresh.lines())?;
+        let both = self.recorded.merge_both(&mut self.log, lines);
+        if both.is_err() {
+            self.arrived.truncate(count);
+        }
+        both
     }
 
     /// Drops all that is held and promised of a transaction. It takes no

@@ -1,8 +1,8 @@
 //! The lines that a site knows: those that its epoch began with, and its log.
 
 ghost use Rattle.std.specs.Prelude.{◌≡◌, IfOk, unwrap_or};
-ghost use Rattle.qc_entry.specs.Log.{of_object};
-ghost use Rattle.qc_site.specs.Site.{known, learned};
+ghost use Rattle.qc_entry.specs.Log.{union};
+ghost use Rattle.qc_site.specs.Site.{fresh, known, learned};
 
 use crate::Site;
 use qc_entry::Log;
@@ -13,20 +13,14 @@ impl Site {
     pub(crate) fn known(&self) -> Result<Log, OutOfMemory>
         ensures { IfOk result (λ l. l ≡ known self.now) }
     {
-        match self.began.union(&self.log)? {
-            Some(all) => Ok(all),
-            None => self.began.copy(),
-        }
+        both(&self.began, &self.log)
     }
 
-    /// Those of one object. In the first epoch nothing is merged.
-    pub(crate) fn known_of(&self, object: u8) -> Result<Log, OutOfMemory>
-        ensures { IfOk result (λ l. l ≡ of_object (known self.now) object) }
+    /// Those of these lines that it didn't know.
+    pub(crate) fn fresh(&self, lines: &Log) -> Result<Log, OutOfMemory>
+        ensures { IfOk result (λ l. l ≡ fresh self.now lines.now) }
     {
-        if self.began.lines().is_empty() {
-            return self.log.of(object);
-        }
-        self.known()?.of(object)
+        lines.without(&self.began)?.without(&self.log)
     }
 
     /// The log with the lines that it learns, or `None` where these bring
@@ -38,5 +32,15 @@ impl Site {
             return self.log.union(lines);
         }
         self.log.union(&lines.without(&self.began)?)
+    }
+}
+
+/// The lines of two logs, in memory of their own.
+pub(crate) fn both(first: &Log, second: &Log) -> Result<Log, OutOfMemory>
+    ensures { IfOk result (λ l. l ≡ union first.now second.now) }
+{
+    match first.union(second)? {
+        Some(all) => Ok(all),
+        None => first.copy(),
     }
 }

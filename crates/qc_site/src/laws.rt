@@ -33,7 +33,7 @@ ghost use Rattle.qc_msg.specs.declared.message.Want.TheVariants.{Read, Append};
 ghost use Rattle.qc_msg.specs.declared.record.Record.TheVariants as records;
 ghost use Rattle.qc_msg.specs.declared.step.Command.{Command};
 ghost use Rattle.qc_msg.specs.declared.step.Input.TheVariants.{Called, Lost};
-ghost use Rattle.qc_msg.specs.Payloads.{read_of};
+ghost use Rattle.qc_msg.specs.declared.payload.ReadRequest.{ReadRequest};
 ghost use Rattle.qc_site.specs.Brought.{brought, stamps_in, stamps_taken};
 ghost use Rattle.qc_site.specs.Conduct.{decision_on, passed, request_on, site_after, site_on, site_takes};
 ghost use Rattle.qc_site.specs.Ended.{ends};
@@ -67,11 +67,11 @@ pub fn clocks_pass_what_comes()
 /// another transaction holds. Where an Append is granted, no invocation of a read lock that another
 /// transaction holds depends on the event of one of its lines.
 pub fn grants_conflict_with_nothing()
-    ensures read { (decl : Declaration) (s : SiteState) (from number : ℕ) (tx : TxId) (epoch life object inv : ℕ)
+    ensures read { (decl : Declaration) (s : SiteState) (from number : ℕ) (tx : TxId) (epoch life : ℕ) (r : ReadRequest)
         (holder : Held) (line : OwnLine)
-        → grants_in (request_on decl s from number tx epoch life (Read (read_of object inv))).turn ≡ true
-        → IsAmong holder s.held → same_tx holder.tx tx ≡ false → IsAmong line holder.own → line.object ≡ object
-        → depends (relation_at decl object) inv line.event ≡ false }
+        → grants_in (request_on decl s from number tx epoch life (Read r)).turn ≡ true
+        → IsAmong holder s.held → same_tx holder.tx tx ≡ false → IsAmong line holder.own → line.object ≡ r.object
+        → depends (relation_at decl r.object) r.inv line.event ≡ false }
     ensures append { (decl : Declaration) (s : SiteState) (from number : ℕ) (tx : TxId) (epoch life object : ℕ)
         (view : List Line) (own : List OwnLine) (line : OwnLine) (holder : Held) (lock : ReadLock)
         → grants_in (request_on decl s from number tx epoch life (Append object view own)).turn ≡ true
@@ -90,12 +90,12 @@ pub fn refusals_change_nothing()
 /// A clash that is told is the smallest conflict, and the client of its holder is asked in the same
 /// turn.
 pub fn clashes_are_the_smallest()
-    ensures read { (decl : Declaration) (s : SiteState) (from number : ℕ) (tx : TxId) (epoch life object inv : ℕ)
+    ensures read { (decl : Declaration) (s : SiteState) (from number : ℕ) (tx : TxId) (epoch life : ℕ) (r : ReadRequest)
         (c : Conflict)
-        → answer_of (request_on decl s from number tx epoch life (Read (read_of object inv))).turn
+        → answer_of (request_on decl s from number tx epoch life (Read r)).turn
         ≡ Some (Clash c.holder c.inv c.event)
-        → IsSmallest (IsReadConflict (relation_at decl object) s.held tx object inv) (Some c)
-        × ((request_on decl s from number tx epoch life (Read (read_of object inv))).turn
+        → IsSmallest (IsReadConflict (relation_at decl r.object) s.held tx r.object r.inv) (Some c)
+        × ((request_on decl s from number tx epoch life (Read r)).turn
         ≡ clashing decl from number c) }
     ensures append { (decl : Declaration) (s : SiteState) (from number : ℕ) (tx : TxId) (epoch life object : ℕ)
         (view : List Line) (own : List OwnLine) (c : Conflict)
@@ -108,10 +108,10 @@ pub fn clashes_are_the_smallest()
 
 /// What is granted is held: the lock of a Read, and the own lines of an Append.
 pub fn grants_are_held()
-    ensures read { (decl : Declaration) (s : SiteState) (from number : ℕ) (tx : TxId) (epoch life object inv : ℕ)
-        → grants_in (request_on decl s from number tx epoch life (Read (read_of object inv))).turn ≡ true
-        → (held_of (request_on decl s from number tx epoch life (Read (read_of object inv))).site.held tx).locks
-        ≡ with_locks (held_of s.held tx).locks (record { object = object; inv = inv } ∷ []) }
+    ensures read { (decl : Declaration) (s : SiteState) (from number : ℕ) (tx : TxId) (epoch life : ℕ) (r : ReadRequest)
+        → grants_in (request_on decl s from number tx epoch life (Read r)).turn ≡ true
+        → (held_of (request_on decl s from number tx epoch life (Read r)).site.held tx).locks
+        ≡ with_locks (held_of s.held tx).locks (record { object = r.object; inv = r.inv } ∷ []) }
     ensures append { (decl : Declaration) (s : SiteState) (from number : ℕ) (tx : TxId) (epoch life object : ℕ)
         (view : List Line) (own : List OwnLine)
         → grants_in (request_on decl s from number tx epoch life (Append object view own)).turn ≡ true
@@ -172,19 +172,6 @@ pub fn promises_stand()
         → prepared_of s.prepared tx ≡ Some p → ends message tx ≡ false
         → installs_in (site_on decl s from number message).turn ≡ false
         → prepared_of (site_on decl s from number message).site.prepared tx ≡ Some p }
-{}
-
-/// Until the site begins another epoch, what its own began with stays, and the log gains just what that
-/// lacks of the view of an Append that is granted, or of the own lines that were promised of a
-/// committed transaction, with its stamp.
-pub fn logs_gain_what_is_brought()
-    ensures log { (decl : Declaration) (s : SiteState) (from number : ℕ) (message : Message)
-        → installs_in (site_on decl s from number message).turn ≡ false
-        → (site_on decl s from number message).site.log
-        ≡ learned s (brought s.prepared (grants_in (site_on decl s from number message).turn) message) }
-    ensures began { (decl : Declaration) (s : SiteState) (from number : ℕ) (message : Message)
-        → installs_in (site_on decl s from number message).turn ≡ false
-        → (site_on decl s from number message).site.began ≡ s.began }
 {}
 
 /// Lines ascend, each transaction has one entry that holds something, and locks and own lines ascend in

@@ -24,6 +24,7 @@ mod epochs;
 mod grants;
 mod known;
 mod laws;
+mod line_laws;
 mod promise;
 mod readers;
 mod requests;
@@ -35,8 +36,9 @@ pub use epochs::held_by;
 pub use laws::{
     clashes_are_the_smallest, clocks_never_fall, clocks_pass_what_comes,
     closes_are_answered_by_rows, decisions_free, grants_are_held, grants_conflict_with_nothing,
-    installs_are_answered_by_rows, lives_and_epochs_rise, logs_gain_what_is_brought,
-    other_inputs_do_nothing, promises_stand, refusals_change_nothing,
-    requests_are_answered_by_rows, sites_stay_sorted, votes_are_backed, what_is_held_stays,
+    installs_are_answered_by_rows, lives_and_epochs_rise, other_inputs_do_nothing, promises_stand,
+    refusals_change_nothing, requests_are_answered_by_rows, sites_stay_sorted, votes_are_backed,
+    what_is_held_stays,
 };
+pub use line_laws::{logs_gain_what_is_brought, what_arrived_is_known};
 pub use site::{Promises, RisenState, Site};

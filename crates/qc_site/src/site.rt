@@ -2,6 +2,7 @@
 
 ghost use Rattle.std.specs.Prelude.{◌≡◌, ◌≤◌, ◌<◌, ◌-◌, ◌^◌, IfOk, OnErr};
 ghost use Rattle.qc_decl.specs.Limits.{most_clients, most_sites};
+ghost use Rattle.qc_entry.specs.Log.{union};
 ghost use Rattle.qc_site.specs.Conduct.{site_at, site_on};
 ghost use Rattle.qc_site.specs.Promise.{dropped};
 ghost use Rattle.qc_site.specs.Holders.{AreByClients, AreOfClients};
@@ -9,8 +10,9 @@ ghost use Rattle.qc_site.specs.Site.{new_site};
 
 use crate::asker::{Asker, Requester};
 use crate::clock::clock_after;
+use crate::known::both;
 use qc_decl::Declaration;
-use qc_entry::{Log, Prepared};
+use qc_entry::{Arrivals, Log, Prepared};
 use qc_list::OutOfMemory;
 use qc_lock::{Locks, TransactionMap};
 use qc_msg::{FIRST_EPOCH, Message, Turn};
@@ -42,8 +44,8 @@ pub struct RisenState {
     pub clock: Clock,
 }
 
-/// A site: its life and epoch, what its epoch began with and the log since,
-/// what is held and promised, and its clock. Each transaction that holds
+/// A site: its life and epoch, what its epoch began with and the log since, all
+/// lines in the order in which they came, what is held and promised, and its clock. Each transaction that holds
 /// something or is promised is of a client below the most clients.
 #[derive(Drop)]
 pub struct Site {
@@ -54,6 +56,7 @@ pub struct Site {
     pub(crate) began: Log,
     pub(crate) log: Log,
     pub(crate) recorded: Log,
+    pub(crate) arrived: Arrivals,
     pub(crate) held: Locks,
     pub(crate) prepared: Promises,
     pub(crate) clock: Clock,
@@ -73,6 +76,7 @@ impl Model for Site {
       began = s.began;
       log = s.log;
       recorded = s.recorded;
+      arrived = s.arrived;
       held = s.held;
       prepared = s.prepared;
       clock = s.clock.value;
@@ -94,6 +98,7 @@ impl Site {
             began: Log::new(alloc)?,
             log: Log::new(alloc)?,
             recorded: Log::new(alloc)?,
+            arrived: Arrivals::new(alloc),
             held: Locks::new(alloc),
             prepared: Promises::new(alloc),
             clock: Clock { value: 0 },
@@ -101,7 +106,7 @@ impl Site {
     }
 
     /// The site of this number that rises with what its records give.
-    pub fn risen(number: u8, state: RisenState) -> Result<Site, OutOfMemory>
+    pub fn risen(alloc: Global, number: u8, state: RisenState) -> Result<Site, OutOfMemory>
         requires held { AreOfClients state.held }
         requires prepared { AreByClients state.prepared }
         ensures { IfOk result (λ s. s ≡ record {
@@ -112,11 +117,14 @@ impl Site {
           began = state.began;
           log = state.lines;
           recorded = state.lines;
+          arrived = union state.began state.lines;
           held = state.held;
           prepared = state.prepared;
           clock = state.clock.value;
         }) }
     {
+        let mut arrived = Arrivals::new(alloc);
+        arrived.join(both(&state.began, &state.lines)?.lines())?;
         Ok(Site {
             number,
             life: state.life,
@@ -125,6 +133,7 @@ impl Site {
             began: state.began,
             recorded: state.lines.copy()?,
             log: state.lines,
+            arrived,
             held: state.held,
             prepared: state.prepared,
             clock: state.clock,

@@ -18,7 +18,7 @@ use Rattle.qc_msg.specs.declared.message.Want.TheVariants.{Read, Prepare}
 use Rattle.qc_msg.specs.declared.record.Record.{Record}
 use Rattle.qc_msg.specs.declared.record.Record.TheVariants as records
 use Rattle.qc_msg.specs.declared.step.Input.TheVariants as inputs
-use Rattle.qc_msg.specs.Vocabulary.{Deed, Falls, Rises, Sends, Takes, Tells, Writes, prepare_in, written_in, read_of}
+use Rattle.qc_msg.specs.Vocabulary.{Deed, Falls, Rises, Sends, Takes, Tells, Writes, prepare_in, written_in, first_read}
 use Rattle.qc_promise.specs.Vocabulary.{Grant, Holding, frees, held_of_promises, is_ended, is_over, left_of}
 use Rattle.qc_promise.specs.Vocabulary.{promises_of, promises_since, standing, unless_over, with_promise}
 use Rattle.qc_promise.proofs.Promises.{other_promises, promises_by_record, promises_with}
@@ -31,9 +31,9 @@ use Rattle.qc_stamp.proofs.Orders.{same_tx_turned}
 -- promises, as if what they name had been granted
 
 abbrev as_grant : Prepared → Grant
-as_grant p = record { tx = p.tx; want = cond (names_some p) (Read (read_of 0 0)) Prepare }
+as_grant p = record { tx = p.tx; want = cond (names_some p) (Read (first_read 0 0)) Prepare }
 
-held_some : (b : Bool) → is_holding (cond b (Read (read_of 0 0)) Prepare) ≡ b
+held_some : (b : Bool) → is_holding (cond b (Read (first_read 0 0)) Prepare) ≡ b
 held_some true = refl
 held_some false = refl
 

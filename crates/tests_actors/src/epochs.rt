@@ -9,7 +9,7 @@ use std::process::Abort;
 
 /// A new site does what the rows say, and has this life, this epoch, so many lines
 /// and so many holders then.
-fn check_epochs(
+pub(crate) fn check_epochs(
     rt: &impl Abort,
     alloc: Global,
     rows: &[(Taken<'_>, &str)],

@@ -36,6 +36,8 @@ mod journals;
 #[cfg(test)]
 mod many;
 #[cfg(test)]
+mod marks;
+#[cfg(test)]
 mod messages;
 #[cfg(test)]
 mod promises;

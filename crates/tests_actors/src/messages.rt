@@ -1,7 +1,7 @@
 //! What a site takes, as messages.
 
 use crate::sites::{READ, X, line, tx};
-use qc_entry::{Log, OwnLine, Owns};
+use qc_entry::{Log, Mark, OwnLine, Owns};
 use qc_list::OutOfMemory;
 use qc_msg::{Answer, EpochStart, Message, Outcome, ReadRequest, Want};
 use qc_stamp::Stamp;
@@ -25,6 +25,9 @@ pub(crate) enum Taken<'a> {
     AppendIn(u8, &'a [(u64, u8, u8)]),
     /// A Read of an object by a client.
     ReadOf(u8, u8),
+    /// A Read of x by client 0 in an epoch, whose mark is of a life, an epoch and a
+    /// count.
+    ReadSince(u8, (u32, u8, u64)),
     /// A client's transaction committed with a clock.
     Committed(u8, u64),
     /// A client's transaction aborted.
@@ -127,7 +130,13 @@ pub(crate) fn own_lines(alloc: Global, owns: &[(u8, u8)]) -> Result<Owns, OutOfM
 
 /// The lines of an object, and a lock for an invocation.
 fn read(object: u8, inv: u8) -> Want {
-    Want::Read(ReadRequest { object, inv })
+    read_since(object, inv, Mark::NONE)
+}
+
+/// The lines of an object that a mark doesn't count, and a lock for an
+/// invocation.
+fn read_since(object: u8, inv: u8, mark: Mark) -> Want {
+    Want::Read(ReadRequest { object, inv, mark })
 }
 
 /// The message.
@@ -137,7 +146,8 @@ pub(crate) fn message(alloc: Global, taken: Taken<'_>) -> Result<Message, OutOfM
         Taken::ReadOf(client, object) => Ok(request(client, read(object, READ))),
         Taken::Prepare(client) => Ok(request(client, Want::Prepare)),
         Taken::Append(client, view, own) => append(alloc, client, view, own),
-        Taken::ReadIn(..) | Taken::PrepareIn(..) | Taken::AppendIn(..) => other_epoch(alloc, taken),
+        Taken::ReadIn(..) | Taken::ReadSince(..) | Taken::PrepareIn(..) | Taken::AppendIn(..) =>
+            other_epoch(alloc, taken),
         Taken::Committed(..) | Taken::Aborted(_) | Taken::Active(_) => Ok(verdict(taken)),
         Taken::Close(epoch) => Ok(Message::Close { epoch }),
         Taken::Install(epoch, clock, lines) => Ok(Message::Install(EpochStart {
@@ -153,6 +163,14 @@ pub(crate) fn message(alloc: Global, taken: Taken<'_>) -> Result<Message, OutOfM
 fn other_epoch(alloc: Global, taken: Taken<'_>) -> Result<Message, OutOfMemory> {
     match taken {
         Taken::ReadIn(epoch, life) => Ok(request_in(0, epoch, life, read(X, READ))),
+        Taken::ReadSince(epoch, (life, since, count)) => {
+            let mark = Mark {
+                life,
+                epoch: since,
+                count,
+            };
+            Ok(request_in(0, epoch, 0, read_since(X, READ, mark)))
+        }
         Taken::AppendIn(epoch, view) => early_append(alloc, epoch, view),
         Taken::PrepareIn(epoch, life) => Ok(request_in(0, epoch, life, Want::Prepare)),
         _ => Ok(request(0, Want::Prepare)),
@@ -191,7 +209,7 @@ pub(crate) fn sender(taken: Taken<'_>) -> u8 {
         | Taken::Committed(client, _)
         | Taken::Aborted(client)
         | Taken::Active(client) => client.saturating_add(3),
-        Taken::ReadIn(..) | Taken::PrepareIn(..) | Taken::AppendIn(..) => 3,
+        Taken::ReadIn(..) | Taken::ReadSince(..) | Taken::PrepareIn(..) | Taken::AppendIn(..) => 3,
         _ => 6,
     }
 }

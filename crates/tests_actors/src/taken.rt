@@ -79,10 +79,10 @@ fn granted(alloc: Global, clock: u32, lines: &[(u64, u8, u8)]) -> Result<Answer,
     ensures { IfOk result (λ answer. told (Some answer) ≤ most_told) }
 {
     let log = log(alloc, lines)?;
-    let clock = u64::from(clock);
     Ok(Answer::Granted(Grant {
         life: 1,
-        clock,
+        clock: u64::from(clock),
+        count: log.lines().len() as u64,
         log,
     }))
 }
@@ -96,6 +96,7 @@ fn granted_in(alloc: Global, life: u32) -> Result<Answer, OutOfMemory>
         life,
         clock: 0,
         log,
+        count: 0,
     }))
 }
 

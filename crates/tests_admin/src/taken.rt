@@ -151,6 +151,7 @@ pub(crate) fn answer(alloc: Global, said: Said) -> Result<Answer, OutOfMemory>
             life: 1,
             clock: 40,
             log: Log::new(alloc)?,
+            count: 0,
         })),
         Said::Clash => Ok(Answer::Clash {
             holder: tx(2),

@@ -1,6 +1,6 @@
 //! Logs and records, on the happy path.
 
-use qc_entry::{Commit, Line, Log, Op, Ops, Owns, Prepared, Reads};
+use qc_entry::{Arrivals, Commit, Line, Log, Mark, Op, Ops, Owns, Prepared, Reads, Told};
 use qc_list::OutOfMemory;
 use qc_stamp::{Stamp, TxId};
 use std::alloc::Global;
@@ -84,6 +84,75 @@ fn logs_are_sorted_with_each_line_once(rt: HostRuntime) {
     let others = [second, third];
     assert!(rt; has(merged(rt.alloc(), &others, &log), &[first, second, third]));
     assert!(rt; has(rest(rt.alloc(), &others, &log), &[third]));
+}
+
+/// Lines in any order, some of them twice.
+#[test]
+fn lines_in_any_order_make_a_log(rt: HostRuntime) {
+    let [first, second, third] = lines();
+    assert!(rt; has(Log::of_lines(rt.alloc(), &[]), &[]));
+    assert!(rt; has(Log::of_lines(rt.alloc(), &[second]), &[second]));
+    let mixed = [third, second, first, third, second];
+    assert!(rt; has(Log::of_lines(rt.alloc(), &mixed), &[first, second, third]));
+}
+
+/// What is told of an object to who has a mark, in life 3 and epoch 2: how many
+/// lines came, and these.
+fn tells(
+    alloc: Global,
+    arrivals: &mut Arrivals,
+    object: u8,
+    mark: Mark,
+    wanted: (u64, &[Line]),
+) -> bool {
+    let Ok(Told { count, log }) = arrivals.tell(alloc, 3, 2, object, mark) else {
+        return false;
+    };
+    count == wanted.0 && log.lines() == wanted.1
+}
+
+/// Lines come in another order than theirs, and some go again. The mark counts
+/// those of its object.
+#[test]
+fn lines_are_told_from_a_mark_on(rt: HostRuntime) -> Result<(), OutOfMemory> {
+    let [first, second, third] = lines();
+    let mut arrivals = Arrivals::new(rt.alloc());
+    assert!(rt; tells(rt.alloc(), &mut arrivals, 0, Mark::NONE, (0, &[])));
+    arrivals.join(&[third, second])?;
+    arrivals.join(&[first])?;
+    assert_eq!(rt; arrivals.count(), 3);
+    let mark = |count| Mark {
+        life: 3,
+        epoch: 2,
+        count,
+    };
+    assert!(rt;
+        tells(
+            rt.alloc(),
+            &mut arrivals,
+            0,
+            Mark::NONE,
+            (2, &[first, third])
+        )
+    );
+    assert!(rt; tells(rt.alloc(), &mut arrivals, 0, mark(1), (2, &[first])));
+    assert!(rt; tells(rt.alloc(), &mut arrivals, 0, mark(2), (2, &[])));
+    assert!(rt;
+        tells(
+            rt.alloc(),
+            &mut arrivals,
+            0,
+            mark(u64::MAX),
+            (2, &[first, third])
+        )
+    );
+    assert!(rt; tells(rt.alloc(), &mut arrivals, 1, mark(0), (1, &[second])));
+    assert!(rt; tells(rt.alloc(), &mut arrivals, 255, mark(0), (0, &[])));
+    arrivals.truncate(2);
+    assert!(rt; tells(rt.alloc(), &mut arrivals, 0, mark(0), (1, &[third])));
+    arrivals.join(&[first])?;
+    assert!(rt; tells(rt.alloc(), &mut arrivals, 0, mark(1), (2, &[first])));
+    Ok(())
 }
 
 /// Lines that belong behind those of one log and between those of the other.

@@ -10,7 +10,7 @@ use Rattle.qc_msg.specs.declared.message.Outcome.TheVariants as outcomes
 use Rattle.qc_msg.specs.declared.record.Record.TheVariants as records
 use Rattle.qc_msg.specs.declared.reply.Reply.TheVariants as replies
 use Rattle.qc_msg.specs.declared.message.Want.TheVariants as wants
-use Rattle.qc_msg.specs.Vocabulary.{grant_with, read_of}
+use Rattle.qc_msg.specs.Vocabulary.{whole_grant, first_read}
 
 -- It begins (2, 1) after its rise.
 abbrev pub begins_2_1_after_its_rise : List Deed
@@ -36,15 +36,15 @@ abbrev pub counts_answers_to_what_it_asked_since : List Deed
 counts_answers_to_what_it_asked_since =
     take 2 committing
     ++ (
-    called (commands.Do 0 0) ∷ Sends 0 0 (messages.Request (tx 0 1 1) 1 0 (wants.Read (read_of 0 0))) ∷
-    Sends 1 1 (messages.Request (tx 0 1 1) 1 0 (wants.Read (read_of 0 0))) ∷ Falls falls.Script None ∷ Rises [] ∷
+    called (commands.Do 0 0) ∷ Sends 0 0 (messages.Request (tx 0 1 1) 1 0 (wants.Read (first_read 0 0))) ∷
+    Sends 1 1 (messages.Request (tx 0 1 1) 1 0 (wants.Read (first_read 0 0))) ∷ Falls falls.Script None ∷ Rises [] ∷
     Writes records.Life ∷ called commands.Begin ∷ Tells (replies.Began (tx 0 2 1)) ∷ called (commands.Do 0 0) ∷
-    Sends 4 0 (messages.Request (tx 0 2 1) 1 0 (wants.Read (read_of 0 0))) ∷
-    Sends 5 1 (messages.Request (tx 0 2 1) 1 0 (wants.Read (read_of 0 0))) ∷
-    got 2 0 (messages.Answer 0 (answers.Granted (grant_with 1 0 [])))
-    ∷ got 3 1 (messages.Answer 1 (answers.Granted (grant_with 1 0 []))) ∷
-    got 6 0 (messages.Answer 4 (answers.Granted (grant_with 1 0 [])))
-    ∷ got 7 1 (messages.Answer 5 (answers.Granted (grant_with 1 0 []))) ∷
+    Sends 4 0 (messages.Request (tx 0 2 1) 1 0 (wants.Read (first_read 0 0))) ∷
+    Sends 5 1 (messages.Request (tx 0 2 1) 1 0 (wants.Read (first_read 0 0))) ∷
+    got 2 0 (messages.Answer 0 (answers.Granted (whole_grant 1 0 [])))
+    ∷ got 3 1 (messages.Answer 1 (answers.Granted (whole_grant 1 0 []))) ∷
+    got 6 0 (messages.Answer 4 (answers.Granted (whole_grant 1 0 [])))
+    ∷ got 7 1 (messages.Answer 5 (answers.Granted (whole_grant 1 0 []))) ∷
     Tells (replies.Response 0) ∷ []
     )
 
@@ -163,10 +163,10 @@ abbrev pub what_was_shown_in_a_former_life_is_not_seen : List Deed
 what_was_shown_in_a_former_life_is_not_seen =
     take 2 committing
     ++ (
-    called (commands.Do 0 0) ∷ Sends 10 0 (messages.Request (tx 0 1 1) 1 0 (wants.Read (read_of 0 0))) ∷
-    Sends 11 1 (messages.Request (tx 0 1 1) 1 0 (wants.Read (read_of 0 0))) ∷
-    got 12 0 (messages.Answer 10 (answers.Granted (grant_with 1 0 []))) ∷
-    got 13 1 (messages.Answer 11 (answers.Granted (grant_with 1 1 ((line 1 1 1 1 1 0 3) ∷ []))))
+    called (commands.Do 0 0) ∷ Sends 10 0 (messages.Request (tx 0 1 1) 1 0 (wants.Read (first_read 0 0))) ∷
+    Sends 11 1 (messages.Request (tx 0 1 1) 1 0 (wants.Read (first_read 0 0))) ∷
+    got 12 0 (messages.Answer 10 (answers.Granted (whole_grant 1 0 []))) ∷
+    got 13 1 (messages.Answer 11 (answers.Granted (whole_grant 1 1 ((line 1 1 1 1 1 0 3) ∷ []))))
     ∷ Tells (replies.Response 1) ∷
     Falls falls.Script None ∷ Rises [] ∷ Writes records.Life ∷ called commands.Begin ∷
     Tells (replies.Began (tx 0 2 1)) ∷ called commands.Commit ∷ Writes (commit (stamp 1 0) (tx 0 2 1) []) ∷

@@ -18,7 +18,7 @@ use Rattle.qc_msg.specs.declared.step.Command.{Command}
 use Rattle.qc_msg.specs.declared.step.Command.TheVariants as commands
 use Rattle.qc_msg.specs.declared.step.Input.TheVariants as inputs
 use Rattle.qc_msg.specs.Vocabulary.{Deed, Sends, Takes, Tells, Writes}
-use Rattle.qc_msg.specs.Vocabulary.{grant_with}
+use Rattle.qc_msg.specs.Vocabulary.{whole_grant}
 
 -- a transaction, by its client, the client's life, and its number
 abbrev pub tx : ℕ → ℕ → ℕ → TxId
@@ -62,8 +62,8 @@ committing =
     called commands.Begin ∷ Tells (replies.Began (tx 0 1 1)) ∷ called (commands.Do 0 2) ∷
     Sends 0 0 (messages.Request (tx 0 1 1) 1 0 (wants.Append 0 [] ((own_line 1 0 3) ∷ []))) ∷
     Sends 1 1 (messages.Request (tx 0 1 1) 1 0 (wants.Append 0 [] ((own_line 1 0 3) ∷ []))) ∷
-    got 2 0 (messages.Answer 0 (answers.Granted (grant_with 1 0 [])))
-    ∷ got 3 1 (messages.Answer 1 (answers.Granted (grant_with 1 0 []))) ∷
+    got 2 0 (messages.Answer 0 (answers.Granted (whole_grant 1 0 [])))
+    ∷ got 3 1 (messages.Answer 1 (answers.Granted (whole_grant 1 0 []))) ∷
     Tells (replies.Response 2) ∷ got 7 1 (messages.Inquiry (tx 0 1 1)) ∷
     Sends 9 1 (messages.Decision (tx 0 1 1) outcomes.Active) ∷ called commands.Commit ∷
     Sends 10 0 (messages.Request (tx 0 1 1) 1 1 wants.Prepare) ∷

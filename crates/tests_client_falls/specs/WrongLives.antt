@@ -11,7 +11,7 @@ use Rattle.qc_msg.specs.declared.message.Message.TheVariants as messages
 use Rattle.qc_msg.specs.declared.record.Record.TheVariants as records
 use Rattle.qc_msg.specs.declared.reply.Reply.TheVariants as replies
 use Rattle.qc_msg.specs.declared.message.Want.TheVariants as wants
-use Rattle.qc_msg.specs.Vocabulary.{grant_with, read_of}
+use Rattle.qc_msg.specs.Vocabulary.{whole_grant, first_read}
 
 -- It goes on with its transaction after a fall.
 abbrev pub goes_on_with_its_transaction_after_a_fall : List Deed
@@ -29,8 +29,8 @@ is_told_response_of_a_do_that_it_called_before_its_fall =
     take 5 committing
     ++ (
     Falls falls.Script None ∷ Rises [] ∷ Writes records.Life
-    ∷ got 2 0 (messages.Answer 0 (answers.Granted (grant_with 1 0 []))) ∷
-    got 3 1 (messages.Answer 1 (answers.Granted (grant_with 1 0 []))) ∷ Tells (replies.Response 2) ∷ []
+    ∷ got 2 0 (messages.Answer 0 (answers.Granted (whole_grant 1 0 []))) ∷
+    got 3 1 (messages.Answer 1 (answers.Granted (whole_grant 1 0 []))) ∷ Tells (replies.Response 2) ∷ []
     )
 
 -- It begins a name of life 1 after its rise.
@@ -96,8 +96,8 @@ asks_in_epoch_2_after_its_rise_and_is_told_quorum =
     ++ (
     Falls falls.Script None ∷ Rises [] ∷ Writes records.Life ∷ called commands.Begin ∷
     Tells (replies.Began (tx 0 2 1)) ∷ called (commands.Do 0 0) ∷
-    Sends 4 0 (messages.Request (tx 0 2 1) 2 0 (wants.Read (read_of 0 0))) ∷
-    Sends 5 1 (messages.Request (tx 0 2 1) 2 0 (wants.Read (read_of 0 0)))
+    Sends 4 0 (messages.Request (tx 0 2 1) 2 0 (wants.Read (first_read 0 0))) ∷
+    Sends 5 1 (messages.Request (tx 0 2 1) 2 0 (wants.Read (first_read 0 0)))
     ∷ got 6 0 (messages.Answer 4 (answers.Behind 1)) ∷
     got 7 1 (messages.Answer 5 (answers.Behind 1)) ∷ Tells (replies.Quorum halves.Read 0 2) ∷ []
     )
@@ -107,13 +107,13 @@ abbrev pub counts_answers_to_what_it_asked_before_its_fall : List Deed
 counts_answers_to_what_it_asked_before_its_fall =
     take 2 committing
     ++ (
-    called (commands.Do 0 0) ∷ Sends 0 0 (messages.Request (tx 0 1 1) 1 0 (wants.Read (read_of 0 0))) ∷
-    Sends 1 1 (messages.Request (tx 0 1 1) 1 0 (wants.Read (read_of 0 0))) ∷ Falls falls.Script None ∷ Rises [] ∷
+    called (commands.Do 0 0) ∷ Sends 0 0 (messages.Request (tx 0 1 1) 1 0 (wants.Read (first_read 0 0))) ∷
+    Sends 1 1 (messages.Request (tx 0 1 1) 1 0 (wants.Read (first_read 0 0))) ∷ Falls falls.Script None ∷ Rises [] ∷
     Writes records.Life ∷ called commands.Begin ∷ Tells (replies.Began (tx 0 2 1)) ∷ called (commands.Do 0 0) ∷
-    Sends 4 0 (messages.Request (tx 0 2 1) 1 0 (wants.Read (read_of 0 0))) ∷
-    Sends 5 1 (messages.Request (tx 0 2 1) 1 0 (wants.Read (read_of 0 0))) ∷
-    got 2 0 (messages.Answer 0 (answers.Granted (grant_with 1 0 [])))
-    ∷ got 3 1 (messages.Answer 1 (answers.Granted (grant_with 1 0 []))) ∷
+    Sends 4 0 (messages.Request (tx 0 2 1) 1 0 (wants.Read (first_read 0 0))) ∷
+    Sends 5 1 (messages.Request (tx 0 2 1) 1 0 (wants.Read (first_read 0 0))) ∷
+    got 2 0 (messages.Answer 0 (answers.Granted (whole_grant 1 0 [])))
+    ∷ got 3 1 (messages.Answer 1 (answers.Granted (whole_grant 1 0 []))) ∷
     Tells (replies.Response 0) ∷ []
     )
 

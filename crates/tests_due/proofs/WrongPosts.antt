@@ -7,10 +7,10 @@ use Rattle.qc_promise.specs.Vocabulary.{AreDue}
 use Rattle.tests_due.proofs.SitePlaces.{clock_granted, count_records, count_sends, first_answer, lines_granted}
 use Rattle.tests_due.proofs.SitePlaces.{own_promised, site_due_at}
 use Rattle.qc_msg.specs.declared.message.Answer.TheVariants as answers
-use Rattle.qc_msg.specs.Vocabulary.{grant_with}
+use Rattle.qc_msg.specs.Vocabulary.{whole_grant}
 use Rattle.tests_due.specs.WrongPosts as wrong_posts
 
-promises_to_a_read_differs : ◌≡◌ {A = Option Answer} (Some (answers.Yes 0)) (Some (answers.Granted (grant_with 1 0 [])))
+promises_to_a_read_differs : ◌≡◌ {A = Option Answer} (Some (answers.Yes 0)) (Some (answers.Granted (whole_grant 1 0 [])))
     → ⊥
 promises_to_a_read_differs e = let never : ⊥ = cc in never
 

@@ -12,16 +12,16 @@ use Rattle.qc_msg.specs.declared.step.Command.TheVariants as commands
 use Rattle.qc_msg.specs.declared.step.Fall.TheVariants as causes
 use Rattle.qc_msg.specs.declared.step.Step.TheVariants.{Phase, Called, Got, Lost, Wrote, Sent, Told, Fell, Rose}
 use Rattle.qc_msg.specs.Vocabulary.{Entry, marked}
-use Rattle.qc_msg.specs.Vocabulary.{grant_with, read_of}
+use Rattle.qc_msg.specs.Vocabulary.{whole_grant, first_read}
 use Rattle.tests_histories.specs.Words.{commit, prepare, stamp, tx}
 
 -- what a client asks a site, what the site grants, and what both write of a transaction that commits
 
 abbrev pub asks : Message
-asks = messages.Request (tx 0 1) 1 0 (wants.Read (read_of 0 0))
+asks = messages.Request (tx 0 1) 1 0 (wants.Read (first_read 0 0))
 
 abbrev pub grants : ℕ → Message
-grants number = messages.Answer number (answers.Granted (grant_with 1 0 []))
+grants number = messages.Answer number (answers.Granted (whole_grant 1 0 []))
 
 abbrev pub decides : Message
 decides = messages.Decision (tx 0 1) (outcomes.Committed (stamp 1 0))

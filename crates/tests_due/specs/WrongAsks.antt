@@ -8,18 +8,19 @@ use Rattle.qc_msg.specs.declared.step.Command.TheVariants as commands
 use Rattle.qc_msg.specs.declared.message.Message.TheVariants as messages
 use Rattle.qc_msg.specs.declared.reply.Reply.TheVariants as replies
 use Rattle.qc_msg.specs.declared.message.Want.TheVariants as wants
-use Rattle.qc_msg.specs.Vocabulary.{grant_with, read_of}
+use Rattle.qc_msg.specs.Vocabulary.{whole_grant, first_read}
 
 -- The conflict of a third site is told where two are enough.
 abbrev pub conflict_of_a_site_too_many : List Entry
 conflict_of_a_site_too_many =
     marked 7 (Phase 1) ∷ marked 3 (Called commands.Begin) ∷ marked 3 (Told (replies.Began (tx 0 1))) ∷
-    marked 3 (Called (commands.Do 0 0)) ∷ marked 3 (Sent 0 0 (messages.Request (tx 0 1) 1 0 (wants.Read (read_of 0 0))))
+    marked 3 (Called (commands.Do 0 0)) ∷
+    marked 3 (Sent 0 0 (messages.Request (tx 0 1) 1 0 (wants.Read (first_read 0 0))))
     ∷
-    marked 3 (Sent 1 1 (messages.Request (tx 0 1) 1 0 (wants.Read (read_of 0 0)))) ∷
-    marked 3 (Sent 2 2 (messages.Request (tx 0 1) 1 0 (wants.Read (read_of 0 0)))) ∷ marked 0 (Got 0) ∷
-    marked 0 (Sent 3 3 (messages.Answer 0 (answers.Granted (grant_with 1 0 [])))) ∷ marked 1 (Got 1) ∷
-    marked 1 (Sent 4 3 (messages.Answer 1 (answers.Granted (grant_with 1 0 [])))) ∷ marked 2 (Got 2) ∷
+    marked 3 (Sent 1 1 (messages.Request (tx 0 1) 1 0 (wants.Read (first_read 0 0)))) ∷
+    marked 3 (Sent 2 2 (messages.Request (tx 0 1) 1 0 (wants.Read (first_read 0 0)))) ∷ marked 0 (Got 0) ∷
+    marked 0 (Sent 3 3 (messages.Answer 0 (answers.Granted (whole_grant 1 0 [])))) ∷ marked 1 (Got 1) ∷
+    marked 1 (Sent 4 3 (messages.Answer 1 (answers.Granted (whole_grant 1 0 [])))) ∷ marked 2 (Got 2) ∷
     marked 2 (Sent 5 3 (messages.Answer 2 (answers.Clash (tx 1 1) 0 0))) ∷ marked 3 (Got 5) ∷ marked 3 (Got 3) ∷
     marked 3 (Got 4) ∷ marked 3 (Told (replies.Conflict (tx 1 1) 2)) ∷ []
 
@@ -27,12 +28,13 @@ conflict_of_a_site_too_many =
 abbrev pub closed_by_a_site_too_many : List Entry
 closed_by_a_site_too_many =
     marked 7 (Phase 1) ∷ marked 3 (Called commands.Begin) ∷ marked 3 (Told (replies.Began (tx 0 1))) ∷
-    marked 3 (Called (commands.Do 0 0)) ∷ marked 3 (Sent 0 0 (messages.Request (tx 0 1) 1 0 (wants.Read (read_of 0 0))))
+    marked 3 (Called (commands.Do 0 0)) ∷
+    marked 3 (Sent 0 0 (messages.Request (tx 0 1) 1 0 (wants.Read (first_read 0 0))))
     ∷
-    marked 3 (Sent 1 1 (messages.Request (tx 0 1) 1 0 (wants.Read (read_of 0 0)))) ∷
-    marked 3 (Sent 2 2 (messages.Request (tx 0 1) 1 0 (wants.Read (read_of 0 0)))) ∷ marked 0 (Got 0) ∷
-    marked 0 (Sent 3 3 (messages.Answer 0 (answers.Granted (grant_with 1 0 [])))) ∷ marked 1 (Got 1) ∷
-    marked 1 (Sent 4 3 (messages.Answer 1 (answers.Granted (grant_with 1 0 [])))) ∷ marked 2 (Got 2) ∷
+    marked 3 (Sent 1 1 (messages.Request (tx 0 1) 1 0 (wants.Read (first_read 0 0)))) ∷
+    marked 3 (Sent 2 2 (messages.Request (tx 0 1) 1 0 (wants.Read (first_read 0 0)))) ∷ marked 0 (Got 0) ∷
+    marked 0 (Sent 3 3 (messages.Answer 0 (answers.Granted (whole_grant 1 0 [])))) ∷ marked 1 (Got 1) ∷
+    marked 1 (Sent 4 3 (messages.Answer 1 (answers.Granted (whole_grant 1 0 [])))) ∷ marked 2 (Got 2) ∷
     marked 2 (Sent 5 3 (messages.Answer 2 (answers.Closed 2))) ∷ marked 3 (Got 5) ∷ marked 3 (Got 3) ∷
     marked 3 (Got 4) ∷ marked 3 (Told (replies.Closed 2 2)) ∷ []
 
@@ -40,11 +42,12 @@ closed_by_a_site_too_many =
 abbrev pub out_of_order : List Entry
 out_of_order =
     marked 7 (Phase 1) ∷ marked 3 (Called commands.Begin) ∷ marked 3 (Told (replies.Began (tx 0 1))) ∷
-    marked 3 (Called (commands.Do 0 0)) ∷ marked 3 (Sent 0 1 (messages.Request (tx 0 1) 1 0 (wants.Read (read_of 0 0))))
+    marked 3 (Called (commands.Do 0 0)) ∷
+    marked 3 (Sent 0 1 (messages.Request (tx 0 1) 1 0 (wants.Read (first_read 0 0))))
     ∷
-    marked 3 (Sent 1 2 (messages.Request (tx 0 1) 1 0 (wants.Read (read_of 0 0)))) ∷ marked 1 (Got 0) ∷
-    marked 1 (Sent 2 3 (messages.Answer 0 (answers.Granted (grant_with 1 0 [])))) ∷ marked 2 (Got 1) ∷
-    marked 2 (Sent 3 3 (messages.Answer 1 (answers.Granted (grant_with 1 0 [])))) ∷ marked 3 (Got 2) ∷ marked 3 (Got 3)
+    marked 3 (Sent 1 2 (messages.Request (tx 0 1) 1 0 (wants.Read (first_read 0 0)))) ∷ marked 1 (Got 0) ∷
+    marked 1 (Sent 2 3 (messages.Answer 0 (answers.Granted (whole_grant 1 0 [])))) ∷ marked 2 (Got 1) ∷
+    marked 2 (Sent 3 3 (messages.Answer 1 (answers.Granted (whole_grant 1 0 [])))) ∷ marked 3 (Got 2) ∷ marked 3 (Got 3)
     ∷
     marked 3 (Told (replies.Response 0)) ∷ []
 
@@ -52,12 +55,13 @@ out_of_order =
 abbrev pub waits_for_a_site_too_many : List Entry
 waits_for_a_site_too_many =
     marked 7 (Phase 1) ∷ marked 3 (Called commands.Begin) ∷ marked 3 (Told (replies.Began (tx 0 1))) ∷
-    marked 3 (Called (commands.Do 0 0)) ∷ marked 3 (Sent 0 0 (messages.Request (tx 0 1) 1 0 (wants.Read (read_of 0 0))))
+    marked 3 (Called (commands.Do 0 0)) ∷
+    marked 3 (Sent 0 0 (messages.Request (tx 0 1) 1 0 (wants.Read (first_read 0 0))))
     ∷
-    marked 3 (Sent 1 1 (messages.Request (tx 0 1) 1 0 (wants.Read (read_of 0 0)))) ∷
-    marked 3 (Sent 2 2 (messages.Request (tx 0 1) 1 0 (wants.Read (read_of 0 0)))) ∷ marked 0 (Got 0) ∷
-    marked 0 (Sent 3 3 (messages.Answer 0 (answers.Granted (grant_with 1 0 [])))) ∷ marked 1 (Got 1) ∷
-    marked 1 (Sent 4 3 (messages.Answer 1 (answers.Granted (grant_with 1 0 [])))) ∷ marked 3 (Got 3) ∷ marked 3 (Got 4)
+    marked 3 (Sent 1 1 (messages.Request (tx 0 1) 1 0 (wants.Read (first_read 0 0)))) ∷
+    marked 3 (Sent 2 2 (messages.Request (tx 0 1) 1 0 (wants.Read (first_read 0 0)))) ∷ marked 0 (Got 0) ∷
+    marked 0 (Sent 3 3 (messages.Answer 0 (answers.Granted (whole_grant 1 0 [])))) ∷ marked 1 (Got 1) ∷
+    marked 1 (Sent 4 3 (messages.Answer 1 (answers.Granted (whole_grant 1 0 [])))) ∷ marked 3 (Got 3) ∷ marked 3 (Got 4)
     ∷
     marked 3 (Lost 2) ∷ []
 
@@ -71,21 +75,23 @@ abbrev pub refusal_untold : List Entry
 refusal_untold =
     marked 7 (Phase 1) ∷ marked 7 (Cut 4 0) ∷ marked 7 (Cut 4 1) ∷ marked 4 (Called commands.Begin) ∷
     marked 4 (Told (replies.Began (tx 1 1))) ∷ marked 4 (Called (commands.Do 0 0)) ∷
-    marked 4 (Sent 0 1 (messages.Request (tx 1 1) 1 0 (wants.Read (read_of 0 0)))) ∷
-    marked 4 (Sent 1 2 (messages.Request (tx 1 1) 1 0 (wants.Read (read_of 0 0)))) ∷ marked 2 (Got 1) ∷
-    marked 2 (Sent 2 4 (messages.Answer 1 (answers.Granted (grant_with 1 0 [])))) ∷ marked 4 (Got 2) ∷ marked 4 (Lost 0)
+    marked 4 (Sent 0 1 (messages.Request (tx 1 1) 1 0 (wants.Read (first_read 0 0)))) ∷
+    marked 4 (Sent 1 2 (messages.Request (tx 1 1) 1 0 (wants.Read (first_read 0 0)))) ∷ marked 2 (Got 1) ∷
+    marked 2 (Sent 2 4 (messages.Answer 1 (answers.Granted (whole_grant 1 0 [])))) ∷ marked 4 (Got 2) ∷
+    marked 4 (Lost 0)
     ∷
-    marked 4 (Sent 3 0 (messages.Request (tx 1 1) 1 0 (wants.Read (read_of 0 0)))) ∷ marked 4 (Lost 3) ∷
+    marked 4 (Sent 3 0 (messages.Request (tx 1 1) 1 0 (wants.Read (first_read 0 0)))) ∷ marked 4 (Lost 3) ∷
     marked 4 (Called commands.Abort) ∷ []
 
 -- A `do` is answered in an epoch that isn't declared.
 abbrev pub response_without_a_plan : List Entry
 response_without_a_plan =
     marked 7 (Phase 1) ∷ marked 3 (Called commands.Begin) ∷ marked 3 (Told (replies.Began (tx 0 1))) ∷
-    marked 3 (Called (commands.Do 0 0)) ∷ marked 3 (Sent 0 0 (messages.Request (tx 0 1) 1 0 (wants.Read (read_of 0 0))))
+    marked 3 (Called (commands.Do 0 0)) ∷
+    marked 3 (Sent 0 0 (messages.Request (tx 0 1) 1 0 (wants.Read (first_read 0 0))))
     ∷
-    marked 3 (Sent 1 1 (messages.Request (tx 0 1) 1 0 (wants.Read (read_of 0 0)))) ∷ marked 0 (Got 0) ∷
-    marked 0 (Sent 2 3 (messages.Answer 0 (answers.Granted (grant_with 1 0 [])))) ∷ marked 1 (Got 1) ∷
+    marked 3 (Sent 1 1 (messages.Request (tx 0 1) 1 0 (wants.Read (first_read 0 0)))) ∷ marked 0 (Got 0) ∷
+    marked 0 (Sent 2 3 (messages.Answer 0 (answers.Granted (whole_grant 1 0 [])))) ∷ marked 1 (Got 1) ∷
     marked 1 (Sent 3 3 (messages.Answer 1 (answers.Closed 9))) ∷ marked 3 (Got 2) ∷ marked 3 (Got 3) ∷
     marked 3 (Told (replies.Closed 9 1)) ∷ marked 3 (Called commands.Abort) ∷ marked 3 (Told replies.Dropped) ∷
     marked 3 (Called commands.Begin) ∷ marked 3 (Told (replies.Began (tx 0 2))) ∷ marked 3 (Called (commands.Do 0 0)) ∷

@@ -10,7 +10,7 @@ use Rattle.qc_msg.specs.declared.message.Message.TheVariants as messages
 use Rattle.qc_msg.specs.declared.message.Outcome.TheVariants as outcomes
 use Rattle.qc_msg.specs.declared.reply.Reply.TheVariants as replies
 use Rattle.qc_msg.specs.declared.message.Want.TheVariants as wants
-use Rattle.qc_msg.specs.Vocabulary.{grant_with, read_of}
+use Rattle.qc_msg.specs.Vocabulary.{whole_grant, first_read}
 
 -- The votes are for an earlier transaction.
 abbrev pub votes_for_another : List Entry
@@ -19,8 +19,8 @@ votes_for_another =
     marked 3 (Called (commands.Do 0 2)) ∷
     marked 3 (Sent 0 0 (messages.Request (tx 0 1) 1 0 (wants.Append 0 [] (own_line 1 0 3 ∷ [])))) ∷
     marked 3 (Sent 1 1 (messages.Request (tx 0 1) 1 0 (wants.Append 0 [] (own_line 1 0 3 ∷ [])))) ∷ marked 0 (Got 0) ∷
-    marked 0 (Sent 2 3 (messages.Answer 0 (answers.Granted (grant_with 1 0 [])))) ∷ marked 1 (Got 1) ∷
-    marked 1 (Sent 3 3 (messages.Answer 1 (answers.Granted (grant_with 1 0 [])))) ∷ marked 3 (Got 2) ∷ marked 3 (Got 3)
+    marked 0 (Sent 2 3 (messages.Answer 0 (answers.Granted (whole_grant 1 0 [])))) ∷ marked 1 (Got 1) ∷
+    marked 1 (Sent 3 3 (messages.Answer 1 (answers.Granted (whole_grant 1 0 [])))) ∷ marked 3 (Got 2) ∷ marked 3 (Got 3)
     ∷
     marked 3 (Told (replies.Response 2)) ∷ marked 3 (Called commands.Abort) ∷
     marked 3 (Sent 4 0 (messages.Decision (tx 0 1) outcomes.Aborted)) ∷
@@ -29,8 +29,8 @@ votes_for_another =
     marked 3 (Called (commands.Do 0 2)) ∷
     marked 3 (Sent 6 0 (messages.Request (tx 0 2) 1 0 (wants.Append 0 [] (own_line 1 0 3 ∷ [])))) ∷
     marked 3 (Sent 7 1 (messages.Request (tx 0 2) 1 0 (wants.Append 0 [] (own_line 1 0 3 ∷ [])))) ∷ marked 0 (Got 6) ∷
-    marked 0 (Sent 8 3 (messages.Answer 6 (answers.Granted (grant_with 1 0 [])))) ∷ marked 1 (Got 7) ∷
-    marked 1 (Sent 9 3 (messages.Answer 7 (answers.Granted (grant_with 1 0 [])))) ∷ marked 3 (Got 8) ∷ marked 3 (Got 9)
+    marked 0 (Sent 8 3 (messages.Answer 6 (answers.Granted (whole_grant 1 0 [])))) ∷ marked 1 (Got 7) ∷
+    marked 1 (Sent 9 3 (messages.Answer 7 (answers.Granted (whole_grant 1 0 [])))) ∷ marked 3 (Got 8) ∷ marked 3 (Got 9)
     ∷
     marked 3 (Told (replies.Response 2)) ∷ marked 3 (Called commands.Commit) ∷
     marked 3 (Sent 10 0 (messages.Request (tx 0 1) 1 1 wants.Prepare)) ∷
@@ -48,8 +48,8 @@ unvoted =
     marked 3 (Called (commands.Do 0 2)) ∷
     marked 3 (Sent 0 0 (messages.Request (tx 0 1) 1 0 (wants.Append 0 [] (own_line 1 0 3 ∷ [])))) ∷
     marked 3 (Sent 1 1 (messages.Request (tx 0 1) 1 0 (wants.Append 0 [] (own_line 1 0 3 ∷ [])))) ∷ marked 0 (Got 0) ∷
-    marked 0 (Sent 2 3 (messages.Answer 0 (answers.Granted (grant_with 1 0 [])))) ∷ marked 1 (Got 1) ∷
-    marked 1 (Sent 3 3 (messages.Answer 1 (answers.Granted (grant_with 1 0 [])))) ∷ marked 3 (Got 2) ∷ marked 3 (Got 3)
+    marked 0 (Sent 2 3 (messages.Answer 0 (answers.Granted (whole_grant 1 0 [])))) ∷ marked 1 (Got 1) ∷
+    marked 1 (Sent 3 3 (messages.Answer 1 (answers.Granted (whole_grant 1 0 [])))) ∷ marked 3 (Got 2) ∷ marked 3 (Got 3)
     ∷
     marked 3 (Told (replies.Response 2)) ∷ marked 3 (Called commands.Commit) ∷
     marked 3 (Wrote (commit (stamp 1 0) (tx 0 1) (operation 0 2 (Some 2) ∷ []))) ∷ []
@@ -61,8 +61,8 @@ one_vote =
     marked 3 (Called (commands.Do 0 2)) ∷
     marked 3 (Sent 0 0 (messages.Request (tx 0 1) 1 0 (wants.Append 0 [] (own_line 1 0 3 ∷ [])))) ∷
     marked 3 (Sent 1 1 (messages.Request (tx 0 1) 1 0 (wants.Append 0 [] (own_line 1 0 3 ∷ [])))) ∷ marked 0 (Got 0) ∷
-    marked 0 (Sent 2 3 (messages.Answer 0 (answers.Granted (grant_with 1 0 [])))) ∷ marked 1 (Got 1) ∷
-    marked 1 (Sent 3 3 (messages.Answer 1 (answers.Granted (grant_with 1 0 [])))) ∷ marked 3 (Got 2) ∷ marked 3 (Got 3)
+    marked 0 (Sent 2 3 (messages.Answer 0 (answers.Granted (whole_grant 1 0 [])))) ∷ marked 1 (Got 1) ∷
+    marked 1 (Sent 3 3 (messages.Answer 1 (answers.Granted (whole_grant 1 0 [])))) ∷ marked 3 (Got 2) ∷ marked 3 (Got 3)
     ∷
     marked 3 (Told (replies.Response 2)) ∷ marked 3 (Called commands.Commit) ∷
     marked 3 (Sent 4 0 (messages.Request (tx 0 1) 1 1 wants.Prepare)) ∷ marked 0 (Got 4) ∷
@@ -77,8 +77,8 @@ one_vote_open =
     marked 3 (Called (commands.Do 0 2)) ∷
     marked 3 (Sent 0 0 (messages.Request (tx 0 1) 1 0 (wants.Append 0 [] (own_line 1 0 3 ∷ [])))) ∷
     marked 3 (Sent 1 1 (messages.Request (tx 0 1) 1 0 (wants.Append 0 [] (own_line 1 0 3 ∷ [])))) ∷ marked 0 (Got 0) ∷
-    marked 0 (Sent 2 3 (messages.Answer 0 (answers.Granted (grant_with 1 0 [])))) ∷ marked 1 (Got 1) ∷
-    marked 1 (Sent 3 3 (messages.Answer 1 (answers.Granted (grant_with 1 0 [])))) ∷ marked 3 (Got 2) ∷ marked 3 (Got 3)
+    marked 0 (Sent 2 3 (messages.Answer 0 (answers.Granted (whole_grant 1 0 [])))) ∷ marked 1 (Got 1) ∷
+    marked 1 (Sent 3 3 (messages.Answer 1 (answers.Granted (whole_grant 1 0 [])))) ∷ marked 3 (Got 2) ∷ marked 3 (Got 3)
     ∷
     marked 3 (Told (replies.Response 2)) ∷ marked 3 (Called commands.Commit) ∷
     marked 3 (Sent 4 0 (messages.Request (tx 0 1) 1 1 wants.Prepare)) ∷
@@ -96,8 +96,8 @@ recorded_without_a_vote =
     marked 3 (Called (commands.Do 0 2)) ∷
     marked 3 (Sent 0 0 (messages.Request (tx 0 1) 1 0 (wants.Append 0 [] (own_line 1 0 3 ∷ [])))) ∷
     marked 3 (Sent 1 1 (messages.Request (tx 0 1) 1 0 (wants.Append 0 [] (own_line 1 0 3 ∷ [])))) ∷ marked 0 (Got 0) ∷
-    marked 0 (Sent 2 3 (messages.Answer 0 (answers.Granted (grant_with 1 0 [])))) ∷ marked 1 (Got 1) ∷
-    marked 1 (Sent 3 3 (messages.Answer 1 (answers.Granted (grant_with 1 0 [])))) ∷ marked 3 (Got 2) ∷ marked 3 (Got 3)
+    marked 0 (Sent 2 3 (messages.Answer 0 (answers.Granted (whole_grant 1 0 [])))) ∷ marked 1 (Got 1) ∷
+    marked 1 (Sent 3 3 (messages.Answer 1 (answers.Granted (whole_grant 1 0 [])))) ∷ marked 3 (Got 2) ∷ marked 3 (Got 3)
     ∷
     marked 3 (Told (replies.Response 2)) ∷ marked 3 (Called commands.Commit) ∷
     marked 3 (Sent 4 0 (messages.Request (tx 0 1) 1 1 wants.Prepare)) ∷
@@ -117,8 +117,8 @@ no_answer_though_answered =
     marked 3 (Called (commands.Do 0 2)) ∷
     marked 3 (Sent 0 0 (messages.Request (tx 0 1) 1 0 (wants.Append 0 [] (own_line 1 0 3 ∷ [])))) ∷
     marked 3 (Sent 1 1 (messages.Request (tx 0 1) 1 0 (wants.Append 0 [] (own_line 1 0 3 ∷ [])))) ∷ marked 0 (Got 0) ∷
-    marked 0 (Sent 2 3 (messages.Answer 0 (answers.Granted (grant_with 1 0 [])))) ∷ marked 1 (Got 1) ∷
-    marked 1 (Sent 3 3 (messages.Answer 1 (answers.Granted (grant_with 1 0 [])))) ∷ marked 3 (Got 2) ∷ marked 3 (Got 3)
+    marked 0 (Sent 2 3 (messages.Answer 0 (answers.Granted (whole_grant 1 0 [])))) ∷ marked 1 (Got 1) ∷
+    marked 1 (Sent 3 3 (messages.Answer 1 (answers.Granted (whole_grant 1 0 [])))) ∷ marked 3 (Got 2) ∷ marked 3 (Got 3)
     ∷
     marked 3 (Told (replies.Response 2)) ∷ marked 3 (Called commands.Commit) ∷
     marked 3 (Sent 4 0 (messages.Request (tx 0 1) 1 1 wants.Prepare)) ∷
@@ -136,8 +136,8 @@ stranger_votes =
     marked 3 (Called (commands.Do 0 2)) ∷
     marked 3 (Sent 0 0 (messages.Request (tx 0 1) 1 0 (wants.Append 0 [] (own_line 1 0 3 ∷ [])))) ∷
     marked 3 (Sent 1 1 (messages.Request (tx 0 1) 1 0 (wants.Append 0 [] (own_line 1 0 3 ∷ [])))) ∷ marked 0 (Got 0) ∷
-    marked 0 (Sent 2 3 (messages.Answer 0 (answers.Granted (grant_with 1 0 [])))) ∷ marked 1 (Got 1) ∷
-    marked 1 (Sent 3 3 (messages.Answer 1 (answers.Granted (grant_with 1 0 [])))) ∷ marked 3 (Got 2) ∷ marked 3 (Got 3)
+    marked 0 (Sent 2 3 (messages.Answer 0 (answers.Granted (whole_grant 1 0 [])))) ∷ marked 1 (Got 1) ∷
+    marked 1 (Sent 3 3 (messages.Answer 1 (answers.Granted (whole_grant 1 0 [])))) ∷ marked 3 (Got 2) ∷ marked 3 (Got 3)
     ∷
     marked 3 (Told (replies.Response 2)) ∷ marked 3 (Called commands.Commit) ∷
     marked 3 (Sent 4 2 (messages.Request (tx 0 1) 1 1 wants.Prepare)) ∷ marked 3 (Lost 4) ∷
@@ -147,11 +147,12 @@ stranger_votes =
 abbrev pub committed_though_doomed : List Entry
 committed_though_doomed =
     marked 7 (Phase 1) ∷ marked 3 (Called commands.Begin) ∷ marked 3 (Told (replies.Began (tx 0 1))) ∷
-    marked 3 (Called (commands.Do 0 0)) ∷ marked 3 (Sent 0 0 (messages.Request (tx 0 1) 1 0 (wants.Read (read_of 0 0))))
+    marked 3 (Called (commands.Do 0 0)) ∷
+    marked 3 (Sent 0 0 (messages.Request (tx 0 1) 1 0 (wants.Read (first_read 0 0))))
     ∷
-    marked 3 (Sent 1 1 (messages.Request (tx 0 1) 1 0 (wants.Read (read_of 0 0)))) ∷ marked 0 (Got 0) ∷
-    marked 0 (Sent 2 3 (messages.Answer 0 (answers.Granted (grant_with 1 0 [])))) ∷ marked 1 (Got 1) ∷
-    marked 1 (Sent 3 3 (messages.Answer 1 (answers.Granted (grant_with 1 0 [])))) ∷ marked 3 (Got 2) ∷ marked 3 (Got 3)
+    marked 3 (Sent 1 1 (messages.Request (tx 0 1) 1 0 (wants.Read (first_read 0 0)))) ∷ marked 0 (Got 0) ∷
+    marked 0 (Sent 2 3 (messages.Answer 0 (answers.Granted (whole_grant 1 0 [])))) ∷ marked 1 (Got 1) ∷
+    marked 1 (Sent 3 3 (messages.Answer 1 (answers.Granted (whole_grant 1 0 [])))) ∷ marked 3 (Got 2) ∷ marked 3 (Got 3)
     ∷
     marked 3 (Told (replies.Response 0)) ∷ marked 7 (Phase 2) ∷ marked 4 (Called commands.Begin) ∷
     marked 4 (Told (replies.Began (tx 1 1))) ∷ marked 4 (Called (commands.Do 0 2)) ∷
@@ -159,7 +160,7 @@ committed_though_doomed =
     marked 4 (Sent 5 2 (messages.Request (tx 1 1) 1 0 (wants.Append 0 [] (own_line 1 0 3 ∷ [])))) ∷ marked 1 (Got 4) ∷
     marked 1 (Sent 6 4 (messages.Answer 4 (answers.Clash (tx 0 1) 0 3))) ∷
     marked 1 (Sent 7 3 (messages.Inquiry (tx 0 1))) ∷ marked 2 (Got 5) ∷
-    marked 2 (Sent 8 4 (messages.Answer 5 (answers.Granted (grant_with 1 0 [])))) ∷ marked 4 (Got 6) ∷ marked 3 (Got 7)
+    marked 2 (Sent 8 4 (messages.Answer 5 (answers.Granted (whole_grant 1 0 [])))) ∷ marked 4 (Got 6) ∷ marked 3 (Got 7)
     ∷
     marked 3 (Sent 9 1 (messages.Decision (tx 0 1) outcomes.Active)) ∷ marked 4 (Got 8) ∷
     marked 4 (Told (replies.Conflict (tx 0 1) 1)) ∷ marked 1 (Got 9) ∷ marked 4 (Called commands.Commit) ∷

@@ -11,7 +11,7 @@ use Rattle.qc_msg.specs.declared.message.Outcome.TheVariants as outcomes
 use Rattle.qc_msg.specs.declared.record.Record.TheVariants as records
 use Rattle.qc_msg.specs.declared.reply.Reply.TheVariants as replies
 use Rattle.qc_msg.specs.declared.message.Want.TheVariants as wants
-use Rattle.qc_msg.specs.Vocabulary.{grant_with, read_of, snapshot_with, start_with}
+use Rattle.qc_msg.specs.Vocabulary.{whole_grant, first_read, snapshot_with, start_with}
 
 abbrev pub history : List Entry
 history =
@@ -19,8 +19,8 @@ history =
     marked 3 (Called (commands.Do 0 2)) ∷
     marked 3 (Sent 0 0 (messages.Request (tx 0 1) 1 0 (wants.Append 0 [] (own_line 1 0 3 ∷ [])))) ∷
     marked 3 (Sent 1 1 (messages.Request (tx 0 1) 1 0 (wants.Append 0 [] (own_line 1 0 3 ∷ [])))) ∷ marked 0 (Got 0) ∷
-    marked 0 (Sent 2 3 (messages.Answer 0 (answers.Granted (grant_with 1 0 [])))) ∷ marked 1 (Got 1) ∷
-    marked 1 (Sent 3 3 (messages.Answer 1 (answers.Granted (grant_with 1 0 [])))) ∷ marked 3 (Got 2) ∷ marked 3 (Got 3)
+    marked 0 (Sent 2 3 (messages.Answer 0 (answers.Granted (whole_grant 1 0 [])))) ∷ marked 1 (Got 1) ∷
+    marked 1 (Sent 3 3 (messages.Answer 1 (answers.Granted (whole_grant 1 0 [])))) ∷ marked 3 (Got 2) ∷ marked 3 (Got 3)
     ∷
     marked 3 (Told (replies.Response 2)) ∷ marked 3 (Called commands.Commit) ∷
     marked 3 (Sent 4 0 (messages.Request (tx 0 1) 1 1 wants.Prepare)) ∷
@@ -62,8 +62,8 @@ history =
     marked 2 (Sent 26 6 (messages.Answer 23 answers.Installed)) ∷ marked 6 (Got 24) ∷ marked 6 (Got 25) ∷
     marked 6 (Got 26) ∷ marked 6 (Told (replies.Moved 3 7)) ∷ marked 7 (Phase 4) ∷ marked 4 (Called commands.Begin) ∷
     marked 4 (Told (replies.Began (tx 1 1))) ∷ marked 4 (Called (commands.Do 0 0)) ∷
-    marked 4 (Sent 27 1 (messages.Request (tx 1 1) 1 0 (wants.Read (read_of 0 0)))) ∷
-    marked 4 (Sent 28 2 (messages.Request (tx 1 1) 1 0 (wants.Read (read_of 0 0)))) ∷ marked 1 (Got 27) ∷
+    marked 4 (Sent 27 1 (messages.Request (tx 1 1) 1 0 (wants.Read (first_read 0 0)))) ∷
+    marked 4 (Sent 28 2 (messages.Request (tx 1 1) 1 0 (wants.Read (first_read 0 0)))) ∷ marked 1 (Got 27) ∷
     marked 1 (Sent 29 4 (messages.Answer 27 (answers.Closed 2))) ∷ marked 2 (Got 28) ∷
     marked 2 (Sent 30 4 (messages.Answer 28 (answers.Closed 2))) ∷ marked 4 (Got 29) ∷ marked 4 (Got 30) ∷
     marked 4 (Told (replies.Closed 2 1)) ∷ marked 4 (Called commands.Abort) ∷
@@ -71,8 +71,8 @@ history =
     marked 4 (Sent 32 2 (messages.Decision (tx 1 1) outcomes.Aborted)) ∷ marked 4 (Told replies.Dropped) ∷
     marked 1 (Got 31) ∷ marked 2 (Got 32) ∷ marked 4 (Called commands.Begin) ∷
     marked 4 (Told (replies.Began (tx 1 2))) ∷ marked 4 (Called (commands.Do 0 0)) ∷
-    marked 4 (Sent 33 1 (messages.Request (tx 1 2) 2 0 (wants.Read (read_of 0 0)))) ∷ marked 1 (Got 33) ∷
-    marked 1 (Sent 34 4 (messages.Answer 33 (answers.Granted (grant_with 2 1 (line 1 0 1 1 0 3 ∷ [])))))
+    marked 4 (Sent 33 1 (messages.Request (tx 1 2) 2 0 (wants.Read (first_read 0 0)))) ∷ marked 1 (Got 33) ∷
+    marked 1 (Sent 34 4 (messages.Answer 33 (answers.Granted (whole_grant 2 1 (line 1 0 1 1 0 3 ∷ [])))))
     ∷ marked 4 (Got 34) ∷
     marked 4 (Told (replies.Response 1)) ∷ marked 4 (Called commands.Commit) ∷
     marked 4 (Sent 35 1 (messages.Request (tx 1 2) 2 2 wants.Prepare)) ∷ marked 1 (Got 35) ∷

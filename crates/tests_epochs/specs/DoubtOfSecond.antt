@@ -11,7 +11,7 @@ use Rattle.qc_msg.specs.declared.message.Outcome.TheVariants as outcomes
 use Rattle.qc_msg.specs.declared.record.Record.TheVariants as records
 use Rattle.qc_msg.specs.declared.reply.Reply.TheVariants as replies
 use Rattle.qc_msg.specs.declared.message.Want.TheVariants as wants
-use Rattle.qc_msg.specs.Vocabulary.{grant_with, read_of, snapshot_with, start_with}
+use Rattle.qc_msg.specs.Vocabulary.{whole_grant, first_read, snapshot_with, start_with}
 
 abbrev pub history : List Entry
 history =
@@ -19,8 +19,8 @@ history =
     marked 5 (Called (commands.Do 0 2)) ∷
     marked 5 (Sent 0 2 (messages.Request (tx 2 1) 1 0 (wants.Append 0 [] (own_line 1 0 3 ∷ [])))) ∷
     marked 5 (Sent 1 0 (messages.Request (tx 2 1) 1 0 (wants.Append 0 [] (own_line 1 0 3 ∷ [])))) ∷ marked 2 (Got 0) ∷
-    marked 2 (Sent 2 5 (messages.Answer 0 (answers.Granted (grant_with 1 0 [])))) ∷ marked 0 (Got 1) ∷
-    marked 0 (Sent 3 5 (messages.Answer 1 (answers.Granted (grant_with 1 0 [])))) ∷ marked 5 (Got 2) ∷ marked 5 (Got 3)
+    marked 2 (Sent 2 5 (messages.Answer 0 (answers.Granted (whole_grant 1 0 [])))) ∷ marked 0 (Got 1) ∷
+    marked 0 (Sent 3 5 (messages.Answer 1 (answers.Granted (whole_grant 1 0 [])))) ∷ marked 5 (Got 2) ∷ marked 5 (Got 3)
     ∷
     marked 5 (Told (replies.Response 2)) ∷ marked 5 (Called commands.Commit) ∷
     marked 5 (Sent 4 2 (messages.Request (tx 2 1) 1 1 wants.Prepare)) ∷
@@ -36,8 +36,8 @@ history =
     marked 4 (Told (replies.Began (tx 1 1))) ∷ marked 4 (Called (commands.Do 0 1)) ∷
     marked 4 (Sent 10 1 (messages.Request (tx 1 1) 1 0 (wants.Append 0 [] (own_line 1 0 2 ∷ [])))) ∷
     marked 4 (Sent 11 2 (messages.Request (tx 1 1) 1 0 (wants.Append 0 [] (own_line 1 0 2 ∷ [])))) ∷ marked 1 (Got 10) ∷
-    marked 1 (Sent 12 4 (messages.Answer 10 (answers.Granted (grant_with 1 0 [])))) ∷ marked 2 (Got 11) ∷
-    marked 2 (Sent 13 4 (messages.Answer 11 (answers.Granted (grant_with 1 0 [])))) ∷ marked 4 (Got 12)
+    marked 1 (Sent 12 4 (messages.Answer 10 (answers.Granted (whole_grant 1 0 [])))) ∷ marked 2 (Got 11) ∷
+    marked 2 (Sent 13 4 (messages.Answer 11 (answers.Granted (whole_grant 1 0 [])))) ∷ marked 4 (Got 12)
     ∷ marked 4 (Got 13) ∷
     marked 4 (Told (replies.Response 2)) ∷ marked 4 (Called commands.Commit) ∷
     marked 4 (Sent 14 1 (messages.Request (tx 1 1) 1 1 wants.Prepare)) ∷
@@ -53,8 +53,8 @@ history =
     marked 3 (Told (replies.Began (tx 0 1))) ∷ marked 3 (Called (commands.Do 0 2)) ∷
     marked 3 (Sent 20 0 (messages.Request (tx 0 1) 1 0 (wants.Append 0 [] (own_line 1 0 3 ∷ [])))) ∷
     marked 3 (Sent 21 1 (messages.Request (tx 0 1) 1 0 (wants.Append 0 [] (own_line 1 0 3 ∷ [])))) ∷ marked 0 (Got 20) ∷
-    marked 0 (Sent 22 3 (messages.Answer 20 (answers.Granted (grant_with 1 0 [])))) ∷ marked 1 (Got 21) ∷
-    marked 1 (Sent 23 3 (messages.Answer 21 (answers.Granted (grant_with 1 0 [])))) ∷ marked 3 (Got 22)
+    marked 0 (Sent 22 3 (messages.Answer 20 (answers.Granted (whole_grant 1 0 [])))) ∷ marked 1 (Got 21) ∷
+    marked 1 (Sent 23 3 (messages.Answer 21 (answers.Granted (whole_grant 1 0 [])))) ∷ marked 3 (Got 22)
     ∷ marked 3 (Got 23) ∷
     marked 3 (Told (replies.Response 2)) ∷ marked 3 (Called commands.Commit) ∷
     marked 3 (Sent 24 0 (messages.Request (tx 0 1) 1 1 wants.Prepare)) ∷
@@ -104,8 +104,8 @@ history =
     marked 2 (Sent 54 6 (messages.Answer 51 answers.Installed)) ∷ marked 6 (Got 52) ∷ marked 6 (Got 53) ∷
     marked 6 (Got 54) ∷ marked 6 (Told (replies.Moved 3 7)) ∷ marked 7 (Phase 6) ∷ marked 4 (Called commands.Begin) ∷
     marked 4 (Told (replies.Began (tx 1 2))) ∷ marked 4 (Called (commands.Do 0 0)) ∷
-    marked 4 (Sent 55 1 (messages.Request (tx 1 2) 1 0 (wants.Read (read_of 0 0)))) ∷
-    marked 4 (Sent 56 2 (messages.Request (tx 1 2) 1 0 (wants.Read (read_of 0 0)))) ∷ marked 1 (Got 55) ∷
+    marked 4 (Sent 55 1 (messages.Request (tx 1 2) 1 0 (wants.Read (first_read 0 0)))) ∷
+    marked 4 (Sent 56 2 (messages.Request (tx 1 2) 1 0 (wants.Read (first_read 0 0)))) ∷ marked 1 (Got 55) ∷
     marked 1 (Sent 57 4 (messages.Answer 55 (answers.Closed 2))) ∷ marked 2 (Got 56) ∷
     marked 2 (Sent 58 4 (messages.Answer 56 (answers.Closed 2))) ∷ marked 4 (Got 57) ∷ marked 4 (Got 58) ∷
     marked 4 (Told (replies.Closed 2 1)) ∷ marked 4 (Called commands.Abort) ∷
@@ -113,11 +113,11 @@ history =
     marked 4 (Sent 60 2 (messages.Decision (tx 1 2) outcomes.Aborted)) ∷ marked 4 (Told replies.Dropped) ∷
     marked 1 (Got 59) ∷ marked 2 (Got 60) ∷ marked 4 (Called commands.Begin) ∷
     marked 4 (Told (replies.Began (tx 1 3))) ∷ marked 4 (Called (commands.Do 0 0)) ∷
-    marked 4 (Sent 61 1 (messages.Request (tx 1 3) 2 0 (wants.Read (read_of 0 0)))) ∷ marked 1 (Got 61) ∷
+    marked 4 (Sent 61 1 (messages.Request (tx 1 3) 2 0 (wants.Read (first_read 0 0)))) ∷ marked 1 (Got 61) ∷
     marked 1
     (Sent 62 4
     (messages.Answer 61
-    (answers.Granted (grant_with 2 1 (line 1 0 1 1 0 3 ∷ line 1 1 1 1 0 2 ∷ line 1 2 1 1 0 3 ∷ []))))) ∷
+    (answers.Granted (whole_grant 2 1 (line 1 0 1 1 0 3 ∷ line 1 1 1 1 0 2 ∷ line 1 2 1 1 0 3 ∷ []))))) ∷
     marked 4 (Got 62) ∷ marked 4 (Told (replies.Response 1)) ∷ marked 4 (Called commands.Commit) ∷
     marked 4 (Sent 63 1 (messages.Request (tx 1 3) 2 2 wants.Prepare)) ∷ marked 1 (Got 63) ∷
     marked 1 (Wrote (prepare (tx 1 3) 2 (read_lock 0 0 ∷ []) [] [])) ∷

@@ -11,7 +11,7 @@ use Rattle.qc_msg.specs.declared.message.Outcome.TheVariants as outcomes
 use Rattle.qc_msg.specs.declared.record.Record.TheVariants as records
 use Rattle.qc_msg.specs.declared.reply.Reply.TheVariants as replies
 use Rattle.qc_msg.specs.declared.message.Want.TheVariants as wants
-use Rattle.qc_msg.specs.Vocabulary.{grant_with, read_of, snapshot_with, start_with}
+use Rattle.qc_msg.specs.Vocabulary.{whole_grant, first_read, snapshot_with, start_with}
 
 abbrev pub history : List Entry
 history =
@@ -19,16 +19,17 @@ history =
     marked 3 (Called (commands.Do 0 2)) ∷
     marked 3 (Sent 0 0 (messages.Request (tx 0 1) 1 0 (wants.Append 0 [] (own_line 1 0 3 ∷ [])))) ∷
     marked 3 (Sent 1 1 (messages.Request (tx 0 1) 1 0 (wants.Append 0 [] (own_line 1 0 3 ∷ [])))) ∷ marked 0 (Got 0) ∷
-    marked 0 (Sent 2 3 (messages.Answer 0 (answers.Granted (grant_with 1 0 [])))) ∷ marked 1 (Got 1) ∷
-    marked 1 (Sent 3 3 (messages.Answer 1 (answers.Granted (grant_with 1 0 [])))) ∷ marked 3 (Got 2) ∷ marked 3 (Got 3)
+    marked 0 (Sent 2 3 (messages.Answer 0 (answers.Granted (whole_grant 1 0 [])))) ∷ marked 1 (Got 1) ∷
+    marked 1 (Sent 3 3 (messages.Answer 1 (answers.Granted (whole_grant 1 0 [])))) ∷ marked 3 (Got 2) ∷ marked 3 (Got 3)
     ∷
     marked 3 (Told (replies.Response 2)) ∷ marked 3 (Called (commands.Do 1 2)) ∷
     marked 3 (Sent 4 0 (messages.Request (tx 0 1) 1 1 (wants.Append 1 [] (own_line 2 1 3 ∷ [])))) ∷
     marked 3 (Sent 5 1 (messages.Request (tx 0 1) 1 1 (wants.Append 1 [] (own_line 2 1 3 ∷ [])))) ∷ marked 0 (Got 4) ∷
-    marked 0 (Sent 6 3 (messages.Answer 4 (answers.Granted (grant_with 1 0 [])))) ∷ marked 3 (Got 6) ∷ marked 3 (Lost 5)
+    marked 0 (Sent 6 3 (messages.Answer 4 (answers.Granted (whole_grant 1 0 [])))) ∷ marked 3 (Got 6) ∷
+    marked 3 (Lost 5)
     ∷
     marked 3 (Sent 7 2 (messages.Request (tx 0 1) 1 0 (wants.Append 1 [] (own_line 2 1 3 ∷ [])))) ∷ marked 2 (Got 7) ∷
-    marked 2 (Sent 8 3 (messages.Answer 7 (answers.Granted (grant_with 1 0 [])))) ∷ marked 3 (Got 8) ∷
+    marked 2 (Sent 8 3 (messages.Answer 7 (answers.Granted (whole_grant 1 0 [])))) ∷ marked 3 (Got 8) ∷
     marked 3 (Told (replies.Response 2)) ∷ marked 3 (Called commands.Commit) ∷
     marked 3 (Sent 9 0 (messages.Request (tx 0 1) 1 1 wants.Prepare)) ∷
     marked 3 (Sent 10 1 (messages.Request (tx 0 1) 1 1 wants.Prepare)) ∷
@@ -66,8 +67,8 @@ history =
     marked 2 (Sent 29 6 (messages.Answer 27 answers.Installed)) ∷ marked 6 (Got 28) ∷ marked 6 (Got 29) ∷
     marked 6 (Lost 25) ∷ marked 6 (Told (replies.Moved 6 6)) ∷ marked 7 (Phase 3) ∷ marked 4 (Called commands.Begin) ∷
     marked 4 (Told (replies.Began (tx 1 1))) ∷ marked 4 (Called (commands.Do 1 0)) ∷
-    marked 4 (Sent 30 1 (messages.Request (tx 1 1) 1 0 (wants.Read (read_of 1 0)))) ∷
-    marked 4 (Sent 31 2 (messages.Request (tx 1 1) 1 0 (wants.Read (read_of 1 0)))) ∷ marked 1 (Got 30) ∷
+    marked 4 (Sent 30 1 (messages.Request (tx 1 1) 1 0 (wants.Read (first_read 1 0)))) ∷
+    marked 4 (Sent 31 2 (messages.Request (tx 1 1) 1 0 (wants.Read (first_read 1 0)))) ∷ marked 1 (Got 30) ∷
     marked 1 (Sent 32 4 (messages.Answer 30 (answers.Closed 2))) ∷ marked 2 (Got 31) ∷
     marked 2 (Sent 33 4 (messages.Answer 31 (answers.Closed 2))) ∷ marked 4 (Got 32) ∷ marked 4 (Got 33) ∷
     marked 4 (Told (replies.Closed 2 1)) ∷ marked 4 (Called commands.Abort) ∷
@@ -75,12 +76,12 @@ history =
     marked 4 (Sent 35 2 (messages.Decision (tx 1 1) outcomes.Aborted)) ∷ marked 4 (Told replies.Dropped) ∷
     marked 1 (Got 34) ∷ marked 2 (Got 35) ∷ marked 4 (Called commands.Begin) ∷
     marked 4 (Told (replies.Began (tx 1 2))) ∷ marked 4 (Called (commands.Do 1 0)) ∷
-    marked 4 (Sent 36 1 (messages.Request (tx 1 2) 2 0 (wants.Read (read_of 1 0)))) ∷ marked 1 (Got 36) ∷
-    marked 1 (Sent 37 4 (messages.Answer 36 (answers.Granted (grant_with 2 1 (line 1 0 1 2 1 3 ∷ [])))))
+    marked 4 (Sent 36 1 (messages.Request (tx 1 2) 2 0 (wants.Read (first_read 1 0)))) ∷ marked 1 (Got 36) ∷
+    marked 1 (Sent 37 4 (messages.Answer 36 (answers.Granted (whole_grant 2 1 (line 1 0 1 2 1 3 ∷ [])))))
     ∷ marked 4 (Got 37) ∷
     marked 4 (Told (replies.Response 1)) ∷ marked 4 (Called (commands.Do 0 0)) ∷
-    marked 4 (Sent 38 1 (messages.Request (tx 1 2) 2 2 (wants.Read (read_of 0 0)))) ∷ marked 1 (Got 38) ∷
-    marked 1 (Sent 39 4 (messages.Answer 38 (answers.Granted (grant_with 2 1 (line 1 0 1 1 0 3 ∷ [])))))
+    marked 4 (Sent 38 1 (messages.Request (tx 1 2) 2 2 (wants.Read (first_read 0 0)))) ∷ marked 1 (Got 38) ∷
+    marked 1 (Sent 39 4 (messages.Answer 38 (answers.Granted (whole_grant 2 1 (line 1 0 1 1 0 3 ∷ [])))))
     ∷ marked 4 (Got 39) ∷
     marked 4 (Told (replies.Response 1)) ∷ marked 4 (Called commands.Commit) ∷
     marked 4 (Sent 40 1 (messages.Request (tx 1 2) 2 2 wants.Prepare)) ∷ marked 1 (Got 40) ∷

@@ -10,7 +10,7 @@ use Rattle.qc_msg.specs.declared.message.Outcome.TheVariants as outcomes
 use Rattle.qc_msg.specs.declared.record.Record.TheVariants as records
 use Rattle.qc_msg.specs.declared.reply.Reply.TheVariants as replies
 use Rattle.qc_msg.specs.declared.message.Want.TheVariants as wants
-use Rattle.qc_msg.specs.Vocabulary.{grant_with, read_of, snapshot_with, start_with}
+use Rattle.qc_msg.specs.Vocabulary.{whole_grant, first_read, snapshot_with, start_with}
 
 abbrev pub history : List Entry
 history =
@@ -18,8 +18,8 @@ history =
     marked 3 (Called (commands.Do 0 2)) ∷
     marked 3 (Sent 0 0 (messages.Request (tx 0 1) 1 0 (wants.Append 0 [] (own_line 1 0 3 ∷ [])))) ∷
     marked 3 (Sent 1 1 (messages.Request (tx 0 1) 1 0 (wants.Append 0 [] (own_line 1 0 3 ∷ [])))) ∷ marked 0 (Got 0) ∷
-    marked 0 (Sent 2 3 (messages.Answer 0 (answers.Granted (grant_with 1 0 [])))) ∷ marked 1 (Got 1) ∷
-    marked 1 (Sent 3 3 (messages.Answer 1 (answers.Granted (grant_with 1 0 [])))) ∷ marked 3 (Got 2) ∷ marked 3 (Got 3)
+    marked 0 (Sent 2 3 (messages.Answer 0 (answers.Granted (whole_grant 1 0 [])))) ∷ marked 1 (Got 1) ∷
+    marked 1 (Sent 3 3 (messages.Answer 1 (answers.Granted (whole_grant 1 0 [])))) ∷ marked 3 (Got 2) ∷ marked 3 (Got 3)
     ∷
     marked 3 (Told (replies.Response 2)) ∷ marked 3 (Called commands.Commit) ∷
     marked 3 (Sent 4 0 (messages.Request (tx 0 1) 1 1 wants.Prepare)) ∷
@@ -89,8 +89,8 @@ history =
     marked 2 (Sent 42 6 (messages.Answer 39 answers.Installed)) ∷ marked 6 (Got 40) ∷ marked 6 (Got 41) ∷
     marked 6 (Got 42) ∷ marked 6 (Told (replies.Moved 0 7)) ∷ marked 7 (Phase 4) ∷ marked 4 (Called commands.Begin) ∷
     marked 4 (Told (replies.Began (tx 1 1))) ∷ marked 4 (Called (commands.Do 0 0)) ∷
-    marked 4 (Sent 43 1 (messages.Request (tx 1 1) 1 0 (wants.Read (read_of 0 0)))) ∷
-    marked 4 (Sent 44 2 (messages.Request (tx 1 1) 1 0 (wants.Read (read_of 0 0)))) ∷ marked 1 (Got 43) ∷
+    marked 4 (Sent 43 1 (messages.Request (tx 1 1) 1 0 (wants.Read (first_read 0 0)))) ∷
+    marked 4 (Sent 44 2 (messages.Request (tx 1 1) 1 0 (wants.Read (first_read 0 0)))) ∷ marked 1 (Got 43) ∷
     marked 1 (Sent 45 4 (messages.Answer 43 (answers.Closed 3))) ∷ marked 2 (Got 44) ∷
     marked 2 (Sent 46 4 (messages.Answer 44 (answers.Closed 3))) ∷ marked 4 (Got 45) ∷ marked 4 (Got 46) ∷
     marked 4 (Told (replies.Closed 3 1)) ∷ marked 4 (Called commands.Abort) ∷
@@ -98,11 +98,11 @@ history =
     marked 4 (Sent 48 2 (messages.Decision (tx 1 1) outcomes.Aborted)) ∷ marked 4 (Told replies.Dropped) ∷
     marked 1 (Got 47) ∷ marked 2 (Got 48) ∷ marked 4 (Called commands.Begin) ∷
     marked 4 (Told (replies.Began (tx 1 2))) ∷ marked 4 (Called (commands.Do 0 0)) ∷
-    marked 4 (Sent 49 1 (messages.Request (tx 1 2) 3 0 (wants.Read (read_of 0 0)))) ∷
-    marked 4 (Sent 50 2 (messages.Request (tx 1 2) 3 0 (wants.Read (read_of 0 0)))) ∷ marked 1 (Got 49) ∷
-    marked 1 (Sent 51 4 (messages.Answer 49 (answers.Granted (grant_with 3 1 (line 1 0 1 1 0 3 ∷ [])))))
+    marked 4 (Sent 49 1 (messages.Request (tx 1 2) 3 0 (wants.Read (first_read 0 0)))) ∷
+    marked 4 (Sent 50 2 (messages.Request (tx 1 2) 3 0 (wants.Read (first_read 0 0)))) ∷ marked 1 (Got 49) ∷
+    marked 1 (Sent 51 4 (messages.Answer 49 (answers.Granted (whole_grant 3 1 (line 1 0 1 1 0 3 ∷ [])))))
     ∷ marked 2 (Got 50) ∷
-    marked 2 (Sent 52 4 (messages.Answer 50 (answers.Granted (grant_with 2 1 (line 1 0 1 1 0 3 ∷ [])))))
+    marked 2 (Sent 52 4 (messages.Answer 50 (answers.Granted (whole_grant 2 1 (line 1 0 1 1 0 3 ∷ [])))))
     ∷ marked 4 (Got 51) ∷
     marked 4 (Got 52) ∷ marked 4 (Told (replies.Response 1)) ∷ marked 4 (Called commands.Commit) ∷
     marked 4 (Sent 53 1 (messages.Request (tx 1 2) 3 3 wants.Prepare)) ∷

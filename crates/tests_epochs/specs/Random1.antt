@@ -16,7 +16,7 @@ use Rattle.qc_msg.specs.declared.record.Record.TheVariants as records
 use Rattle.qc_msg.specs.declared.reply.Reply.TheVariants as replies
 use Rattle.qc_msg.specs.declared.message.Want.TheVariants as wants
 use Rattle.qc_msg.specs.declared.step.Fall.TheVariants as falls
-use Rattle.qc_msg.specs.Vocabulary.{grant_with, read_of, snapshot_with, start_with}
+use Rattle.qc_msg.specs.Vocabulary.{whole_grant, first_read, snapshot_with, start_with}
 use Rattle.qc_outside.specs.declared.disk.ArmKind.TheVariants as arms
 
 abbrev pub decl : Declaration
@@ -33,13 +33,13 @@ history =
     marked 2 (Told (replies.Began (tx 0 1))) ∷ marked 3 (Called (commands.Epoch 3)) ∷
     marked 3 (Told (replies.Order 1)) ∷ marked 3 (Called (commands.Epoch 3)) ∷ marked 3 (Told (replies.Order 1)) ∷
     marked 4 (Phase 2) ∷ marked 1 (Rose []) ∷ marked 1 (Wrote records.Life) ∷ marked 2 (Called (commands.Do 0 0)) ∷
-    marked 2 (Sent 0 0 (messages.Request (tx 0 1) 1 0 (wants.Read (read_of 0 0)))) ∷ marked 2 (Lost 0) ∷
-    marked 2 (Sent 1 1 (messages.Request (tx 0 1) 1 0 (wants.Read (read_of 0 0))))
+    marked 2 (Sent 0 0 (messages.Request (tx 0 1) 1 0 (wants.Read (first_read 0 0)))) ∷ marked 2 (Lost 0) ∷
+    marked 2 (Sent 1 1 (messages.Request (tx 0 1) 1 0 (wants.Read (first_read 0 0))))
     ∷ marked 3 (Called (commands.Epoch 2)) ∷
     marked 3 (Sent 2 0 (messages.Close 2)) ∷ marked 3 (Sent 3 1 (messages.Close 2)) ∷ marked 0 (Got 2) ∷
     marked 0 (Wrote (records.Close 2)) ∷ marked 0 (Sent 4 3 (messages.Answer 2 (answers.Shut (snapshot_with 0 [] []))))
     ∷
-    marked 1 (Got 1) ∷ marked 3 (Got 4) ∷ marked 1 (Sent 5 2 (messages.Answer 1 (answers.Granted (grant_with 2 0 []))))
+    marked 1 (Got 1) ∷ marked 3 (Got 4) ∷ marked 1 (Sent 5 2 (messages.Answer 1 (answers.Granted (whole_grant 2 0 []))))
     ∷
     marked 2 (Got 5) ∷ marked 2 (Told (replies.Response 1)) ∷ marked 1 (Got 3) ∷ marked 2 (Called commands.Commit) ∷
     marked 1 (Wrote (records.Close 2)) ∷ marked 1 (Sent 6 3 (messages.Answer 3 (answers.Shut (snapshot_with 0 [] []))))

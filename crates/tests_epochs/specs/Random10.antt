@@ -15,7 +15,7 @@ use Rattle.qc_msg.specs.declared.record.Record.TheVariants as records
 use Rattle.qc_msg.specs.declared.reply.Reply.TheVariants as replies
 use Rattle.qc_msg.specs.declared.message.Want.TheVariants as wants
 use Rattle.qc_msg.specs.declared.step.Fall.TheVariants as falls
-use Rattle.qc_msg.specs.Vocabulary.{read_of, snapshot_with, start_with}
+use Rattle.qc_msg.specs.Vocabulary.{first_read, snapshot_with, start_with}
 use Rattle.qc_outside.specs.declared.disk.ArmKind.TheVariants as arms
 
 abbrev pub decl : Declaration
@@ -47,16 +47,16 @@ history =
     marked 5 (Got 6) ∷ marked 1 (Got 5) ∷ marked 1 (Fell falls.Stop (Some (records.Install (start_with 2 0 [])))) ∷
     marked 5 (Lost 5) ∷ marked 5 (Told (replies.Moved 3 0)) ∷ marked 3 (Called commands.Begin) ∷
     marked 3 (Told (replies.Began (tx 1 2))) ∷ marked 3 (Called (commands.Do 1 2)) ∷
-    marked 3 (Sent 7 1 (messages.Request (tx 1 2) 1 0 (wants.Read (read_of 1 2)))) ∷
-    marked 3 (Sent 8 0 (messages.Request (tx 1 2) 1 0 (wants.Read (read_of 1 2)))) ∷ marked 3 (Lost 7)
+    marked 3 (Sent 7 1 (messages.Request (tx 1 2) 1 0 (wants.Read (first_read 1 2)))) ∷
+    marked 3 (Sent 8 0 (messages.Request (tx 1 2) 1 0 (wants.Read (first_read 1 2)))) ∷ marked 3 (Lost 7)
     ∷ marked 3 (Lost 8) ∷
     marked 3 (Told (replies.Quorum halves.Read 0 2)) ∷ marked 3 (Called (commands.Do 1 1)) ∷
-    marked 3 (Sent 9 1 (messages.Request (tx 1 2) 1 0 (wants.Read (read_of 1 1)))) ∷
-    marked 3 (Sent 10 0 (messages.Request (tx 1 2) 1 0 (wants.Read (read_of 1 1)))) ∷ marked 3 (Lost 9)
+    marked 3 (Sent 9 1 (messages.Request (tx 1 2) 1 0 (wants.Read (first_read 1 1)))) ∷
+    marked 3 (Sent 10 0 (messages.Request (tx 1 2) 1 0 (wants.Read (first_read 1 1)))) ∷ marked 3 (Lost 9)
     ∷ marked 3 (Lost 10) ∷
     marked 3 (Told (replies.Quorum halves.Read 0 2)) ∷ marked 3 (Called (commands.Do 1 2)) ∷
-    marked 3 (Sent 11 1 (messages.Request (tx 1 2) 1 0 (wants.Read (read_of 1 2)))) ∷
-    marked 3 (Sent 12 0 (messages.Request (tx 1 2) 1 0 (wants.Read (read_of 1 2)))) ∷ marked 3 (Lost 11)
+    marked 3 (Sent 11 1 (messages.Request (tx 1 2) 1 0 (wants.Read (first_read 1 2)))) ∷
+    marked 3 (Sent 12 0 (messages.Request (tx 1 2) 1 0 (wants.Read (first_read 1 2)))) ∷ marked 3 (Lost 11)
     ∷ marked 3 (Lost 12) ∷
     marked 3 (Told (replies.Quorum halves.Read 0 2)) ∷ marked 6 (Phase 2) ∷
     marked 0 (Rose ((records.Close 2) ∷ (records.Install (start_with 2 0 [])) ∷ [])) ∷ marked 0 (Wrote records.Life) ∷

@@ -17,7 +17,7 @@ use Rattle.qc_msg.specs.declared.record.Record.TheVariants as records
 use Rattle.qc_msg.specs.declared.reply.Reply.TheVariants as replies
 use Rattle.qc_msg.specs.declared.message.Want.TheVariants as wants
 use Rattle.qc_msg.specs.declared.step.Fall.TheVariants as falls
-use Rattle.qc_msg.specs.Vocabulary.{grant_with, read_of, snapshot_with, start_with}
+use Rattle.qc_msg.specs.Vocabulary.{whole_grant, first_read, snapshot_with, start_with}
 
 abbrev pub decl : Declaration
 decl =
@@ -42,10 +42,10 @@ history =
     ∷ marked 0 (Got 2) ∷
     marked 0 (Wrote (records.Install (start_with 2 0 []))) ∷ marked 0 (Sent 3 3 (messages.Answer 2 answers.Installed)) ∷
     marked 3 (Got 3) ∷ marked 3 (Told (replies.Moved 1 1)) ∷ marked 1 (Called (commands.Do 0 0)) ∷
-    marked 1 (Sent 4 0 (messages.Request (tx_in 0 2 1) 1 0 (wants.Read (read_of 0 0)))) ∷ marked 0 (Got 4) ∷
+    marked 1 (Sent 4 0 (messages.Request (tx_in 0 2 1) 1 0 (wants.Read (first_read 0 0)))) ∷ marked 0 (Got 4) ∷
     marked 0 (Sent 5 1 (messages.Answer 4 (answers.Closed 2))) ∷ marked 1 (Got 5) ∷
     marked 1 (Told (replies.Closed 2 0)) ∷ marked 1 (Called (commands.Do 1 2)) ∷
-    marked 1 (Sent 6 0 (messages.Request (tx_in 0 2 1) 1 0 (wants.Read (read_of 1 2)))) ∷ marked 0 (Got 6) ∷
+    marked 1 (Sent 6 0 (messages.Request (tx_in 0 2 1) 1 0 (wants.Read (first_read 1 2)))) ∷ marked 0 (Got 6) ∷
     marked 0 (Sent 7 1 (messages.Answer 6 (answers.Closed 2))) ∷ marked 1 (Got 7) ∷
     marked 1 (Told (replies.Closed 2 0)) ∷ marked 1 (Called commands.Commit) ∷
     marked 1 (Wrote (commit (stamp 1 0) (tx_in 0 2 1) [])) ∷
@@ -57,28 +57,28 @@ history =
     marked 1 (Called commands.Begin) ∷ marked 1 (Told (replies.Began (tx_in 0 2 2))) ∷
     marked 2 (Called commands.Begin) ∷ marked 2 (Told (replies.Began (tx_in 1 3 1))) ∷
     marked 1 (Called (commands.Do 1 2))
-    ∷ marked 1 (Sent 9 0 (messages.Request (tx_in 0 2 2) 2 0 (wants.Read (read_of 1 2)))) ∷
-    marked 0 (Got 9) ∷ marked 0 (Sent 10 1 (messages.Answer 9 (answers.Granted (grant_with 3 0 []))))
+    ∷ marked 1 (Sent 9 0 (messages.Request (tx_in 0 2 2) 2 0 (wants.Read (first_read 1 2)))) ∷
+    marked 0 (Got 9) ∷ marked 0 (Sent 10 1 (messages.Answer 9 (answers.Granted (whole_grant 3 0 []))))
     ∷ marked 1 (Got 10) ∷
     marked 1 (Sent 11 0 (messages.Request (tx_in 0 2 2) 2 3 (wants.Append 1 [] (own_line 1 1 3 ∷ [])))) ∷
-    marked 0 (Got 11) ∷ marked 0 (Sent 12 1 (messages.Answer 11 (answers.Granted (grant_with 3 0 []))))
+    marked 0 (Got 11) ∷ marked 0 (Sent 12 1 (messages.Answer 11 (answers.Granted (whole_grant 3 0 []))))
     ∷ marked 1 (Got 12) ∷
     marked 1 (Told (replies.Response 1)) ∷ marked 2 (Called (commands.Do 0 0)) ∷
-    marked 2 (Sent 13 0 (messages.Request (tx_in 1 3 1) 1 0 (wants.Read (read_of 0 0)))) ∷ marked 0 (Got 13) ∷
+    marked 2 (Sent 13 0 (messages.Request (tx_in 1 3 1) 1 0 (wants.Read (first_read 0 0)))) ∷ marked 0 (Got 13) ∷
     marked 0 (Sent 14 2 (messages.Answer 13 (answers.Closed 2))) ∷ marked 2 (Got 14) ∷
     marked 2 (Told (replies.Closed 2 0)) ∷ marked 1 (Called (commands.Do 1 1)) ∷
-    marked 1 (Sent 15 0 (messages.Request (tx_in 0 2 2) 2 3 (wants.Read (read_of 1 1)))) ∷ marked 0 (Got 15) ∷
-    marked 0 (Sent 16 1 (messages.Answer 15 (answers.Granted (grant_with 3 0 [])))) ∷ marked 1 (Got 16) ∷
+    marked 1 (Sent 15 0 (messages.Request (tx_in 0 2 2) 2 3 (wants.Read (first_read 1 1)))) ∷ marked 0 (Got 15) ∷
+    marked 0 (Sent 16 1 (messages.Answer 15 (answers.Granted (whole_grant 3 0 [])))) ∷ marked 1 (Got 16) ∷
     marked 1 (Sent 17 0 (messages.Request (tx_in 0 2 2) 2 3 (wants.Append 1 [] (own_line 1 1 3 ∷ own_line 2 1 4 ∷ []))))
     ∷
-    marked 0 (Got 17) ∷ marked 0 (Sent 18 1 (messages.Answer 17 (answers.Granted (grant_with 3 0 []))))
+    marked 0 (Got 17) ∷ marked 0 (Sent 18 1 (messages.Answer 17 (answers.Granted (whole_grant 3 0 []))))
     ∷ marked 1 (Got 18) ∷
     marked 1 (Told (replies.Response 0)) ∷ marked 2 (Called (commands.Do 1 0)) ∷
-    marked 2 (Sent 19 0 (messages.Request (tx_in 1 3 1) 1 0 (wants.Read (read_of 1 0)))) ∷ marked 0 (Got 19) ∷
+    marked 2 (Sent 19 0 (messages.Request (tx_in 1 3 1) 1 0 (wants.Read (first_read 1 0)))) ∷ marked 0 (Got 19) ∷
     marked 0 (Sent 20 2 (messages.Answer 19 (answers.Closed 2))) ∷ marked 2 (Got 20) ∷
     marked 2 (Told (replies.Closed 2 0)) ∷ marked 1 (Called (commands.Do 0 1)) ∷
     marked 1 (Sent 21 0 (messages.Request (tx_in 0 2 2) 2 3 (wants.Append 0 [] (own_line 3 0 2 ∷ [])))) ∷
-    marked 0 (Got 21) ∷ marked 0 (Sent 22 1 (messages.Answer 21 (answers.Granted (grant_with 3 0 []))))
+    marked 0 (Got 21) ∷ marked 0 (Sent 22 1 (messages.Answer 21 (answers.Granted (whole_grant 3 0 []))))
     ∷ marked 1 (Got 22) ∷
     marked 1 (Told (replies.Response 2)) ∷ marked 1 (Called commands.Commit) ∷
     marked 1 (Sent 23 0 (messages.Request (tx_in 0 2 2) 2 3 wants.Prepare)) ∷ marked 0 (Got 23) ∷
@@ -92,11 +92,11 @@ history =
     marked 0 (Wrote (records.Done (tx_in 0 2 2) 2)) ∷ marked 4 (Phase 3) ∷ marked 0 (Fell falls.Script None) ∷
     marked 3 (Fell falls.Script None) ∷ marked 1 (Called commands.Begin) ∷
     marked 1 (Told (replies.Began (tx_in 0 2 3))) ∷ marked 2 (Called (commands.Do 0 0)) ∷
-    marked 2 (Sent 26 0 (messages.Request (tx_in 1 3 1) 1 0 (wants.Read (read_of 0 0)))) ∷ marked 2 (Lost 26) ∷
+    marked 2 (Sent 26 0 (messages.Request (tx_in 1 3 1) 1 0 (wants.Read (first_read 0 0)))) ∷ marked 2 (Lost 26) ∷
     marked 2 (Told (replies.Quorum halves.Read 0 1)) ∷ marked 1 (Called (commands.Do 1 2)) ∷
-    marked 1 (Sent 27 0 (messages.Request (tx_in 0 2 3) 2 0 (wants.Read (read_of 1 2)))) ∷ marked 1 (Lost 27) ∷
+    marked 1 (Sent 27 0 (messages.Request (tx_in 0 2 3) 2 0 (wants.Read (first_read 1 2)))) ∷ marked 1 (Lost 27) ∷
     marked 1 (Told (replies.Quorum halves.Read 0 2)) ∷ marked 2 (Called (commands.Do 1 1)) ∷
-    marked 2 (Sent 28 0 (messages.Request (tx_in 1 3 1) 1 0 (wants.Read (read_of 1 1)))) ∷ marked 2 (Lost 28) ∷
+    marked 2 (Sent 28 0 (messages.Request (tx_in 1 3 1) 1 0 (wants.Read (first_read 1 1)))) ∷ marked 2 (Lost 28) ∷
     marked 2 (Told (replies.Quorum halves.Read 0 1)) ∷ marked 1 (Called (commands.Do 0 1)) ∷
     marked 1 (Sent 29 0 (messages.Request (tx_in 0 2 3) 2 0 (wants.Append 0 [] (own_line 1 0 2 ∷ [])))) ∷
     marked 1 (Lost 29) ∷ marked 1 (Told (replies.Quorum halves.Append 0 3)) ∷ marked 2 (Called commands.Commit) ∷

@@ -15,7 +15,7 @@ use Rattle.qc_msg.specs.declared.record.Record.TheVariants as records
 use Rattle.qc_msg.specs.declared.reply.Reply.TheVariants as replies
 use Rattle.qc_msg.specs.declared.message.Want.TheVariants as wants
 use Rattle.qc_msg.specs.declared.step.Fall.TheVariants as falls
-use Rattle.qc_msg.specs.Vocabulary.{read_of, snapshot_with}
+use Rattle.qc_msg.specs.Vocabulary.{first_read, snapshot_with}
 use Rattle.qc_outside.specs.declared.disk.ArmKind.TheVariants as arms
 
 abbrev pub decl : Declaration
@@ -38,27 +38,29 @@ history =
     marked 4 (Wrote (records.Close 2)) ∷ marked 4 (Sent 6 9 (messages.Answer 4 (answers.Shut (snapshot_with 0 [] []))))
     ∷
     marked 7 (Called (commands.Do 1 1)) ∷ marked 3 (Got 3) ∷
-    marked 8 (Sent 7 3 (messages.Request (tx 3 1) 1 0 (wants.Read (read_of 1 1)))) ∷
-    marked 8 (Sent 8 4 (messages.Request (tx 3 1) 1 0 (wants.Read (read_of 1 1)))) ∷
-    marked 8 (Sent 9 0 (messages.Request (tx 3 1) 1 0 (wants.Read (read_of 1 1)))) ∷
-    marked 8 (Sent 10 1 (messages.Request (tx 3 1) 1 0 (wants.Read (read_of 1 1)))) ∷ marked 1 (Wrote (records.Close 2))
+    marked 8 (Sent 7 3 (messages.Request (tx 3 1) 1 0 (wants.Read (first_read 1 1)))) ∷
+    marked 8 (Sent 8 4 (messages.Request (tx 3 1) 1 0 (wants.Read (first_read 1 1)))) ∷
+    marked 8 (Sent 9 0 (messages.Request (tx 3 1) 1 0 (wants.Read (first_read 1 1)))) ∷
+    marked 8 (Sent 10 1 (messages.Request (tx 3 1) 1 0 (wants.Read (first_read 1 1)))) ∷
+    marked 1 (Wrote (records.Close 2))
     ∷
     marked 1 (Sent 11 9 (messages.Answer 1 (answers.Shut (snapshot_with 0 [] [])))) ∷ marked 5 (Called commands.Begin) ∷
     marked 5 (Told (replies.Began (tx 0 1)))
-    ∷ marked 7 (Sent 12 2 (messages.Request (tx 2 1) 1 0 (wants.Read (read_of 1 1)))) ∷
-    marked 7 (Sent 13 3 (messages.Request (tx 2 1) 1 0 (wants.Read (read_of 1 1)))) ∷
-    marked 7 (Sent 14 4 (messages.Request (tx 2 1) 1 0 (wants.Read (read_of 1 1)))) ∷ marked 3 (Wrote (records.Close 2))
+    ∷ marked 7 (Sent 12 2 (messages.Request (tx 2 1) 1 0 (wants.Read (first_read 1 1)))) ∷
+    marked 7 (Sent 13 3 (messages.Request (tx 2 1) 1 0 (wants.Read (first_read 1 1)))) ∷
+    marked 7 (Sent 14 4 (messages.Request (tx 2 1) 1 0 (wants.Read (first_read 1 1)))) ∷
+    marked 3 (Wrote (records.Close 2))
     ∷
     marked 3 (Sent 15 9 (messages.Answer 3 (answers.Shut (snapshot_with 0 [] []))))
     ∷ marked 5 (Called (commands.Do 1 0)) ∷
     marked 3 (Got 7) ∷ marked 0 (Got 0) ∷ marked 4 (Got 8) ∷
     marked 3 (Sent 16 8 (messages.Answer 7 (answers.Closed 2))) ∷ marked 0 (Fell falls.Stop (Some (records.Close 2))) ∷
     marked 4 (Sent 17 8 (messages.Answer 8 (answers.Closed 2))) ∷ marked 8 (Got 16) ∷ marked 3 (Got 13) ∷
-    marked 5 (Sent 18 0 (messages.Request (tx 0 1) 1 0 (wants.Read (read_of 1 0)))) ∷
-    marked 5 (Sent 19 1 (messages.Request (tx 0 1) 1 0 (wants.Read (read_of 1 0)))) ∷
-    marked 5 (Sent 20 2 (messages.Request (tx 0 1) 1 0 (wants.Read (read_of 1 0)))) ∷
-    marked 5 (Sent 21 3 (messages.Request (tx 0 1) 1 0 (wants.Read (read_of 1 0)))) ∷
-    marked 5 (Sent 22 4 (messages.Request (tx 0 1) 1 0 (wants.Read (read_of 1 0)))) ∷
+    marked 5 (Sent 18 0 (messages.Request (tx 0 1) 1 0 (wants.Read (first_read 1 0)))) ∷
+    marked 5 (Sent 19 1 (messages.Request (tx 0 1) 1 0 (wants.Read (first_read 1 0)))) ∷
+    marked 5 (Sent 20 2 (messages.Request (tx 0 1) 1 0 (wants.Read (first_read 1 0)))) ∷
+    marked 5 (Sent 21 3 (messages.Request (tx 0 1) 1 0 (wants.Read (first_read 1 0)))) ∷
+    marked 5 (Sent 22 4 (messages.Request (tx 0 1) 1 0 (wants.Read (first_read 1 0)))) ∷
     marked 3 (Sent 23 7 (messages.Answer 13 (answers.Closed 2))) ∷ marked 3 (Got 21) ∷
     marked 3 (Sent 24 5 (messages.Answer 21 (answers.Closed 2))) ∷ marked 1 (Got 10) ∷ marked 2 (Got 12) ∷
     marked 9 (Got 5) ∷ marked 8 (Got 17) ∷ marked 1 (Sent 25 8 (messages.Answer 10 (answers.Closed 2))) ∷
@@ -81,20 +83,20 @@ history =
     marked 7 (Fell falls.Disk (Some (commit (stamp 1 2) (tx 2 1) []))) ∷ marked 5 (Told (replies.Closed 2 1)) ∷
     marked 7 (Called commands.Begin) ∷ marked 1 (Got 31) ∷ marked 7 (Told replies.Down) ∷
     marked 5 (Called (commands.Do 1 0))
-    ∷ marked 5 (Sent 35 0 (messages.Request (tx 0 1) 1 0 (wants.Read (read_of 1 0)))) ∷
-    marked 5 (Sent 36 1 (messages.Request (tx 0 1) 1 0 (wants.Read (read_of 1 0)))) ∷
-    marked 5 (Sent 37 2 (messages.Request (tx 0 1) 1 0 (wants.Read (read_of 1 0)))) ∷
-    marked 5 (Sent 38 3 (messages.Request (tx 0 1) 1 0 (wants.Read (read_of 1 0)))) ∷
-    marked 5 (Sent 39 4 (messages.Request (tx 0 1) 1 0 (wants.Read (read_of 1 0)))) ∷ marked 1 (Got 36) ∷
+    ∷ marked 5 (Sent 35 0 (messages.Request (tx 0 1) 1 0 (wants.Read (first_read 1 0)))) ∷
+    marked 5 (Sent 36 1 (messages.Request (tx 0 1) 1 0 (wants.Read (first_read 1 0)))) ∷
+    marked 5 (Sent 37 2 (messages.Request (tx 0 1) 1 0 (wants.Read (first_read 1 0)))) ∷
+    marked 5 (Sent 38 3 (messages.Request (tx 0 1) 1 0 (wants.Read (first_read 1 0)))) ∷
+    marked 5 (Sent 39 4 (messages.Request (tx 0 1) 1 0 (wants.Read (first_read 1 0)))) ∷ marked 1 (Got 36) ∷
     marked 1 (Sent 40 5 (messages.Answer 36 (answers.Closed 2))) ∷ marked 4 (Got 39) ∷ marked 5 (Got 40) ∷
     marked 4 (Sent 41 5 (messages.Answer 39 (answers.Closed 2))) ∷ marked 2 (Got 37) ∷ marked 3 (Got 38) ∷
     marked 5 (Got 41) ∷ marked 2 (Sent 42 5 (messages.Answer 37 (answers.Closed 2))) ∷
     marked 3 (Sent 43 5 (messages.Answer 38 (answers.Closed 2))) ∷ marked 5 (Got 42) ∷
     marked 7 (Called (commands.Do 1 0)) ∷ marked 7 (Told replies.Down) ∷ marked 5 (Got 43) ∷ marked 5 (Lost 35) ∷
     marked 5 (Told (replies.Closed 2 1)) ∷ marked 5 (Called (commands.Do 1 1)) ∷
-    marked 5 (Sent 44 0 (messages.Request (tx 0 1) 1 0 (wants.Read (read_of 1 1)))) ∷
-    marked 5 (Sent 45 1 (messages.Request (tx 0 1) 1 0 (wants.Read (read_of 1 1)))) ∷
-    marked 5 (Sent 46 2 (messages.Request (tx 0 1) 1 0 (wants.Read (read_of 1 1)))) ∷ marked 1 (Got 45)
+    marked 5 (Sent 44 0 (messages.Request (tx 0 1) 1 0 (wants.Read (first_read 1 1)))) ∷
+    marked 5 (Sent 45 1 (messages.Request (tx 0 1) 1 0 (wants.Read (first_read 1 1)))) ∷
+    marked 5 (Sent 46 2 (messages.Request (tx 0 1) 1 0 (wants.Read (first_read 1 1)))) ∷ marked 1 (Got 45)
     ∷ marked 5 (Lost 44) ∷
     marked 1 (Sent 47 5 (messages.Answer 45 (answers.Closed 2))) ∷ marked 5 (Got 47) ∷ marked 2 (Got 46) ∷
     marked 2 (Sent 48 5 (messages.Answer 46 (answers.Closed 2))) ∷ marked 5 (Got 48) ∷

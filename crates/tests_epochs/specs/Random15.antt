@@ -16,7 +16,7 @@ use Rattle.qc_msg.specs.declared.record.Record.TheVariants as records
 use Rattle.qc_msg.specs.declared.reply.Reply.TheVariants as replies
 use Rattle.qc_msg.specs.declared.message.Want.TheVariants as wants
 use Rattle.qc_msg.specs.declared.step.Fall.TheVariants as falls
-use Rattle.qc_msg.specs.Vocabulary.{grant_with, read_of, snapshot_with, start_with}
+use Rattle.qc_msg.specs.Vocabulary.{whole_grant, first_read, snapshot_with, start_with}
 use Rattle.qc_outside.specs.declared.disk.ArmKind.TheVariants as arms
 
 abbrev pub decl : Declaration
@@ -33,17 +33,18 @@ history =
     marked 5 (Fell falls.Script None) ∷ marked 5 (Called commands.Begin) ∷ marked 5 (Told replies.Down) ∷
     marked 4 (Called commands.Begin) ∷ marked 5 (Called commands.Commit) ∷ marked 5 (Told replies.Down) ∷
     marked 4 (Told (replies.Began (tx 0 1))) ∷ marked 4 (Called (commands.Do 0 2)) ∷
-    marked 4 (Sent 0 0 (messages.Request (tx 0 1) 1 0 (wants.Read (read_of 0 2)))) ∷
-    marked 4 (Sent 1 1 (messages.Request (tx 0 1) 1 0 (wants.Read (read_of 0 2)))) ∷ marked 1 (Got 1) ∷ marked 0 (Got 0)
+    marked 4 (Sent 0 0 (messages.Request (tx 0 1) 1 0 (wants.Read (first_read 0 2)))) ∷
+    marked 4 (Sent 1 1 (messages.Request (tx 0 1) 1 0 (wants.Read (first_read 0 2)))) ∷ marked 1 (Got 1) ∷
+    marked 0 (Got 0)
     ∷
-    marked 0 (Sent 2 4 (messages.Answer 0 (answers.Granted (grant_with 2 0 [])))) ∷
-    marked 1 (Sent 3 4 (messages.Answer 1 (answers.Granted (grant_with 1 0 [])))) ∷ marked 4 (Got 2) ∷ marked 4 (Got 3)
+    marked 0 (Sent 2 4 (messages.Answer 0 (answers.Granted (whole_grant 2 0 [])))) ∷
+    marked 1 (Sent 3 4 (messages.Answer 1 (answers.Granted (whole_grant 1 0 [])))) ∷ marked 4 (Got 2) ∷ marked 4 (Got 3)
     ∷
     marked 4 (Sent 4 0 (messages.Request (tx 0 1) 1 2 (wants.Append 0 [] (own_line 1 0 3 ∷ [])))) ∷
     marked 4 (Sent 5 1 (messages.Request (tx 0 1) 1 1 (wants.Append 0 [] (own_line 1 0 3 ∷ [])))) ∷ marked 1 (Got 5) ∷
-    marked 1 (Sent 6 4 (messages.Answer 5 (answers.Granted (grant_with 1 0 [])))) ∷ marked 4 (Got 6) ∷ marked 0 (Got 4)
+    marked 1 (Sent 6 4 (messages.Answer 5 (answers.Granted (whole_grant 1 0 [])))) ∷ marked 4 (Got 6) ∷ marked 0 (Got 4)
     ∷
-    marked 0 (Sent 7 4 (messages.Answer 4 (answers.Granted (grant_with 2 0 [])))) ∷ marked 4 (Got 7) ∷
+    marked 0 (Sent 7 4 (messages.Answer 4 (answers.Granted (whole_grant 2 0 [])))) ∷ marked 4 (Got 7) ∷
     marked 4 (Told (replies.Response 2)) ∷ marked 4 (Called commands.Commit) ∷
     marked 4 (Sent 8 0 (messages.Request (tx 0 1) 1 2 wants.Prepare)) ∷
     marked 4 (Sent 9 1 (messages.Request (tx 0 1) 1 1 wants.Prepare)) ∷ marked 1 (Got 9) ∷ marked 0 (Got 8) ∷
@@ -61,22 +62,22 @@ history =
     [])) ∷
     marked 1 (Wrote records.Life) ∷ marked 6 (Called commands.Begin) ∷ marked 6 (Told (replies.Began (tx 2 1))) ∷
     marked 6 (Called (commands.Do 0 0))
-    ∷ marked 6 (Sent 14 2 (messages.Request (tx 2 1) 1 0 (wants.Read (read_of 0 0)))) ∷
-    marked 6 (Sent 15 3 (messages.Request (tx 2 1) 1 0 (wants.Read (read_of 0 0)))) ∷
-    marked 6 (Sent 16 0 (messages.Request (tx 2 1) 1 0 (wants.Read (read_of 0 0)))) ∷
-    marked 6 (Sent 17 1 (messages.Request (tx 2 1) 1 0 (wants.Read (read_of 0 0)))) ∷ marked 2 (Got 14)
+    ∷ marked 6 (Sent 14 2 (messages.Request (tx 2 1) 1 0 (wants.Read (first_read 0 0)))) ∷
+    marked 6 (Sent 15 3 (messages.Request (tx 2 1) 1 0 (wants.Read (first_read 0 0)))) ∷
+    marked 6 (Sent 16 0 (messages.Request (tx 2 1) 1 0 (wants.Read (first_read 0 0)))) ∷
+    marked 6 (Sent 17 1 (messages.Request (tx 2 1) 1 0 (wants.Read (first_read 0 0)))) ∷ marked 2 (Got 14)
     ∷ marked 3 (Got 15) ∷
-    marked 2 (Sent 18 6 (messages.Answer 14 (answers.Granted (grant_with 1 0 [])))) ∷
-    marked 3 (Sent 19 6 (messages.Answer 15 (answers.Granted (grant_with 2 0 [])))) ∷ marked 6 (Got 18)
+    marked 2 (Sent 18 6 (messages.Answer 14 (answers.Granted (whole_grant 1 0 [])))) ∷
+    marked 3 (Sent 19 6 (messages.Answer 15 (answers.Granted (whole_grant 2 0 [])))) ∷ marked 6 (Got 18)
     ∷ marked 6 (Got 19) ∷
     marked 0 (Got 16)
-    ∷ marked 0 (Sent 20 6 (messages.Answer 16 (answers.Granted (grant_with 2 1 (line 1 0 1 1 0 3 ∷ []))))) ∷
+    ∷ marked 0 (Sent 20 6 (messages.Answer 16 (answers.Granted (whole_grant 2 1 (line 1 0 1 1 0 3 ∷ []))))) ∷
     marked 6 (Got 20) ∷ marked 1 (Got 17) ∷
-    marked 1 (Sent 21 6 (messages.Answer 17 (answers.Granted (grant_with 2 1 (line 1 0 1 1 0 3 ∷ [])))))
+    marked 1 (Sent 21 6 (messages.Answer 17 (answers.Granted (whole_grant 2 1 (line 1 0 1 1 0 3 ∷ [])))))
     ∷ marked 6 (Got 21) ∷
     marked 6 (Sent 22 2 (messages.Request (tx 2 1) 1 1 (wants.Append 0 (line 1 0 1 1 0 3 ∷ []) (own_line 1 0 1 ∷ []))))
     ∷
-    marked 2 (Got 22) ∷ marked 2 (Sent 23 6 (messages.Answer 22 (answers.Granted (grant_with 1 1 []))))
+    marked 2 (Got 22) ∷ marked 2 (Sent 23 6 (messages.Answer 22 (answers.Granted (whole_grant 1 1 []))))
     ∷ marked 6 (Got 23) ∷
     marked 6 (Told (replies.Response 1)) ∷ marked 6 (Called commands.Commit) ∷
     marked 6 (Sent 24 2 (messages.Request (tx 2 1) 1 1 wants.Prepare)) ∷

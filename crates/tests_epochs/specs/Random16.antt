@@ -17,7 +17,7 @@ use Rattle.qc_msg.specs.declared.record.Record.TheVariants as records
 use Rattle.qc_msg.specs.declared.reply.Reply.TheVariants as replies
 use Rattle.qc_msg.specs.declared.message.Want.TheVariants as wants
 use Rattle.qc_msg.specs.declared.step.Fall.TheVariants as falls
-use Rattle.qc_msg.specs.Vocabulary.{grant_with, read_of, snapshot_with, start_with}
+use Rattle.qc_msg.specs.Vocabulary.{whole_grant, first_read, snapshot_with, start_with}
 use Rattle.qc_outside.specs.declared.disk.ArmKind.TheVariants as arms
 
 abbrev pub decl : Declaration
@@ -43,14 +43,14 @@ history =
     marked 5 (Phase 3) ∷ marked 3 (Rose []) ∷ marked 3 (Wrote records.Life) ∷ marked 3 (Called commands.Begin) ∷
     marked 3 (Told (replies.Began (tx_in 0 2 1))) ∷ marked 3 (Called (commands.Do 1 1)) ∷
     marked 4 (Called (commands.Epoch 2))
-    ∷ marked 3 (Sent 0 0 (messages.Request (tx_in 0 2 1) 1 0 (wants.Read (read_of 1 1)))) ∷
-    marked 3 (Sent 1 1 (messages.Request (tx_in 0 2 1) 1 0 (wants.Read (read_of 1 1)))) ∷
-    marked 3 (Sent 2 2 (messages.Request (tx_in 0 2 1) 1 0 (wants.Read (read_of 1 1))))
+    ∷ marked 3 (Sent 0 0 (messages.Request (tx_in 0 2 1) 1 0 (wants.Read (first_read 1 1)))) ∷
+    marked 3 (Sent 1 1 (messages.Request (tx_in 0 2 1) 1 0 (wants.Read (first_read 1 1)))) ∷
+    marked 3 (Sent 2 2 (messages.Request (tx_in 0 2 1) 1 0 (wants.Read (first_read 1 1))))
     ∷ marked 4 (Sent 3 0 (messages.Close 2)) ∷
     marked 4 (Sent 4 1 (messages.Close 2)) ∷ marked 4 (Sent 5 2 (messages.Close 2)) ∷ marked 0 (Got 0) ∷
-    marked 0 (Sent 6 3 (messages.Answer 0 (answers.Granted (grant_with 1 0 [])))) ∷ marked 1 (Got 1) ∷
-    marked 1 (Sent 7 3 (messages.Answer 1 (answers.Granted (grant_with 1 0 [])))) ∷ marked 2 (Got 2) ∷
-    marked 2 (Sent 8 3 (messages.Answer 2 (answers.Granted (grant_with 1 0 [])))) ∷ marked 2 (Got 5) ∷
+    marked 0 (Sent 6 3 (messages.Answer 0 (answers.Granted (whole_grant 1 0 [])))) ∷ marked 1 (Got 1) ∷
+    marked 1 (Sent 7 3 (messages.Answer 1 (answers.Granted (whole_grant 1 0 [])))) ∷ marked 2 (Got 2) ∷
+    marked 2 (Sent 8 3 (messages.Answer 2 (answers.Granted (whole_grant 1 0 [])))) ∷ marked 2 (Got 5) ∷
     marked 2 (Wrote (records.Close 2)) ∷ marked 2 (Sent 9 4 (messages.Answer 5 (answers.Shut (snapshot_with 0 [] []))))
     ∷
     marked 1 (Got 4) ∷ marked 1 (Wrote (records.Close 2)) ∷
@@ -88,9 +88,9 @@ history =
     marked 3 (Sent 26 0 (messages.Request (tx_in 0 2 2) 2 0 (wants.Append 0 [] (own_line 1 0 2 ∷ [])))) ∷
     marked 3 (Sent 27 1 (messages.Request (tx_in 0 2 2) 2 0 (wants.Append 0 [] (own_line 1 0 2 ∷ [])))) ∷
     marked 3 (Sent 28 2 (messages.Request (tx_in 0 2 2) 2 0 (wants.Append 0 [] (own_line 1 0 2 ∷ [])))) ∷
-    marked 0 (Got 26) ∷ marked 0 (Sent 29 3 (messages.Answer 26 (answers.Granted (grant_with 2 0 []))))
+    marked 0 (Got 26) ∷ marked 0 (Sent 29 3 (messages.Answer 26 (answers.Granted (whole_grant 2 0 []))))
     ∷ marked 1 (Got 27) ∷
-    marked 3 (Got 29) ∷ marked 1 (Sent 30 3 (messages.Answer 27 (answers.Granted (grant_with 2 0 []))))
+    marked 3 (Got 29) ∷ marked 1 (Sent 30 3 (messages.Answer 27 (answers.Granted (whole_grant 2 0 []))))
     ∷ marked 3 (Got 30) ∷
     marked 3 (Lost 28) ∷ marked 3 (Told (replies.Quorum halves.Append 4 5)) ∷ marked 3 (Called commands.Begin) ∷
     marked 3 (Told (replies.Already (tx_in 0 2 2))) ∷ marked 3 (Called (commands.Do 0 0)) ∷
@@ -105,9 +105,9 @@ history =
     marked 3 (Sent 35 1 (messages.Request (tx_in 0 2 3) 2 0 (wants.Append 0 [] (own_line 1 0 2 ∷ [])))) ∷
     marked 3 (Sent 36 2 (messages.Request (tx_in 0 2 3) 2 0 (wants.Append 0 [] (own_line 1 0 2 ∷ [])))) ∷
     marked 1 (Got 32) ∷ marked 0 (Got 34)
-    ∷ marked 0 (Sent 37 3 (messages.Answer 34 (answers.Granted (grant_with 2 0 [])))) ∷
+    ∷ marked 0 (Sent 37 3 (messages.Answer 34 (answers.Granted (whole_grant 2 0 [])))) ∷
     marked 3 (Got 37) ∷ marked 1 (Got 35)
-    ∷ marked 1 (Sent 38 3 (messages.Answer 35 (answers.Granted (grant_with 2 0 [])))) ∷
+    ∷ marked 1 (Sent 38 3 (messages.Answer 35 (answers.Granted (whole_grant 2 0 [])))) ∷
     marked 3 (Got 38) ∷ marked 2 (Got 36) ∷ marked 2 (Sent 39 3 (messages.Answer 36 (answers.Behind 1))) ∷
     marked 3 (Got 39) ∷ marked 3 (Told (replies.Quorum halves.Append 4 5)) ∷ marked 3 (Called (commands.Do 1 1)) ∷
     marked 3 (Told replies.Doomed) ∷ marked 3 (Called commands.Commit) ∷

@@ -17,7 +17,7 @@ use Rattle.qc_msg.specs.declared.record.Record.TheVariants as records
 use Rattle.qc_msg.specs.declared.reply.Reply.TheVariants as replies
 use Rattle.qc_msg.specs.declared.message.Want.TheVariants as wants
 use Rattle.qc_msg.specs.declared.step.Fall.TheVariants as falls
-use Rattle.qc_msg.specs.Vocabulary.{grant_with, read_of}
+use Rattle.qc_msg.specs.Vocabulary.{whole_grant, first_read}
 use Rattle.qc_outside.specs.declared.disk.ArmKind.TheVariants as arms
 
 abbrev pub decl : Declaration
@@ -34,11 +34,11 @@ history =
     marked 3 (Called commands.Commit) ∷ marked 3 (Wrote (commit (stamp 1 0) (tx 0 1) [])) ∷
     marked 3 (Told (replies.Committed (stamp 1 0))) ∷ marked 3 (Called commands.Begin) ∷
     marked 3 (Told (replies.Began (tx 0 2))) ∷ marked 3 (Called (commands.Do 0 1)) ∷
-    marked 3 (Sent 0 0 (messages.Request (tx 0 2) 1 0 (wants.Read (read_of 0 1)))) ∷
-    marked 3 (Sent 1 1 (messages.Request (tx 0 2) 1 0 (wants.Read (read_of 0 1)))) ∷ marked 0 (Got 0) ∷
-    marked 0 (Sent 2 3 (messages.Answer 0 (answers.Granted (grant_with 1 0 [])))) ∷ marked 3 (Got 2) ∷ marked 1 (Got 1)
+    marked 3 (Sent 0 0 (messages.Request (tx 0 2) 1 0 (wants.Read (first_read 0 1)))) ∷
+    marked 3 (Sent 1 1 (messages.Request (tx 0 2) 1 0 (wants.Read (first_read 0 1)))) ∷ marked 0 (Got 0) ∷
+    marked 0 (Sent 2 3 (messages.Answer 0 (answers.Granted (whole_grant 1 0 [])))) ∷ marked 3 (Got 2) ∷ marked 1 (Got 1)
     ∷
-    marked 1 (Sent 3 3 (messages.Answer 1 (answers.Granted (grant_with 1 0 [])))) ∷ marked 3 (Got 3) ∷
+    marked 1 (Sent 3 3 (messages.Answer 1 (answers.Granted (whole_grant 1 0 [])))) ∷ marked 3 (Got 3) ∷
     marked 3 (Told replies.Absent) ∷ marked 3 (Called commands.Commit) ∷
     marked 3 (Sent 4 0 (messages.Request (tx 0 2) 1 1 wants.Prepare)) ∷
     marked 3 (Sent 5 1 (messages.Request (tx 0 2) 1 1 wants.Prepare)) ∷ marked 1 (Got 5) ∷ marked 0 (Got 4) ∷
@@ -52,28 +52,28 @@ history =
     marked 3 (Told (replies.Committed (stamp 2 0))) ∷ marked 1 (Got 9) ∷ marked 0 (Got 8) ∷
     marked 0 (Wrote (records.Done (tx 0 2) 2)) ∷ marked 1 (Wrote (records.Done (tx 0 2) 2)) ∷ marked 5 (Phase 2) ∷
     marked 3 (Called commands.Begin) ∷ marked 3 (Told (replies.Began (tx 0 3))) ∷ marked 3 (Called (commands.Do 0 1)) ∷
-    marked 3 (Sent 10 0 (messages.Request (tx 0 3) 1 0 (wants.Read (read_of 0 1)))) ∷
-    marked 3 (Sent 11 1 (messages.Request (tx 0 3) 1 0 (wants.Read (read_of 0 1)))) ∷ marked 0 (Got 10)
+    marked 3 (Sent 10 0 (messages.Request (tx 0 3) 1 0 (wants.Read (first_read 0 1)))) ∷
+    marked 3 (Sent 11 1 (messages.Request (tx 0 3) 1 0 (wants.Read (first_read 0 1)))) ∷ marked 0 (Got 10)
     ∷ marked 1 (Got 11) ∷
-    marked 0 (Sent 12 3 (messages.Answer 10 (answers.Granted (grant_with 1 2 [])))) ∷ marked 3 (Got 12) ∷
-    marked 1 (Sent 13 3 (messages.Answer 11 (answers.Granted (grant_with 1 2 [])))) ∷ marked 3 (Got 13) ∷
+    marked 0 (Sent 12 3 (messages.Answer 10 (answers.Granted (whole_grant 1 2 [])))) ∷ marked 3 (Got 12) ∷
+    marked 1 (Sent 13 3 (messages.Answer 11 (answers.Granted (whole_grant 1 2 [])))) ∷ marked 3 (Got 13) ∷
     marked 3 (Told replies.Absent) ∷ marked 3 (Called (commands.Do 0 0)) ∷
-    marked 3 (Sent 14 0 (messages.Request (tx 0 3) 1 1 (wants.Read (read_of 0 0)))) ∷
-    marked 3 (Sent 15 1 (messages.Request (tx 0 3) 1 1 (wants.Read (read_of 0 0)))) ∷ marked 1 (Got 15)
+    marked 3 (Sent 14 0 (messages.Request (tx 0 3) 1 1 (wants.Read (first_read 0 0)))) ∷
+    marked 3 (Sent 15 1 (messages.Request (tx 0 3) 1 1 (wants.Read (first_read 0 0)))) ∷ marked 1 (Got 15)
     ∷ marked 0 (Got 14) ∷
-    marked 0 (Sent 16 3 (messages.Answer 14 (answers.Granted (grant_with 1 2 [])))) ∷ marked 3 (Got 16) ∷
-    marked 1 (Sent 17 3 (messages.Answer 15 (answers.Granted (grant_with 1 2 [])))) ∷ marked 3 (Got 17) ∷
+    marked 0 (Sent 16 3 (messages.Answer 14 (answers.Granted (whole_grant 1 2 [])))) ∷ marked 3 (Got 16) ∷
+    marked 1 (Sent 17 3 (messages.Answer 15 (answers.Granted (whole_grant 1 2 [])))) ∷ marked 3 (Got 17) ∷
     marked 3 (Sent 18 0 (messages.Request (tx 0 3) 1 1 (wants.Append 0 [] (own_line 2 0 0 ∷ [])))) ∷
     marked 3 (Sent 19 1 (messages.Request (tx 0 3) 1 1 (wants.Append 0 [] (own_line 2 0 0 ∷ [])))) ∷ marked 0 (Got 18) ∷
-    marked 0 (Sent 20 3 (messages.Answer 18 (answers.Granted (grant_with 1 2 [])))) ∷ marked 3 (Got 20)
+    marked 0 (Sent 20 3 (messages.Answer 18 (answers.Granted (whole_grant 1 2 [])))) ∷ marked 3 (Got 20)
     ∷ marked 1 (Got 19) ∷
-    marked 1 (Sent 21 3 (messages.Answer 19 (answers.Granted (grant_with 1 2 [])))) ∷ marked 3 (Got 21) ∷
+    marked 1 (Sent 21 3 (messages.Answer 19 (answers.Granted (whole_grant 1 2 [])))) ∷ marked 3 (Got 21) ∷
     marked 3 (Told (replies.Response 0)) ∷ marked 3 (Called (commands.Do 0 0)) ∷
-    marked 3 (Sent 22 0 (messages.Request (tx 0 3) 1 1 (wants.Read (read_of 0 0)))) ∷
-    marked 3 (Sent 23 1 (messages.Request (tx 0 3) 1 1 (wants.Read (read_of 0 0)))) ∷ marked 3 (Lost 22)
+    marked 3 (Sent 22 0 (messages.Request (tx 0 3) 1 1 (wants.Read (first_read 0 0)))) ∷
+    marked 3 (Sent 23 1 (messages.Request (tx 0 3) 1 1 (wants.Read (first_read 0 0)))) ∷ marked 3 (Lost 22)
     ∷ marked 3 (Lost 23) ∷
-    marked 3 (Sent 24 2 (messages.Request (tx 0 3) 1 0 (wants.Read (read_of 0 0)))) ∷ marked 2 (Got 24) ∷
-    marked 2 (Sent 25 3 (messages.Answer 24 (answers.Granted (grant_with 1 0 [])))) ∷ marked 3 (Got 25) ∷
+    marked 3 (Sent 24 2 (messages.Request (tx 0 3) 1 0 (wants.Read (first_read 0 0)))) ∷ marked 2 (Got 24) ∷
+    marked 2 (Sent 25 3 (messages.Answer 24 (answers.Granted (whole_grant 1 0 [])))) ∷ marked 3 (Got 25) ∷
     marked 3 (Told (replies.Quorum halves.Read 1 2)) ∷ marked 3 (Called commands.Commit) ∷
     marked 3 (Sent 26 0 (messages.Request (tx 0 3) 1 1 wants.Prepare)) ∷
     marked 3 (Sent 27 1 (messages.Request (tx 0 3) 1 1 wants.Prepare)) ∷
@@ -93,13 +93,13 @@ history =
     marked 0 (Wrote (records.Done (tx 0 3) 3)) ∷ marked 5 (Phase 3) ∷ marked 4 (Fell falls.Script None) ∷
     marked 1 (Fell falls.Script None) ∷ marked 3 (Called commands.Begin) ∷ marked 3 (Told (replies.Began (tx 0 4))) ∷
     marked 3 (Called (commands.Do 0 2))
-    ∷ marked 3 (Sent 35 0 (messages.Request (tx 0 4) 1 0 (wants.Read (read_of 0 2)))) ∷
-    marked 3 (Sent 36 1 (messages.Request (tx 0 4) 1 0 (wants.Read (read_of 0 2)))) ∷ marked 0 (Got 35)
+    ∷ marked 3 (Sent 35 0 (messages.Request (tx 0 4) 1 0 (wants.Read (first_read 0 2)))) ∷
+    marked 3 (Sent 36 1 (messages.Request (tx 0 4) 1 0 (wants.Read (first_read 0 2)))) ∷ marked 0 (Got 35)
     ∷ marked 3 (Lost 36) ∷
-    marked 0 (Sent 37 3 (messages.Answer 35 (answers.Granted (grant_with 1 3 (line 3 0 3 2 0 0 ∷ [])))))
+    marked 0 (Sent 37 3 (messages.Answer 35 (answers.Granted (whole_grant 1 3 (line 3 0 3 2 0 0 ∷ [])))))
     ∷ marked 3 (Got 37) ∷
-    marked 3 (Sent 38 2 (messages.Request (tx 0 4) 1 0 (wants.Read (read_of 0 2)))) ∷ marked 2 (Got 38) ∷
-    marked 2 (Sent 39 3 (messages.Answer 38 (answers.Granted (grant_with 1 3 [])))) ∷ marked 3 (Got 39) ∷
+    marked 3 (Sent 38 2 (messages.Request (tx 0 4) 1 0 (wants.Read (first_read 0 2)))) ∷ marked 2 (Got 38) ∷
+    marked 2 (Sent 39 3 (messages.Answer 38 (answers.Granted (whole_grant 1 3 [])))) ∷ marked 3 (Got 39) ∷
     marked 3 (Sent 40 0 (messages.Request (tx 0 4) 1 1 (wants.Append 0 (line 3 0 3 2 0 0 ∷ []) (own_line 1 0 4 ∷ []))))
     ∷
     marked 3 (Sent 41 1 (messages.Request (tx 0 4) 1 0 (wants.Append 0 (line 3 0 3 2 0 0 ∷ []) (own_line 1 0 4 ∷ []))))
@@ -107,8 +107,8 @@ history =
     marked 3 (Sent 42 2 (messages.Request (tx 0 4) 1 1 (wants.Append 0 (line 3 0 3 2 0 0 ∷ []) (own_line 1 0 4 ∷ []))))
     ∷
     marked 3 (Lost 41) ∷ marked 0 (Got 40) ∷ marked 2 (Got 42) ∷
-    marked 2 (Sent 43 3 (messages.Answer 42 (answers.Granted (grant_with 1 3 [])))) ∷ marked 3 (Got 43) ∷
-    marked 0 (Sent 44 3 (messages.Answer 40 (answers.Granted (grant_with 1 3 [])))) ∷ marked 3 (Got 44) ∷
+    marked 2 (Sent 43 3 (messages.Answer 42 (answers.Granted (whole_grant 1 3 [])))) ∷ marked 3 (Got 43) ∷
+    marked 0 (Sent 44 3 (messages.Answer 40 (answers.Granted (whole_grant 1 3 [])))) ∷ marked 3 (Got 44) ∷
     marked 3 (Told (replies.Quorum halves.Append 2 3)) ∷ marked 3 (Called commands.Commit) ∷
     marked 3 (Sent 45 0 (messages.Decision (tx 0 4) outcomes.Aborted)) ∷
     marked 3 (Sent 46 1 (messages.Decision (tx 0 4) outcomes.Aborted)) ∷

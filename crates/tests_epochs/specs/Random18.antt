@@ -17,7 +17,7 @@ use Rattle.qc_msg.specs.declared.record.Record.TheVariants as records
 use Rattle.qc_msg.specs.declared.reply.Reply.TheVariants as replies
 use Rattle.qc_msg.specs.declared.message.Want.TheVariants as wants
 use Rattle.qc_msg.specs.declared.step.Fall.TheVariants as falls
-use Rattle.qc_msg.specs.Vocabulary.{grant_with, read_of}
+use Rattle.qc_msg.specs.Vocabulary.{whole_grant, first_read}
 use Rattle.qc_outside.specs.declared.disk.ArmKind.TheVariants as arms
 
 abbrev pub decl : Declaration
@@ -31,14 +31,15 @@ abbrev pub history : List Entry
 history =
     marked 3 (Phase 1) ∷ marked 3 (Cut 0 2) ∷ marked 3 (Armed 0 arms.Stop 8) ∷ marked 1 (Called commands.Begin) ∷
     marked 1 (Told (replies.Began (tx 0 1))) ∷ marked 1 (Called (commands.Do 0 0)) ∷
-    marked 1 (Sent 0 0 (messages.Request (tx 0 1) 1 0 (wants.Read (read_of 0 0)))) ∷ marked 0 (Got 0) ∷
-    marked 0 (Sent 1 1 (messages.Answer 0 (answers.Granted (grant_with 1 0 [])))) ∷ marked 1 (Got 1) ∷
+    marked 1 (Sent 0 0 (messages.Request (tx 0 1) 1 0 (wants.Read (first_read 0 0)))) ∷ marked 0 (Got 0) ∷
+    marked 0 (Sent 1 1 (messages.Answer 0 (answers.Granted (whole_grant 1 0 [])))) ∷ marked 1 (Got 1) ∷
     marked 1 (Sent 2 0 (messages.Request (tx 0 1) 1 1 (wants.Append 0 [] (own_line 1 0 0 ∷ [])))) ∷ marked 0 (Got 2) ∷
-    marked 0 (Sent 3 1 (messages.Answer 2 (answers.Granted (grant_with 1 0 [])))) ∷ marked 1 (Got 3) ∷
+    marked 0 (Sent 3 1 (messages.Answer 2 (answers.Granted (whole_grant 1 0 [])))) ∷ marked 1 (Got 3) ∷
     marked 1 (Told (replies.Response 0)) ∷ marked 1 (Called (commands.Do 1 0)) ∷ marked 1 (Told replies.Absent) ∷
-    marked 1 (Called (commands.Do 0 2)) ∷ marked 1 (Sent 4 0 (messages.Request (tx 0 1) 1 1 (wants.Read (read_of 0 2))))
+    marked 1 (Called (commands.Do 0 2)) ∷
+    marked 1 (Sent 4 0 (messages.Request (tx 0 1) 1 1 (wants.Read (first_read 0 2))))
     ∷
-    marked 0 (Got 4) ∷ marked 0 (Sent 5 1 (messages.Answer 4 (answers.Granted (grant_with 1 0 [])))) ∷ marked 1 (Got 5)
+    marked 0 (Got 4) ∷ marked 0 (Sent 5 1 (messages.Answer 4 (answers.Granted (whole_grant 1 0 [])))) ∷ marked 1 (Got 5)
     ∷
     marked 1 (Told (replies.Response 3)) ∷ marked 1 (Called commands.Commit) ∷
     marked 1 (Sent 6 0 (messages.Request (tx 0 1) 1 1 wants.Prepare)) ∷ marked 0 (Got 6) ∷
@@ -53,8 +54,8 @@ history =
     marked 1 (Told (replies.Committed (stamp 1 0))) ∷ marked 1 (Called commands.Begin) ∷
     marked 1 (Told (replies.Began (tx 0 3))) ∷ marked 3 (Phase 3) ∷ marked 3 (Heal 0 2) ∷ marked 0 (Rose []) ∷
     marked 0 (Wrote records.Life) ∷ marked 1 (Called (commands.Do 0 2)) ∷
-    marked 1 (Sent 9 0 (messages.Request (tx 0 3) 1 0 (wants.Read (read_of 0 2)))) ∷ marked 0 (Got 9) ∷
-    marked 0 (Sent 10 1 (messages.Answer 9 (answers.Granted (grant_with 2 0 [])))) ∷ marked 1 (Got 10) ∷
+    marked 1 (Sent 9 0 (messages.Request (tx 0 3) 1 0 (wants.Read (first_read 0 2)))) ∷ marked 0 (Got 9) ∷
+    marked 0 (Sent 10 1 (messages.Answer 9 (answers.Granted (whole_grant 2 0 [])))) ∷ marked 1 (Got 10) ∷
     marked 1 (Told (replies.Response 2)) ∷ marked 1 (Called commands.Commit) ∷
     marked 1 (Sent 11 0 (messages.Request (tx 0 3) 1 2 wants.Prepare)) ∷ marked 0 (Got 11) ∷
     marked 0 (Wrote (prepare (tx 0 3) 1 (read_lock 0 2 ∷ []) [] [])) ∷
@@ -64,8 +65,8 @@ history =
     marked 1 (Told (replies.Committed (stamp 2 0))) ∷ marked 0 (Got 13) ∷ marked 0 (Wrote (records.Done (tx 0 3) 2)) ∷
     marked 3 (Phase 4) ∷ marked 3 (Armed 2 arms.Stop 12) ∷ marked 1 (Called commands.Begin) ∷
     marked 1 (Told (replies.Began (tx 0 4))) ∷ marked 1 (Called (commands.Do 0 2)) ∷
-    marked 1 (Sent 14 0 (messages.Request (tx 0 4) 1 0 (wants.Read (read_of 0 2)))) ∷ marked 0 (Got 14) ∷
-    marked 0 (Sent 15 1 (messages.Answer 14 (answers.Granted (grant_with 2 2 [])))) ∷ marked 1 (Got 15) ∷
+    marked 1 (Sent 14 0 (messages.Request (tx 0 4) 1 0 (wants.Read (first_read 0 2)))) ∷ marked 0 (Got 14) ∷
+    marked 0 (Sent 15 1 (messages.Answer 14 (answers.Granted (whole_grant 2 2 [])))) ∷ marked 1 (Got 15) ∷
     marked 1 (Told (replies.Response 2)) ∷ marked 1 (Called commands.Commit) ∷
     marked 1 (Sent 16 0 (messages.Request (tx 0 4) 1 2 wants.Prepare)) ∷ marked 0 (Got 16) ∷
     marked 0 (Wrote (prepare (tx 0 4) 1 (read_lock 0 2 ∷ []) [] [])) ∷
@@ -74,12 +75,12 @@ history =
     marked 1 (Sent 18 0 (messages.Decision (tx 0 4) (outcomes.Committed (stamp 3 0)))) ∷
     marked 1 (Told (replies.Committed (stamp 3 0))) ∷ marked 0 (Got 18) ∷ marked 0 (Wrote (records.Done (tx 0 4) 3)) ∷
     marked 1 (Called commands.Begin) ∷ marked 1 (Told (replies.Began (tx 0 5))) ∷ marked 1 (Called (commands.Do 0 2)) ∷
-    marked 1 (Sent 19 0 (messages.Request (tx 0 5) 1 0 (wants.Read (read_of 0 2)))) ∷ marked 0 (Got 19) ∷
-    marked 0 (Sent 20 1 (messages.Answer 19 (answers.Granted (grant_with 2 3 [])))) ∷ marked 1 (Got 20) ∷
+    marked 1 (Sent 19 0 (messages.Request (tx 0 5) 1 0 (wants.Read (first_read 0 2)))) ∷ marked 0 (Got 19) ∷
+    marked 0 (Sent 20 1 (messages.Answer 19 (answers.Granted (whole_grant 2 3 [])))) ∷ marked 1 (Got 20) ∷
     marked 1 (Told (replies.Response 2)) ∷ marked 1 (Called (commands.Do 1 0)) ∷ marked 1 (Told replies.Absent) ∷
     marked 1 (Called (commands.Do 0 2))
-    ∷ marked 1 (Sent 21 0 (messages.Request (tx 0 5) 1 2 (wants.Read (read_of 0 2)))) ∷
-    marked 0 (Got 21) ∷ marked 0 (Sent 22 1 (messages.Answer 21 (answers.Granted (grant_with 2 3 []))))
+    ∷ marked 1 (Sent 21 0 (messages.Request (tx 0 5) 1 2 (wants.Read (first_read 0 2)))) ∷
+    marked 0 (Got 21) ∷ marked 0 (Sent 22 1 (messages.Answer 21 (answers.Granted (whole_grant 2 3 []))))
     ∷ marked 1 (Got 22) ∷
     marked 1 (Told (replies.Response 2)) ∷ marked 1 (Called commands.Commit) ∷
     marked 1 (Sent 23 0 (messages.Request (tx 0 5) 1 2 wants.Prepare)) ∷ marked 0 (Got 23) ∷
@@ -91,14 +92,14 @@ history =
     marked 1 (Told (replies.Committed (stamp 4 0))) ∷ marked 0 (Got 25) ∷ marked 0 (Wrote (records.Done (tx 0 5) 4)) ∷
     marked 3 (Phase 5) ∷ marked 2 (Fell falls.Script None) ∷ marked 2 (Rose []) ∷ marked 2 (Wrote records.Life) ∷
     marked 1 (Called commands.Begin) ∷ marked 1 (Told (replies.Began (tx 0 6))) ∷ marked 1 (Called (commands.Do 0 0)) ∷
-    marked 1 (Sent 26 0 (messages.Request (tx 0 6) 1 0 (wants.Read (read_of 0 0)))) ∷ marked 0 (Got 26) ∷
-    marked 0 (Sent 27 1 (messages.Answer 26 (answers.Granted (grant_with 2 4 [])))) ∷ marked 1 (Got 27) ∷
+    marked 1 (Sent 26 0 (messages.Request (tx 0 6) 1 0 (wants.Read (first_read 0 0)))) ∷ marked 0 (Got 26) ∷
+    marked 0 (Sent 27 1 (messages.Answer 26 (answers.Granted (whole_grant 2 4 [])))) ∷ marked 1 (Got 27) ∷
     marked 1 (Sent 28 0 (messages.Request (tx 0 6) 1 2 (wants.Append 0 [] (own_line 1 0 0 ∷ [])))) ∷ marked 0 (Got 28) ∷
-    marked 0 (Sent 29 1 (messages.Answer 28 (answers.Granted (grant_with 2 4 [])))) ∷ marked 1 (Got 29) ∷
+    marked 0 (Sent 29 1 (messages.Answer 28 (answers.Granted (whole_grant 2 4 [])))) ∷ marked 1 (Got 29) ∷
     marked 1 (Told (replies.Response 0)) ∷ marked 1 (Called (commands.Do 1 0)) ∷ marked 1 (Told replies.Absent) ∷
     marked 1 (Called (commands.Do 0 2))
-    ∷ marked 1 (Sent 30 0 (messages.Request (tx 0 6) 1 2 (wants.Read (read_of 0 2)))) ∷
-    marked 0 (Got 30) ∷ marked 0 (Sent 31 1 (messages.Answer 30 (answers.Granted (grant_with 2 4 []))))
+    ∷ marked 1 (Sent 30 0 (messages.Request (tx 0 6) 1 2 (wants.Read (first_read 0 2)))) ∷
+    marked 0 (Got 30) ∷ marked 0 (Sent 31 1 (messages.Answer 30 (answers.Granted (whole_grant 2 4 []))))
     ∷ marked 1 (Got 31) ∷
     marked 1 (Told (replies.Response 3)) ∷ marked 1 (Called commands.Commit) ∷
     marked 1 (Sent 32 0 (messages.Request (tx 0 6) 1 2 wants.Prepare)) ∷ marked 0 (Got 32) ∷
@@ -110,13 +111,13 @@ history =
     marked 1 (Told (replies.Committed (stamp 5 0))) ∷ marked 0 (Got 34) ∷ marked 0 (Wrote (records.Done (tx 0 6) 5)) ∷
     marked 3 (Phase 6) ∷ marked 1 (Called commands.Begin) ∷ marked 1 (Told (replies.Began (tx 0 7))) ∷
     marked 1 (Called (commands.Do 0 0))
-    ∷ marked 1 (Sent 35 0 (messages.Request (tx 0 7) 1 0 (wants.Read (read_of 0 0)))) ∷
+    ∷ marked 1 (Sent 35 0 (messages.Request (tx 0 7) 1 0 (wants.Read (first_read 0 0)))) ∷
     marked 0 (Got 35)
-    ∷ marked 0 (Sent 36 1 (messages.Answer 35 (answers.Granted (grant_with 2 5 (line 5 0 6 1 0 0 ∷ []))))) ∷
+    ∷ marked 0 (Sent 36 1 (messages.Answer 35 (answers.Granted (whole_grant 2 5 (line 5 0 6 1 0 0 ∷ []))))) ∷
     marked 1 (Got 36) ∷
     marked 1 (Sent 37 0 (messages.Request (tx 0 7) 1 2 (wants.Append 0 (line 5 0 6 1 0 0 ∷ []) (own_line 1 0 0 ∷ []))))
     ∷
-    marked 0 (Got 37) ∷ marked 0 (Sent 38 1 (messages.Answer 37 (answers.Granted (grant_with 2 5 []))))
+    marked 0 (Got 37) ∷ marked 0 (Sent 38 1 (messages.Answer 37 (answers.Granted (whole_grant 2 5 []))))
     ∷ marked 1 (Got 38) ∷
     marked 1 (Told (replies.Response 0)) ∷ marked 1 (Called commands.Commit) ∷
     marked 1 (Sent 39 0 (messages.Request (tx 0 7) 1 2 wants.Prepare)) ∷ marked 0 (Got 39) ∷

@@ -15,7 +15,7 @@ use Rattle.qc_msg.specs.declared.record.Record.TheVariants as records
 use Rattle.qc_msg.specs.declared.reply.Reply.TheVariants as replies
 use Rattle.qc_msg.specs.declared.message.Want.TheVariants as wants
 use Rattle.qc_msg.specs.declared.step.Fall.TheVariants as falls
-use Rattle.qc_msg.specs.Vocabulary.{read_of, snapshot_with}
+use Rattle.qc_msg.specs.Vocabulary.{first_read, snapshot_with}
 
 abbrev pub decl : Declaration
 decl =
@@ -39,8 +39,9 @@ history =
     marked 9 (Lost 4) ∷ marked 2 (Wrote (records.Close 2)) ∷
     marked 2 (Sent 5 9 (messages.Answer 2 (answers.Shut (snapshot_with 0 [] [])))) ∷
     marked 3 (Fell falls.Stop (Some (records.Close 2))) ∷
-    marked 6 (Sent 6 1 (messages.Request (tx 1 1) 1 0 (wants.Read (read_of 0 0)))) ∷
-    marked 6 (Sent 7 2 (messages.Request (tx 1 1) 1 0 (wants.Read (read_of 0 0)))) ∷ marked 2 (Got 7) ∷ marked 9 (Got 5)
+    marked 6 (Sent 6 1 (messages.Request (tx 1 1) 1 0 (wants.Read (first_read 0 0)))) ∷
+    marked 6 (Sent 7 2 (messages.Request (tx 1 1) 1 0 (wants.Read (first_read 0 0)))) ∷ marked 2 (Got 7) ∷
+    marked 9 (Got 5)
     ∷
     marked 8 (Told replies.Down) ∷ marked 2 (Sent 8 6 (messages.Answer 7 (answers.Closed 2))) ∷
     marked 8 (Called (commands.Do 0 2)) ∷ marked 8 (Told replies.Down) ∷ marked 6 (Got 8) ∷

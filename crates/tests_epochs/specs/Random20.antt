@@ -14,7 +14,7 @@ use Rattle.qc_msg.specs.declared.record.Record.TheVariants as records
 use Rattle.qc_msg.specs.declared.reply.Reply.TheVariants as replies
 use Rattle.qc_msg.specs.declared.message.Want.TheVariants as wants
 use Rattle.qc_msg.specs.declared.step.Fall.TheVariants as falls
-use Rattle.qc_msg.specs.Vocabulary.{read_of, snapshot_with, start_with}
+use Rattle.qc_msg.specs.Vocabulary.{first_read, snapshot_with, start_with}
 use Rattle.qc_outside.specs.declared.disk.ArmKind.TheVariants as arms
 
 abbrev pub decl : Declaration
@@ -45,10 +45,10 @@ history =
     marked 3 (Sent 7 7 (messages.Answer 3 (answers.Shut (snapshot_with 0 [] [])))) ∷ marked 6 (Called commands.Begin) ∷
     marked 6 (Told (replies.Began (tx_in 2 2 1))) ∷ marked 7 (Got 5) ∷ marked 7 (Got 6) ∷
     marked 6 (Called (commands.Do 0 0))
-    ∷ marked 6 (Sent 8 2 (messages.Request (tx_in 2 2 1) 1 0 (wants.Read (read_of 0 0)))) ∷
-    marked 6 (Sent 9 3 (messages.Request (tx_in 2 2 1) 1 0 (wants.Read (read_of 0 0)))) ∷
-    marked 6 (Sent 10 0 (messages.Request (tx_in 2 2 1) 1 0 (wants.Read (read_of 0 0)))) ∷
-    marked 6 (Sent 11 1 (messages.Request (tx_in 2 2 1) 1 0 (wants.Read (read_of 0 0)))) ∷ marked 0 (Got 10)
+    ∷ marked 6 (Sent 8 2 (messages.Request (tx_in 2 2 1) 1 0 (wants.Read (first_read 0 0)))) ∷
+    marked 6 (Sent 9 3 (messages.Request (tx_in 2 2 1) 1 0 (wants.Read (first_read 0 0)))) ∷
+    marked 6 (Sent 10 0 (messages.Request (tx_in 2 2 1) 1 0 (wants.Read (first_read 0 0)))) ∷
+    marked 6 (Sent 11 1 (messages.Request (tx_in 2 2 1) 1 0 (wants.Read (first_read 0 0)))) ∷ marked 0 (Got 10)
     ∷ marked 1 (Got 11) ∷
     marked 3 (Got 9) ∷ marked 1 (Sent 12 6 (messages.Answer 11 (answers.Closed 2))) ∷ marked 2 (Got 8) ∷
     marked 0 (Sent 13 6 (messages.Answer 10 (answers.Closed 2))) ∷

@@ -17,7 +17,7 @@ use Rattle.qc_msg.specs.declared.record.Record.TheVariants as records
 use Rattle.qc_msg.specs.declared.reply.Reply.TheVariants as replies
 use Rattle.qc_msg.specs.declared.message.Want.TheVariants as wants
 use Rattle.qc_msg.specs.declared.step.Fall.TheVariants as falls
-use Rattle.qc_msg.specs.Vocabulary.{grant_with, read_of, snapshot_with, start_with}
+use Rattle.qc_msg.specs.Vocabulary.{whole_grant, first_read, snapshot_with, start_with}
 use Rattle.qc_outside.specs.declared.disk.ArmKind.TheVariants as arms
 
 abbrev pub decl : Declaration
@@ -32,23 +32,25 @@ abbrev pub history : List Entry
 history =
     marked 8 (Phase 1) ∷ marked 8 (Armed 1 arms.Stop 4) ∷ marked 6 (Called commands.Begin) ∷
     marked 6 (Told (replies.Began (tx 3 1))) ∷ marked 6 (Called (commands.Do 0 0)) ∷
-    marked 6 (Sent 0 0 (messages.Request (tx 3 1) 1 0 (wants.Read (read_of 0 0)))) ∷
-    marked 6 (Sent 1 1 (messages.Request (tx 3 1) 1 0 (wants.Read (read_of 0 0)))) ∷ marked 1 (Got 1) ∷ marked 0 (Got 0)
+    marked 6 (Sent 0 0 (messages.Request (tx 3 1) 1 0 (wants.Read (first_read 0 0)))) ∷
+    marked 6 (Sent 1 1 (messages.Request (tx 3 1) 1 0 (wants.Read (first_read 0 0)))) ∷ marked 1 (Got 1) ∷
+    marked 0 (Got 0)
     ∷
-    marked 0 (Sent 2 6 (messages.Answer 0 (answers.Granted (grant_with 1 0 [])))) ∷
-    marked 1 (Sent 3 6 (messages.Answer 1 (answers.Granted (grant_with 1 0 [])))) ∷ marked 6 (Got 2) ∷ marked 6 (Got 3)
+    marked 0 (Sent 2 6 (messages.Answer 0 (answers.Granted (whole_grant 1 0 [])))) ∷
+    marked 1 (Sent 3 6 (messages.Answer 1 (answers.Granted (whole_grant 1 0 [])))) ∷ marked 6 (Got 2) ∷ marked 6 (Got 3)
     ∷
     marked 6 (Sent 4 0 (messages.Request (tx 3 1) 1 1 (wants.Append 0 [] (own_line 1 0 0 ∷ [])))) ∷
     marked 6 (Sent 5 1 (messages.Request (tx 3 1) 1 1 (wants.Append 0 [] (own_line 1 0 0 ∷ [])))) ∷ marked 0 (Got 4) ∷
-    marked 1 (Got 5) ∷ marked 1 (Sent 6 6 (messages.Answer 5 (answers.Granted (grant_with 1 0 [])))) ∷ marked 6 (Got 6)
+    marked 1 (Got 5) ∷ marked 1 (Sent 6 6 (messages.Answer 5 (answers.Granted (whole_grant 1 0 [])))) ∷ marked 6 (Got 6)
     ∷
-    marked 0 (Sent 7 6 (messages.Answer 4 (answers.Granted (grant_with 1 0 [])))) ∷ marked 6 (Got 7) ∷
+    marked 0 (Sent 7 6 (messages.Answer 4 (answers.Granted (whole_grant 1 0 [])))) ∷ marked 6 (Got 7) ∷
     marked 6 (Told (replies.Response 0)) ∷ marked 6 (Called (commands.Do 1 1)) ∷
-    marked 6 (Sent 8 0 (messages.Request (tx 3 1) 1 1 (wants.Read (read_of 1 1)))) ∷
-    marked 6 (Sent 9 1 (messages.Request (tx 3 1) 1 1 (wants.Read (read_of 1 1)))) ∷ marked 0 (Got 8) ∷ marked 1 (Got 9)
+    marked 6 (Sent 8 0 (messages.Request (tx 3 1) 1 1 (wants.Read (first_read 1 1)))) ∷
+    marked 6 (Sent 9 1 (messages.Request (tx 3 1) 1 1 (wants.Read (first_read 1 1)))) ∷ marked 0 (Got 8) ∷
+    marked 1 (Got 9)
     ∷
-    marked 0 (Sent 10 6 (messages.Answer 8 (answers.Granted (grant_with 1 0 [])))) ∷
-    marked 1 (Sent 11 6 (messages.Answer 9 (answers.Granted (grant_with 1 0 [])))) ∷ marked 6 (Got 10)
+    marked 0 (Sent 10 6 (messages.Answer 8 (answers.Granted (whole_grant 1 0 [])))) ∷
+    marked 1 (Sent 11 6 (messages.Answer 9 (answers.Granted (whole_grant 1 0 [])))) ∷ marked 6 (Got 10)
     ∷ marked 6 (Got 11) ∷
     marked 6 (Told replies.Absent) ∷ marked 6 (Called commands.Commit) ∷
     marked 6 (Sent 12 0 (messages.Request (tx 3 1) 1 1 wants.Prepare)) ∷
@@ -80,8 +82,8 @@ history =
     marked 4 (Fell falls.Stop (Some (commit (stamp 1 1) (tx 1 1) []))) ∷ marked 6 (Told replies.Down) ∷
     marked 6 (Called (commands.Do 0 1)) ∷ marked 3 (Told (replies.Began (tx 0 1))) ∷
     marked 3 (Called (commands.Do 0 1)) ∷ marked 6 (Told replies.Down) ∷
-    marked 3 (Sent 24 0 (messages.Request (tx 0 1) 1 0 (wants.Read (read_of 0 1)))) ∷
-    marked 3 (Sent 25 1 (messages.Request (tx 0 1) 1 0 (wants.Read (read_of 0 1)))) ∷ marked 3 (Lost 24) ∷
+    marked 3 (Sent 24 0 (messages.Request (tx 0 1) 1 0 (wants.Read (first_read 0 1)))) ∷
+    marked 3 (Sent 25 1 (messages.Request (tx 0 1) 1 0 (wants.Read (first_read 0 1)))) ∷ marked 3 (Lost 24) ∷
     marked 6 (Called (commands.Do 0 1)) ∷ marked 6 (Told replies.Down) ∷ marked 1 (Got 25) ∷
     marked 1 (Sent 26 3 (messages.Answer 25 (answers.Closed 2))) ∷ marked 3 (Got 26) ∷
     marked 3 (Told (replies.Closed 2 1)) ∷ marked 3 (Called (commands.Do 0 2)) ∷
@@ -93,16 +95,16 @@ history =
     marked 3 (Sent 31 1 (messages.Decision (tx 0 1) outcomes.Aborted)) ∷
     marked 3 (Told (replies.Aborted causes.Doomed)) ∷ marked 1 (Got 31) ∷ marked 3 (Called commands.Begin) ∷
     marked 3 (Told (replies.Began (tx 0 2))) ∷ marked 3 (Called (commands.Do 1 0)) ∷
-    marked 3 (Sent 32 0 (messages.Request (tx 0 2) 2 0 (wants.Read (read_of 1 0)))) ∷ marked 3 (Lost 32) ∷
-    marked 3 (Sent 33 1 (messages.Request (tx 0 2) 2 0 (wants.Read (read_of 1 0)))) ∷ marked 1 (Got 33) ∷
+    marked 3 (Sent 32 0 (messages.Request (tx 0 2) 2 0 (wants.Read (first_read 1 0)))) ∷ marked 3 (Lost 32) ∷
+    marked 3 (Sent 33 1 (messages.Request (tx 0 2) 2 0 (wants.Read (first_read 1 0)))) ∷ marked 1 (Got 33) ∷
     marked 1 (Sent 34 3 (messages.Answer 33 (answers.Behind 1))) ∷ marked 3 (Got 34) ∷
-    marked 3 (Sent 35 2 (messages.Request (tx 0 2) 2 0 (wants.Read (read_of 1 0)))) ∷ marked 2 (Got 35) ∷
+    marked 3 (Sent 35 2 (messages.Request (tx 0 2) 2 0 (wants.Read (first_read 1 0)))) ∷ marked 2 (Got 35) ∷
     marked 2 (Sent 36 3 (messages.Answer 35 (answers.Behind 1))) ∷ marked 3 (Got 36) ∷
     marked 3 (Told (replies.Quorum halves.Read 0 1)) ∷ marked 3 (Called (commands.Do 1 0)) ∷
-    marked 3 (Sent 37 0 (messages.Request (tx 0 2) 2 0 (wants.Read (read_of 1 0)))) ∷ marked 3 (Lost 37) ∷
-    marked 3 (Sent 38 1 (messages.Request (tx 0 2) 2 0 (wants.Read (read_of 1 0)))) ∷ marked 1 (Got 38) ∷
+    marked 3 (Sent 37 0 (messages.Request (tx 0 2) 2 0 (wants.Read (first_read 1 0)))) ∷ marked 3 (Lost 37) ∷
+    marked 3 (Sent 38 1 (messages.Request (tx 0 2) 2 0 (wants.Read (first_read 1 0)))) ∷ marked 1 (Got 38) ∷
     marked 1 (Sent 39 3 (messages.Answer 38 (answers.Behind 1))) ∷ marked 3 (Got 39) ∷
-    marked 3 (Sent 40 2 (messages.Request (tx 0 2) 2 0 (wants.Read (read_of 1 0)))) ∷ marked 2 (Got 40) ∷
+    marked 3 (Sent 40 2 (messages.Request (tx 0 2) 2 0 (wants.Read (first_read 1 0)))) ∷ marked 2 (Got 40) ∷
     marked 2 (Sent 41 3 (messages.Answer 40 (answers.Behind 1))) ∷ marked 3 (Got 41) ∷
     marked 3 (Told (replies.Quorum halves.Read 0 1)) ∷ marked 3 (Called commands.Commit) ∷
     marked 3 (Wrote (commit (stamp 1 0) (tx 0 2) [])) ∷
@@ -117,12 +119,12 @@ history =
     marked 4 (Called (commands.Do 1 0)) ∷ marked 4 (Told replies.Down) ∷ marked 3 (Called commands.Begin) ∷
     marked 6 (Called commands.Commit) ∷ marked 6 (Told replies.Down) ∷ marked 3 (Told (replies.Began (tx 0 3))) ∷
     marked 3 (Called (commands.Do 0 2))
-    ∷ marked 3 (Sent 45 0 (messages.Request (tx 0 3) 2 0 (wants.Read (read_of 0 2)))) ∷
-    marked 3 (Sent 46 1 (messages.Request (tx 0 3) 2 0 (wants.Read (read_of 0 2)))) ∷ marked 1 (Got 46)
+    ∷ marked 3 (Sent 45 0 (messages.Request (tx 0 3) 2 0 (wants.Read (first_read 0 2)))) ∷
+    marked 3 (Sent 46 1 (messages.Request (tx 0 3) 2 0 (wants.Read (first_read 0 2)))) ∷ marked 1 (Got 46)
     ∷ marked 0 (Got 45) ∷
     marked 1 (Sent 47 3 (messages.Answer 46 (answers.Behind 1))) ∷ marked 3 (Got 47) ∷
     marked 0 (Sent 48 3 (messages.Answer 45 (answers.Behind 1))) ∷ marked 3 (Got 48) ∷
-    marked 3 (Sent 49 2 (messages.Request (tx 0 3) 2 0 (wants.Read (read_of 0 2)))) ∷ marked 2 (Got 49) ∷
+    marked 3 (Sent 49 2 (messages.Request (tx 0 3) 2 0 (wants.Read (first_read 0 2)))) ∷ marked 2 (Got 49) ∷
     marked 2 (Sent 50 3 (messages.Answer 49 (answers.Behind 1))) ∷ marked 3 (Got 50) ∷
     marked 3 (Told (replies.Quorum halves.Read 0 2)) ∷ marked 3 (Called commands.Abort) ∷
     marked 3 (Sent 51 0 (messages.Decision (tx 0 3) outcomes.Aborted)) ∷

@@ -17,7 +17,7 @@ use Rattle.qc_msg.specs.declared.record.Record.TheVariants as records
 use Rattle.qc_msg.specs.declared.reply.Reply.TheVariants as replies
 use Rattle.qc_msg.specs.declared.message.Want.TheVariants as wants
 use Rattle.qc_msg.specs.declared.step.Fall.TheVariants as falls
-use Rattle.qc_msg.specs.Vocabulary.{grant_with, read_of, snapshot_with, start_with}
+use Rattle.qc_msg.specs.Vocabulary.{whole_grant, first_read, snapshot_with, start_with}
 use Rattle.qc_outside.specs.declared.disk.ArmKind.TheVariants as arms
 
 abbrev pub decl : Declaration
@@ -33,15 +33,15 @@ history =
     marked 6 (Phase 1) ∷ marked 1 (Fell falls.Script None) ∷ marked 1 (Rose []) ∷ marked 1 (Wrote records.Life) ∷
     marked 2 (Called commands.Begin) ∷ marked 2 (Told (replies.Began (tx 1 1))) ∷ marked 3 (Called commands.Begin) ∷
     marked 3 (Told (replies.Began (tx 2 1))) ∷ marked 2 (Called (commands.Do 1 0)) ∷
-    marked 2 (Sent 0 0 (messages.Request (tx 1 1) 1 0 (wants.Read (read_of 1 0)))) ∷ marked 0 (Got 0) ∷
-    marked 0 (Sent 1 2 (messages.Answer 0 (answers.Granted (grant_with 1 0 [])))) ∷ marked 2 (Got 1) ∷
+    marked 2 (Sent 0 0 (messages.Request (tx 1 1) 1 0 (wants.Read (first_read 1 0)))) ∷ marked 0 (Got 0) ∷
+    marked 0 (Sent 1 2 (messages.Answer 0 (answers.Granted (whole_grant 1 0 [])))) ∷ marked 2 (Got 1) ∷
     marked 2 (Sent 2 0 (messages.Request (tx 1 1) 1 1 (wants.Append 1 [] (own_line 1 1 0 ∷ [])))) ∷ marked 0 (Got 2) ∷
-    marked 0 (Sent 3 2 (messages.Answer 2 (answers.Granted (grant_with 1 0 [])))) ∷ marked 2 (Got 3) ∷
+    marked 0 (Sent 3 2 (messages.Answer 2 (answers.Granted (whole_grant 1 0 [])))) ∷ marked 2 (Got 3) ∷
     marked 2 (Told (replies.Response 0)) ∷ marked 3 (Called (commands.Do 1 1)) ∷
-    marked 3 (Sent 4 0 (messages.Request (tx 2 1) 1 0 (wants.Read (read_of 1 1)))) ∷ marked 0 (Got 4) ∷
-    marked 0 (Sent 5 3 (messages.Answer 4 (answers.Granted (grant_with 1 0 [])))) ∷ marked 3 (Got 5) ∷
+    marked 3 (Sent 4 0 (messages.Request (tx 2 1) 1 0 (wants.Read (first_read 1 1)))) ∷ marked 0 (Got 4) ∷
+    marked 0 (Sent 5 3 (messages.Answer 4 (answers.Granted (whole_grant 1 0 [])))) ∷ marked 3 (Got 5) ∷
     marked 3 (Sent 6 0 (messages.Request (tx 2 1) 1 1 (wants.Append 1 [] (own_line 1 1 1 ∷ [])))) ∷ marked 0 (Got 6) ∷
-    marked 0 (Sent 7 3 (messages.Answer 6 (answers.Granted (grant_with 1 0 [])))) ∷ marked 3 (Got 7) ∷
+    marked 0 (Sent 7 3 (messages.Answer 6 (answers.Granted (whole_grant 1 0 [])))) ∷ marked 3 (Got 7) ∷
     marked 3 (Told (replies.Response 0)) ∷ marked 2 (Called commands.Commit) ∷
     marked 2 (Sent 8 0 (messages.Request (tx 1 1) 1 1 wants.Prepare)) ∷ marked 0 (Got 8) ∷
     marked 0 (Wrote (prepare (tx 1 1) 1 (read_lock 1 0 ∷ []) (own_line 1 1 0 ∷ []) [])) ∷
@@ -56,17 +56,17 @@ history =
     marked 3 (Sent 13 0 (messages.Decision (tx 2 1) (outcomes.Committed (stamp 2 2)))) ∷
     marked 3 (Told (replies.Committed (stamp 2 2))) ∷ marked 0 (Got 13) ∷ marked 0 (Wrote (records.Done (tx 2 1) 2)) ∷
     marked 2 (Called commands.Begin) ∷ marked 2 (Told (replies.Began (tx 1 2))) ∷ marked 2 (Called (commands.Do 0 0)) ∷
-    marked 2 (Sent 14 0 (messages.Request (tx 1 2) 1 0 (wants.Read (read_of 0 0)))) ∷ marked 0 (Got 14) ∷
-    marked 0 (Sent 15 2 (messages.Answer 14 (answers.Granted (grant_with 1 2 [])))) ∷ marked 2 (Got 15) ∷
+    marked 2 (Sent 14 0 (messages.Request (tx 1 2) 1 0 (wants.Read (first_read 0 0)))) ∷ marked 0 (Got 14) ∷
+    marked 0 (Sent 15 2 (messages.Answer 14 (answers.Granted (whole_grant 1 2 [])))) ∷ marked 2 (Got 15) ∷
     marked 2 (Sent 16 0 (messages.Request (tx 1 2) 1 1 (wants.Append 0 [] (own_line 1 0 0 ∷ [])))) ∷ marked 0 (Got 16) ∷
-    marked 0 (Sent 17 2 (messages.Answer 16 (answers.Granted (grant_with 1 2 [])))) ∷ marked 2 (Got 17) ∷
+    marked 0 (Sent 17 2 (messages.Answer 16 (answers.Granted (whole_grant 1 2 [])))) ∷ marked 2 (Got 17) ∷
     marked 2 (Told (replies.Response 0)) ∷ marked 2 (Called (commands.Do 0 0)) ∷
-    marked 2 (Sent 18 0 (messages.Request (tx 1 2) 1 1 (wants.Read (read_of 0 0)))) ∷ marked 0 (Got 18) ∷
-    marked 0 (Sent 19 2 (messages.Answer 18 (answers.Granted (grant_with 1 2 [])))) ∷ marked 2 (Got 19) ∷
+    marked 2 (Sent 18 0 (messages.Request (tx 1 2) 1 1 (wants.Read (first_read 0 0)))) ∷ marked 0 (Got 18) ∷
+    marked 0 (Sent 19 2 (messages.Answer 18 (answers.Granted (whole_grant 1 2 [])))) ∷ marked 2 (Got 19) ∷
     marked 2 (Told replies.Absent) ∷ marked 2 (Called (commands.Do 1 0)) ∷
-    marked 2 (Sent 20 0 (messages.Request (tx 1 2) 1 1 (wants.Read (read_of 1 0)))) ∷ marked 0 (Got 20) ∷
+    marked 2 (Sent 20 0 (messages.Request (tx 1 2) 1 1 (wants.Read (first_read 1 0)))) ∷ marked 0 (Got 20) ∷
     marked 0
-    (Sent 21 2 (messages.Answer 20 (answers.Granted (grant_with 1 2 (line 1 1 1 1 1 0 ∷ line 2 2 1 1 1 1 ∷ []))))) ∷
+    (Sent 21 2 (messages.Answer 20 (answers.Granted (whole_grant 1 2 (line 1 1 1 1 1 0 ∷ line 2 2 1 1 1 1 ∷ []))))) ∷
     marked 2 (Got 21) ∷ marked 2 (Told replies.Absent) ∷ marked 2 (Called commands.Commit) ∷
     marked 2 (Sent 22 0 (messages.Request (tx 1 2) 1 1 wants.Prepare)) ∷ marked 0 (Got 22) ∷
     marked 0 (Wrote (prepare (tx 1 2) 1 (read_lock 0 0 ∷ read_lock 1 0 ∷ []) (own_line 1 0 0 ∷ []) [])) ∷
@@ -90,21 +90,21 @@ history =
     marked 0 (Wrote (records.Install (start_with 2 3 (line 1 1 1 1 1 0 ∷ line 2 2 1 1 1 1 ∷ line 3 1 2 1 0 0 ∷ [])))) ∷
     marked 0 (Sent 28 5 (messages.Answer 27 answers.Installed)) ∷ marked 5 (Got 28) ∷
     marked 5 (Told (replies.Moved 1 1)) ∷ marked 1 (Called (commands.Do 0 0)) ∷
-    marked 1 (Sent 29 0 (messages.Request (tx_in 0 2 1) 1 0 (wants.Read (read_of 0 0)))) ∷ marked 0 (Got 29) ∷
+    marked 1 (Sent 29 0 (messages.Request (tx_in 0 2 1) 1 0 (wants.Read (first_read 0 0)))) ∷ marked 0 (Got 29) ∷
     marked 0 (Sent 30 1 (messages.Answer 29 (answers.Closed 2))) ∷ marked 1 (Got 30) ∷
     marked 1 (Told (replies.Closed 2 0)) ∷ marked 1 (Called (commands.Do 1 1)) ∷
-    marked 1 (Sent 31 0 (messages.Request (tx_in 0 2 1) 1 0 (wants.Read (read_of 1 1)))) ∷ marked 0 (Got 31) ∷
+    marked 1 (Sent 31 0 (messages.Request (tx_in 0 2 1) 1 0 (wants.Read (first_read 1 1)))) ∷ marked 0 (Got 31) ∷
     marked 0 (Sent 32 1 (messages.Answer 31 (answers.Closed 2))) ∷ marked 1 (Got 32) ∷
     marked 1 (Told (replies.Closed 2 0)) ∷ marked 6 (Phase 3) ∷ marked 1 (Fell falls.Script None) ∷
     marked 1 (Called commands.Commit) ∷ marked 1 (Told replies.Down) ∷ marked 4 (Called commands.Begin) ∷
     marked 4 (Told (replies.Began (tx 3 1))) ∷ marked 4 (Called (commands.Do 0 1)) ∷
-    marked 4 (Sent 33 0 (messages.Request (tx 3 1) 1 0 (wants.Read (read_of 0 1)))) ∷ marked 0 (Got 33) ∷
+    marked 4 (Sent 33 0 (messages.Request (tx 3 1) 1 0 (wants.Read (first_read 0 1)))) ∷ marked 0 (Got 33) ∷
     marked 0 (Sent 34 4 (messages.Answer 33 (answers.Closed 2))) ∷ marked 4 (Got 34) ∷
     marked 4 (Told (replies.Closed 2 0)) ∷ marked 4 (Called (commands.Do 0 1)) ∷
-    marked 4 (Sent 35 0 (messages.Request (tx 3 1) 1 0 (wants.Read (read_of 0 1)))) ∷ marked 0 (Got 35) ∷
+    marked 4 (Sent 35 0 (messages.Request (tx 3 1) 1 0 (wants.Read (first_read 0 1)))) ∷ marked 0 (Got 35) ∷
     marked 0 (Sent 36 4 (messages.Answer 35 (answers.Closed 2))) ∷ marked 4 (Got 36) ∷
     marked 4 (Told (replies.Closed 2 0)) ∷ marked 4 (Called (commands.Do 0 1)) ∷
-    marked 4 (Sent 37 0 (messages.Request (tx 3 1) 1 0 (wants.Read (read_of 0 1)))) ∷ marked 0 (Got 37) ∷
+    marked 4 (Sent 37 0 (messages.Request (tx 3 1) 1 0 (wants.Read (first_read 0 1)))) ∷ marked 0 (Got 37) ∷
     marked 0 (Sent 38 4 (messages.Answer 37 (answers.Closed 2))) ∷ marked 4 (Got 38) ∷
     marked 4 (Told (replies.Closed 2 0)) ∷ marked 4 (Called commands.Commit) ∷
     marked 4 (Wrote (commit (stamp 1 3) (tx 3 1) [])) ∷
@@ -126,11 +126,11 @@ history =
     marked 6 (Phase 6) ∷ marked 6 (Armed 0 arms.Stop 8) ∷ marked 1 (Rose (records.Life ∷ [])) ∷
     marked 1 (Wrote records.Life) ∷ marked 6 (Armed 3 arms.Stop 4) ∷ marked 1 (Called commands.Begin) ∷
     marked 1 (Told (replies.Began (tx_in 0 3 1))) ∷ marked 2 (Called (commands.Do 0 2)) ∷
-    marked 2 (Sent 40 0 (messages.Request (tx 1 3) 1 0 (wants.Read (read_of 0 2)))) ∷ marked 2 (Lost 40) ∷
+    marked 2 (Sent 40 0 (messages.Request (tx 1 3) 1 0 (wants.Read (first_read 0 2)))) ∷ marked 2 (Lost 40) ∷
     marked 2 (Told (replies.Quorum halves.Read 0 1)) ∷ marked 1 (Called (commands.Do 1 2)) ∷
-    marked 1 (Sent 41 0 (messages.Request (tx_in 0 3 1) 1 0 (wants.Read (read_of 1 2)))) ∷ marked 1 (Lost 41) ∷
+    marked 1 (Sent 41 0 (messages.Request (tx_in 0 3 1) 1 0 (wants.Read (first_read 1 2)))) ∷ marked 1 (Lost 41) ∷
     marked 1 (Told (replies.Quorum halves.Read 0 1)) ∷ marked 2 (Called (commands.Do 0 1)) ∷
-    marked 2 (Sent 42 0 (messages.Request (tx 1 3) 1 0 (wants.Read (read_of 0 1)))) ∷ marked 2 (Lost 42) ∷
+    marked 2 (Sent 42 0 (messages.Request (tx 1 3) 1 0 (wants.Read (first_read 0 1)))) ∷ marked 2 (Lost 42) ∷
     marked 2 (Told (replies.Quorum halves.Read 0 1)) ∷ marked 2 (Called commands.Commit) ∷
     marked 2 (Wrote (commit (stamp 4 1) (tx 1 3) [])) ∷
     marked 2 (Sent 43 0 (messages.Decision (tx 1 3) (outcomes.Committed (stamp 4 1)))) ∷

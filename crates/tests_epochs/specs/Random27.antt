@@ -18,7 +18,7 @@ use Rattle.qc_msg.specs.declared.record.Record.TheVariants as records
 use Rattle.qc_msg.specs.declared.reply.Reply.TheVariants as replies
 use Rattle.qc_msg.specs.declared.message.Want.TheVariants as wants
 use Rattle.qc_msg.specs.declared.step.Fall.TheVariants as falls
-use Rattle.qc_msg.specs.Vocabulary.{grant_with, read_of, snapshot_with, start_with}
+use Rattle.qc_msg.specs.Vocabulary.{whole_grant, first_read, snapshot_with, start_with}
 
 abbrev pub decl : Declaration
 decl =
@@ -33,22 +33,24 @@ decl =
 abbrev pub history : List Entry
 history =
     marked 6 (Phase 1) ∷ marked 4 (Called commands.Begin) ∷ marked 4 (Told (replies.Began (tx 0 1))) ∷
-    marked 4 (Called (commands.Do 1 0)) ∷ marked 4 (Sent 0 0 (messages.Request (tx 0 1) 1 0 (wants.Read (read_of 1 0))))
+    marked 4 (Called (commands.Do 1 0)) ∷
+    marked 4 (Sent 0 0 (messages.Request (tx 0 1) 1 0 (wants.Read (first_read 1 0))))
     ∷
-    marked 4 (Sent 1 1 (messages.Request (tx 0 1) 1 0 (wants.Read (read_of 1 0)))) ∷
-    marked 4 (Sent 2 2 (messages.Request (tx 0 1) 1 0 (wants.Read (read_of 1 0)))) ∷ marked 2 (Got 2) ∷ marked 0 (Got 0)
+    marked 4 (Sent 1 1 (messages.Request (tx 0 1) 1 0 (wants.Read (first_read 1 0)))) ∷
+    marked 4 (Sent 2 2 (messages.Request (tx 0 1) 1 0 (wants.Read (first_read 1 0)))) ∷ marked 2 (Got 2) ∷
+    marked 0 (Got 0)
     ∷
-    marked 2 (Sent 3 4 (messages.Answer 2 (answers.Granted (grant_with 1 0 [])))) ∷
-    marked 0 (Sent 4 4 (messages.Answer 0 (answers.Granted (grant_with 1 0 [])))) ∷ marked 1 (Got 1) ∷
-    marked 1 (Sent 5 4 (messages.Answer 1 (answers.Granted (grant_with 1 0 [])))) ∷ marked 4 (Got 3) ∷ marked 4 (Got 4)
+    marked 2 (Sent 3 4 (messages.Answer 2 (answers.Granted (whole_grant 1 0 [])))) ∷
+    marked 0 (Sent 4 4 (messages.Answer 0 (answers.Granted (whole_grant 1 0 [])))) ∷ marked 1 (Got 1) ∷
+    marked 1 (Sent 5 4 (messages.Answer 1 (answers.Granted (whole_grant 1 0 [])))) ∷ marked 4 (Got 3) ∷ marked 4 (Got 4)
     ∷
     marked 4 (Got 5) ∷ marked 4 (Sent 6 0 (messages.Request (tx 0 1) 1 1 (wants.Append 1 [] (own_line 1 1 0 ∷ [])))) ∷
     marked 4 (Sent 7 1 (messages.Request (tx 0 1) 1 1 (wants.Append 1 [] (own_line 1 1 0 ∷ [])))) ∷
     marked 4 (Sent 8 2 (messages.Request (tx 0 1) 1 1 (wants.Append 1 [] (own_line 1 1 0 ∷ [])))) ∷ marked 1 (Got 7) ∷
-    marked 0 (Got 6) ∷ marked 1 (Sent 9 4 (messages.Answer 7 (answers.Granted (grant_with 1 0 [])))) ∷ marked 2 (Got 8)
+    marked 0 (Got 6) ∷ marked 1 (Sent 9 4 (messages.Answer 7 (answers.Granted (whole_grant 1 0 [])))) ∷ marked 2 (Got 8)
     ∷
-    marked 2 (Sent 10 4 (messages.Answer 8 (answers.Granted (grant_with 1 0 [])))) ∷ marked 4 (Got 9) ∷
-    marked 0 (Sent 11 4 (messages.Answer 6 (answers.Granted (grant_with 1 0 [])))) ∷ marked 4 (Got 10)
+    marked 2 (Sent 10 4 (messages.Answer 8 (answers.Granted (whole_grant 1 0 [])))) ∷ marked 4 (Got 9) ∷
+    marked 0 (Sent 11 4 (messages.Answer 6 (answers.Granted (whole_grant 1 0 [])))) ∷ marked 4 (Got 10)
     ∷ marked 4 (Got 11) ∷
     marked 4 (Told (replies.Response 0)) ∷ marked 4 (Called commands.Commit) ∷
     marked 4 (Sent 12 0 (messages.Request (tx 0 1) 1 1 wants.Prepare)) ∷
@@ -67,39 +69,39 @@ history =
     marked 4 (Told (replies.Committed (stamp 1 0))) ∷ marked 4 (Called commands.Begin) ∷
     marked 4 (Told (replies.Began (tx 0 2))) ∷ marked 0 (Got 18) ∷ marked 1 (Got 19) ∷ marked 2 (Got 20) ∷
     marked 0 (Wrote (records.Done (tx 0 1) 1)) ∷ marked 4 (Called (commands.Do 0 0)) ∷
-    marked 4 (Sent 21 0 (messages.Request (tx 0 2) 1 0 (wants.Read (read_of 0 0)))) ∷
-    marked 4 (Sent 22 1 (messages.Request (tx 0 2) 1 0 (wants.Read (read_of 0 0)))) ∷
-    marked 4 (Sent 23 2 (messages.Request (tx 0 2) 1 0 (wants.Read (read_of 0 0))))
+    marked 4 (Sent 21 0 (messages.Request (tx 0 2) 1 0 (wants.Read (first_read 0 0)))) ∷
+    marked 4 (Sent 22 1 (messages.Request (tx 0 2) 1 0 (wants.Read (first_read 0 0)))) ∷
+    marked 4 (Sent 23 2 (messages.Request (tx 0 2) 1 0 (wants.Read (first_read 0 0))))
     ∷ marked 1 (Wrote (records.Done (tx 0 1) 1)) ∷
     marked 0 (Got 21) ∷ marked 2 (Wrote (records.Done (tx 0 1) 1)) ∷
-    marked 0 (Sent 24 4 (messages.Answer 21 (answers.Granted (grant_with 1 1 [])))) ∷ marked 2 (Got 23)
+    marked 0 (Sent 24 4 (messages.Answer 21 (answers.Granted (whole_grant 1 1 [])))) ∷ marked 2 (Got 23)
     ∷ marked 4 (Got 24) ∷
-    marked 1 (Got 22) ∷ marked 2 (Sent 25 4 (messages.Answer 23 (answers.Granted (grant_with 1 1 []))))
+    marked 1 (Got 22) ∷ marked 2 (Sent 25 4 (messages.Answer 23 (answers.Granted (whole_grant 1 1 []))))
     ∷ marked 4 (Got 25) ∷
-    marked 1 (Sent 26 4 (messages.Answer 22 (answers.Granted (grant_with 1 1 [])))) ∷ marked 2 (Got 23) ∷
-    marked 2 (Sent 27 4 (messages.Answer 23 (answers.Granted (grant_with 1 1 [])))) ∷ marked 4 (Got 26) ∷
+    marked 1 (Sent 26 4 (messages.Answer 22 (answers.Granted (whole_grant 1 1 [])))) ∷ marked 2 (Got 23) ∷
+    marked 2 (Sent 27 4 (messages.Answer 23 (answers.Granted (whole_grant 1 1 [])))) ∷ marked 4 (Got 26) ∷
     marked 4 (Sent 28 0 (messages.Request (tx 0 2) 1 1 (wants.Append 0 [] (own_line 1 0 0 ∷ [])))) ∷
     marked 4 (Sent 29 1 (messages.Request (tx 0 2) 1 1 (wants.Append 0 [] (own_line 1 0 0 ∷ [])))) ∷
     marked 4 (Sent 30 2 (messages.Request (tx 0 2) 1 1 (wants.Append 0 [] (own_line 1 0 0 ∷ [])))) ∷ marked 0 (Got 28) ∷
     marked 4 (Got 27) ∷ marked 2 (Got 30)
-    ∷ marked 2 (Sent 31 4 (messages.Answer 30 (answers.Granted (grant_with 1 1 [])))) ∷
+    ∷ marked 2 (Sent 31 4 (messages.Answer 30 (answers.Granted (whole_grant 1 1 [])))) ∷
     marked 1 (Got 29) ∷ marked 4 (Got 31)
-    ∷ marked 0 (Sent 32 4 (messages.Answer 28 (answers.Granted (grant_with 1 1 [])))) ∷
-    marked 4 (Got 32) ∷ marked 1 (Sent 33 4 (messages.Answer 29 (answers.Granted (grant_with 1 1 []))))
+    ∷ marked 0 (Sent 32 4 (messages.Answer 28 (answers.Granted (whole_grant 1 1 [])))) ∷
+    marked 4 (Got 32) ∷ marked 1 (Sent 33 4 (messages.Answer 29 (answers.Granted (whole_grant 1 1 []))))
     ∷ marked 4 (Got 33) ∷
     marked 4 (Told (replies.Response 0)) ∷ marked 4 (Called (commands.Do 1 2)) ∷
-    marked 4 (Sent 34 0 (messages.Request (tx 0 2) 1 1 (wants.Read (read_of 1 2)))) ∷
-    marked 4 (Sent 35 1 (messages.Request (tx 0 2) 1 1 (wants.Read (read_of 1 2)))) ∷
-    marked 4 (Sent 36 2 (messages.Request (tx 0 2) 1 1 (wants.Read (read_of 1 2)))) ∷ marked 1 (Got 35)
+    marked 4 (Sent 34 0 (messages.Request (tx 0 2) 1 1 (wants.Read (first_read 1 2)))) ∷
+    marked 4 (Sent 35 1 (messages.Request (tx 0 2) 1 1 (wants.Read (first_read 1 2)))) ∷
+    marked 4 (Sent 36 2 (messages.Request (tx 0 2) 1 1 (wants.Read (first_read 1 2)))) ∷ marked 1 (Got 35)
     ∷ marked 2 (Got 36) ∷
-    marked 2 (Sent 37 4 (messages.Answer 36 (answers.Granted (grant_with 1 1 (line 1 0 1 1 1 0 ∷ [])))))
+    marked 2 (Sent 37 4 (messages.Answer 36 (answers.Granted (whole_grant 1 1 (line 1 0 1 1 1 0 ∷ [])))))
     ∷ marked 0 (Got 34) ∷
-    marked 0 (Sent 38 4 (messages.Answer 34 (answers.Granted (grant_with 1 1 (line 1 0 1 1 1 0 ∷ []))))) ∷
-    marked 1 (Sent 39 4 (messages.Answer 35 (answers.Granted (grant_with 1 1 (line 1 0 1 1 1 0 ∷ [])))))
+    marked 0 (Sent 38 4 (messages.Answer 34 (answers.Granted (whole_grant 1 1 (line 1 0 1 1 1 0 ∷ []))))) ∷
+    marked 1 (Sent 39 4 (messages.Answer 35 (answers.Granted (whole_grant 1 1 (line 1 0 1 1 1 0 ∷ [])))))
     ∷ marked 4 (Got 38) ∷
     marked 4 (Got 39) ∷ marked 4 (Lost 36)
-    ∷ marked 4 (Sent 40 3 (messages.Request (tx 0 2) 1 0 (wants.Read (read_of 1 2)))) ∷
-    marked 3 (Got 40) ∷ marked 3 (Sent 41 4 (messages.Answer 40 (answers.Granted (grant_with 1 0 []))))
+    ∷ marked 4 (Sent 40 3 (messages.Request (tx 0 2) 1 0 (wants.Read (first_read 1 2)))) ∷
+    marked 3 (Got 40) ∷ marked 3 (Sent 41 4 (messages.Answer 40 (answers.Granted (whole_grant 1 0 []))))
     ∷ marked 4 (Got 41) ∷
     marked 4 (Told (replies.Quorum halves.Read 3 4)) ∷ marked 4 (Called commands.Commit) ∷
     marked 4 (Sent 42 0 (messages.Request (tx 0 2) 1 1 wants.Prepare)) ∷

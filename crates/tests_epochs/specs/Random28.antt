@@ -15,7 +15,7 @@ use Rattle.qc_msg.specs.declared.record.Record.TheVariants as records
 use Rattle.qc_msg.specs.declared.reply.Reply.TheVariants as replies
 use Rattle.qc_msg.specs.declared.message.Want.TheVariants as wants
 use Rattle.qc_msg.specs.declared.step.Fall.TheVariants as falls
-use Rattle.qc_msg.specs.Vocabulary.{grant_with, read_of, snapshot_with, start_with}
+use Rattle.qc_msg.specs.Vocabulary.{whole_grant, first_read, snapshot_with, start_with}
 use Rattle.qc_outside.specs.declared.disk.ArmKind.TheVariants as arms
 
 abbrev pub decl : Declaration
@@ -48,9 +48,9 @@ history =
     marked 0 (Sent 10 7 (messages.Answer 4 answers.Installed)) ∷ marked 4 (Wrote (records.Install (start_with 2 0 [])))
     ∷
     marked 4 (Sent 11 7 (messages.Answer 8 answers.Installed)) ∷
-    marked 6 (Sent 12 1 (messages.Request (tx 1 1) 1 0 (wants.Read (read_of 0 1)))) ∷
-    marked 6 (Sent 13 3 (messages.Request (tx 1 1) 1 0 (wants.Read (read_of 0 1)))) ∷
-    marked 6 (Sent 14 4 (messages.Request (tx 1 1) 1 0 (wants.Read (read_of 0 1)))) ∷ marked 4 (Got 14) ∷
+    marked 6 (Sent 12 1 (messages.Request (tx 1 1) 1 0 (wants.Read (first_read 0 1)))) ∷
+    marked 6 (Sent 13 3 (messages.Request (tx 1 1) 1 0 (wants.Read (first_read 0 1)))) ∷
+    marked 6 (Sent 14 4 (messages.Request (tx 1 1) 1 0 (wants.Read (first_read 0 1)))) ∷ marked 4 (Got 14) ∷
     marked 4 (Sent 15 6 (messages.Answer 14 (answers.Closed 2))) ∷ marked 6 (Got 15) ∷ marked 3 (Got 7) ∷
     marked 3 (Wrote (records.Install (start_with 2 0 []))) ∷ marked 3 (Sent 16 7 (messages.Answer 7 answers.Installed))
     ∷
@@ -71,9 +71,9 @@ history =
     marked 7 (Told (replies.Moved 0 29)) ∷ marked 8 (Phase 2) ∷ marked 8 (Heal 3 1) ∷
     marked 0 (Fell falls.Script None) ∷ marked 0 (Fell falls.Stop None) ∷ marked 8 (Armed 1 arms.Stop 12) ∷
     marked 8 (Armed 2 arms.Fail 4) ∷ marked 5 (Called commands.Begin) ∷ marked 6 (Called (commands.Do 0 0)) ∷
-    marked 6 (Sent 27 1 (messages.Request (tx 1 1) 1 0 (wants.Read (read_of 0 0)))) ∷
-    marked 6 (Sent 28 3 (messages.Request (tx 1 1) 1 0 (wants.Read (read_of 0 0)))) ∷
-    marked 6 (Sent 29 4 (messages.Request (tx 1 1) 1 0 (wants.Read (read_of 0 0)))) ∷ marked 3 (Got 28)
+    marked 6 (Sent 27 1 (messages.Request (tx 1 1) 1 0 (wants.Read (first_read 0 0)))) ∷
+    marked 6 (Sent 28 3 (messages.Request (tx 1 1) 1 0 (wants.Read (first_read 0 0)))) ∷
+    marked 6 (Sent 29 4 (messages.Request (tx 1 1) 1 0 (wants.Read (first_read 0 0)))) ∷ marked 3 (Got 28)
     ∷ marked 6 (Lost 27) ∷
     marked 5 (Told (replies.Began (tx 0 2))) ∷ marked 4 (Got 8) ∷
     marked 4 (Sent 30 7 (messages.Answer 8 answers.Installed)) ∷ marked 5 (Called commands.Commit) ∷ marked 7 (Got 30) ∷
@@ -93,17 +93,17 @@ history =
     ∷ marked 5 (Called commands.Begin) ∷
     marked 6 (Called commands.Begin) ∷ marked 7 (Called (commands.Epoch 2)) ∷ marked 6 (Told (replies.Began (tx 1 2))) ∷
     marked 4 (Got 29) ∷ marked 5 (Told (replies.Began (tx 0 3))) ∷ marked 6 (Called (commands.Do 0 1)) ∷
-    marked 6 (Sent 38 1 (messages.Request (tx 1 2) 2 0 (wants.Read (read_of 0 1)))) ∷
-    marked 6 (Sent 39 2 (messages.Request (tx 1 2) 2 0 (wants.Read (read_of 0 1)))) ∷
-    marked 6 (Sent 40 3 (messages.Request (tx 1 2) 2 0 (wants.Read (read_of 0 1)))) ∷ marked 2 (Got 39) ∷
-    marked 2 (Sent 41 6 (messages.Answer 39 (answers.Granted (grant_with 1 0 [])))) ∷ marked 6 (Got 41) ∷
+    marked 6 (Sent 38 1 (messages.Request (tx 1 2) 2 0 (wants.Read (first_read 0 1)))) ∷
+    marked 6 (Sent 39 2 (messages.Request (tx 1 2) 2 0 (wants.Read (first_read 0 1)))) ∷
+    marked 6 (Sent 40 3 (messages.Request (tx 1 2) 2 0 (wants.Read (first_read 0 1)))) ∷ marked 2 (Got 39) ∷
+    marked 2 (Sent 41 6 (messages.Answer 39 (answers.Granted (whole_grant 1 0 [])))) ∷ marked 6 (Got 41) ∷
     marked 4 (Sent 42 6 (messages.Answer 29 (answers.Closed 2))) ∷ marked 6 (Got 42) ∷ marked 1 (Got 38) ∷
     marked 1 (Sent 43 6 (messages.Answer 38 (answers.Behind 1))) ∷ marked 6 (Got 43) ∷ marked 4 (Got 37) ∷
-    marked 3 (Got 40) ∷ marked 3 (Sent 44 6 (messages.Answer 40 (answers.Granted (grant_with 1 1 []))))
+    marked 3 (Got 40) ∷ marked 3 (Sent 44 6 (messages.Answer 40 (answers.Granted (whole_grant 1 1 []))))
     ∷ marked 6 (Got 44) ∷
-    marked 6 (Sent 45 4 (messages.Request (tx 1 2) 2 0 (wants.Read (read_of 0 1)))) ∷ marked 4 (Got 45)
+    marked 6 (Sent 45 4 (messages.Request (tx 1 2) 2 0 (wants.Read (first_read 0 1)))) ∷ marked 4 (Got 45)
     ∷ marked 6 (Got 44) ∷
-    marked 4 (Sent 46 6 (messages.Answer 45 (answers.Granted (grant_with 1 1 [])))) ∷ marked 6 (Got 46) ∷
+    marked 4 (Sent 46 6 (messages.Answer 45 (answers.Granted (whole_grant 1 1 [])))) ∷ marked 6 (Got 46) ∷
     marked 6 (Told replies.Absent) ∷ marked 6 (Called commands.Commit) ∷
     marked 6 (Sent 47 2 (messages.Request (tx 1 2) 2 1 wants.Prepare)) ∷
     marked 6 (Sent 48 3 (messages.Request (tx 1 2) 2 1 wants.Prepare)) ∷

@@ -16,7 +16,7 @@ use Rattle.qc_msg.specs.declared.record.Record.TheVariants as records
 use Rattle.qc_msg.specs.declared.reply.Reply.TheVariants as replies
 use Rattle.qc_msg.specs.declared.message.Want.TheVariants as wants
 use Rattle.qc_msg.specs.declared.step.Fall.TheVariants as falls
-use Rattle.qc_msg.specs.Vocabulary.{grant_with, read_of, snapshot_with, start_with}
+use Rattle.qc_msg.specs.Vocabulary.{whole_grant, first_read, snapshot_with, start_with}
 use Rattle.qc_outside.specs.declared.disk.ArmKind.TheVariants as arms
 
 abbrev pub decl : Declaration
@@ -58,9 +58,9 @@ history =
     ∷
     marked 2 (Wrote records.Life) ∷ marked 4 (Called commands.Begin) ∷ marked 4 (Told (replies.Began (tx 0 2))) ∷
     marked 4 (Called (commands.Do 0 0))
-    ∷ marked 4 (Sent 14 0 (messages.Request (tx 0 2) 1 0 (wants.Read (read_of 0 0)))) ∷
-    marked 4 (Sent 15 1 (messages.Request (tx 0 2) 1 0 (wants.Read (read_of 0 0)))) ∷
-    marked 4 (Sent 16 2 (messages.Request (tx 0 2) 1 0 (wants.Read (read_of 0 0)))) ∷ marked 2 (Got 16) ∷
+    ∷ marked 4 (Sent 14 0 (messages.Request (tx 0 2) 1 0 (wants.Read (first_read 0 0)))) ∷
+    marked 4 (Sent 15 1 (messages.Request (tx 0 2) 1 0 (wants.Read (first_read 0 0)))) ∷
+    marked 4 (Sent 16 2 (messages.Request (tx 0 2) 1 0 (wants.Read (first_read 0 0)))) ∷ marked 2 (Got 16) ∷
     marked 2 (Sent 17 4 (messages.Answer 16 (answers.Closed 2))) ∷ marked 1 (Got 15) ∷ marked 4 (Got 17) ∷
     marked 1 (Sent 18 4 (messages.Answer 15 (answers.Closed 2))) ∷ marked 4 (Got 18) ∷ marked 0 (Got 14) ∷
     marked 0 (Sent 19 4 (messages.Answer 14 (answers.Closed 2))) ∷ marked 4 (Got 19) ∷
@@ -71,28 +71,28 @@ history =
     marked 4 (Sent 22 2 (messages.Decision (tx 0 2) (outcomes.Committed (stamp 2 0)))) ∷
     marked 4 (Told (replies.Committed (stamp 2 0))) ∷ marked 4 (Called commands.Begin) ∷ marked 2 (Got 22) ∷
     marked 4 (Told (replies.Began (tx 0 3))) ∷ marked 4 (Called (commands.Do 0 1)) ∷ marked 1 (Got 21) ∷
-    marked 4 (Sent 23 0 (messages.Request (tx 0 3) 2 0 (wants.Read (read_of 0 1)))) ∷
-    marked 4 (Sent 24 1 (messages.Request (tx 0 3) 2 0 (wants.Read (read_of 0 1)))) ∷ marked 1 (Got 24) ∷
-    marked 1 (Sent 25 4 (messages.Answer 24 (answers.Granted (grant_with 2 2 [])))) ∷ marked 4 (Got 25)
+    marked 4 (Sent 23 0 (messages.Request (tx 0 3) 2 0 (wants.Read (first_read 0 1)))) ∷
+    marked 4 (Sent 24 1 (messages.Request (tx 0 3) 2 0 (wants.Read (first_read 0 1)))) ∷ marked 1 (Got 24) ∷
+    marked 1 (Sent 25 4 (messages.Answer 24 (answers.Granted (whole_grant 2 2 [])))) ∷ marked 4 (Got 25)
     ∷ marked 0 (Got 20) ∷
-    marked 0 (Got 23) ∷ marked 0 (Sent 26 4 (messages.Answer 23 (answers.Granted (grant_with 2 2 []))))
+    marked 0 (Got 23) ∷ marked 0 (Sent 26 4 (messages.Answer 23 (answers.Granted (whole_grant 2 2 []))))
     ∷ marked 4 (Got 26) ∷
     marked 4 (Sent 27 0 (messages.Request (tx 0 3) 2 2 (wants.Append 0 [] (own_line 1 0 1 ∷ [])))) ∷
     marked 4 (Sent 28 1 (messages.Request (tx 0 3) 2 2 (wants.Append 0 [] (own_line 1 0 1 ∷ [])))) ∷ marked 1 (Got 28) ∷
-    marked 1 (Sent 29 4 (messages.Answer 28 (answers.Granted (grant_with 2 2 [])))) ∷ marked 4 (Got 29)
+    marked 1 (Sent 29 4 (messages.Answer 28 (answers.Granted (whole_grant 2 2 [])))) ∷ marked 4 (Got 29)
     ∷ marked 0 (Got 27) ∷
-    marked 0 (Sent 30 4 (messages.Answer 27 (answers.Granted (grant_with 2 2 [])))) ∷ marked 4 (Got 30) ∷
+    marked 0 (Sent 30 4 (messages.Answer 27 (answers.Granted (whole_grant 2 2 [])))) ∷ marked 4 (Got 30) ∷
     marked 4 (Told (replies.Response 0)) ∷ marked 4 (Called (commands.Do 0 0)) ∷
-    marked 4 (Sent 31 0 (messages.Request (tx 0 3) 2 2 (wants.Read (read_of 0 0)))) ∷
-    marked 4 (Sent 32 1 (messages.Request (tx 0 3) 2 2 (wants.Read (read_of 0 0)))) ∷ marked 1 (Got 32) ∷
-    marked 1 (Sent 33 4 (messages.Answer 32 (answers.Granted (grant_with 2 2 [])))) ∷ marked 4 (Got 33)
+    marked 4 (Sent 31 0 (messages.Request (tx 0 3) 2 2 (wants.Read (first_read 0 0)))) ∷
+    marked 4 (Sent 32 1 (messages.Request (tx 0 3) 2 2 (wants.Read (first_read 0 0)))) ∷ marked 1 (Got 32) ∷
+    marked 1 (Sent 33 4 (messages.Answer 32 (answers.Granted (whole_grant 2 2 [])))) ∷ marked 4 (Got 33)
     ∷ marked 0 (Got 31) ∷
-    marked 0 (Sent 34 4 (messages.Answer 31 (answers.Granted (grant_with 2 2 [])))) ∷ marked 4 (Got 34) ∷
+    marked 0 (Sent 34 4 (messages.Answer 31 (answers.Granted (whole_grant 2 2 [])))) ∷ marked 4 (Got 34) ∷
     marked 4 (Told replies.Absent) ∷ marked 4 (Called (commands.Do 0 0)) ∷
-    marked 4 (Sent 35 0 (messages.Request (tx 0 3) 2 2 (wants.Read (read_of 0 0)))) ∷
-    marked 4 (Sent 36 1 (messages.Request (tx 0 3) 2 2 (wants.Read (read_of 0 0)))) ∷ marked 1 (Got 36) ∷
-    marked 1 (Sent 37 4 (messages.Answer 36 (answers.Granted (grant_with 2 2 [])))) ∷ marked 0 (Got 35) ∷
-    marked 0 (Sent 38 4 (messages.Answer 35 (answers.Granted (grant_with 2 2 [])))) ∷ marked 4 (Got 37)
+    marked 4 (Sent 35 0 (messages.Request (tx 0 3) 2 2 (wants.Read (first_read 0 0)))) ∷
+    marked 4 (Sent 36 1 (messages.Request (tx 0 3) 2 2 (wants.Read (first_read 0 0)))) ∷ marked 1 (Got 36) ∷
+    marked 1 (Sent 37 4 (messages.Answer 36 (answers.Granted (whole_grant 2 2 [])))) ∷ marked 0 (Got 35) ∷
+    marked 0 (Sent 38 4 (messages.Answer 35 (answers.Granted (whole_grant 2 2 [])))) ∷ marked 4 (Got 37)
     ∷ marked 4 (Got 38) ∷
     marked 4 (Told replies.Absent) ∷ marked 4 (Called commands.Commit) ∷
     marked 4 (Sent 39 0 (messages.Request (tx 0 3) 2 2 wants.Prepare)) ∷
@@ -112,34 +112,34 @@ history =
     ∷ marked 5 (Sent 45 1 (messages.Install (start_with 2 0 []))) ∷
     marked 5 (Sent 46 2 (messages.Install (start_with 2 0 [])))
     ∷ marked 5 (Sent 47 3 (messages.Install (start_with 2 0 []))) ∷
-    marked 4 (Sent 48 0 (messages.Request (tx 0 4) 2 0 (wants.Read (read_of 0 1)))) ∷
-    marked 4 (Sent 49 1 (messages.Request (tx 0 4) 2 0 (wants.Read (read_of 0 1)))) ∷ marked 3 (Got 47)
+    marked 4 (Sent 48 0 (messages.Request (tx 0 4) 2 0 (wants.Read (first_read 0 1)))) ∷
+    marked 4 (Sent 49 1 (messages.Request (tx 0 4) 2 0 (wants.Read (first_read 0 1)))) ∷ marked 3 (Got 47)
     ∷ marked 1 (Got 45) ∷
     marked 0 (Got 44) ∷ marked 0 (Sent 50 5 (messages.Answer 44 answers.Installed)) ∷
     marked 3 (Sent 51 5 (messages.Answer 47 answers.Installed)) ∷ marked 2 (Got 46) ∷ marked 5 (Got 50) ∷
     marked 2 (Sent 52 5 (messages.Answer 46 answers.Installed)) ∷
     marked 1 (Sent 53 5 (messages.Answer 45 answers.Installed)) ∷ marked 5 (Got 51) ∷ marked 1 (Got 49) ∷
-    marked 0 (Got 48) ∷ marked 0 (Sent 54 4 (messages.Answer 48 (answers.Granted (grant_with 2 2 []))))
+    marked 0 (Got 48) ∷ marked 0 (Sent 54 4 (messages.Answer 48 (answers.Granted (whole_grant 2 2 []))))
     ∷ marked 4 (Got 54) ∷
-    marked 1 (Sent 55 4 (messages.Answer 49 (answers.Granted (grant_with 3 0 [])))) ∷ marked 5 (Got 52)
+    marked 1 (Sent 55 4 (messages.Answer 49 (answers.Granted (whole_grant 3 0 [])))) ∷ marked 5 (Got 52)
     ∷ marked 4 (Got 55) ∷
     marked 4 (Sent 56 0 (messages.Request (tx 0 4) 2 2 (wants.Append 0 [] (own_line 1 0 1 ∷ [])))) ∷
     marked 4 (Sent 57 1 (messages.Request (tx 0 4) 2 3 (wants.Append 0 [] (own_line 1 0 1 ∷ [])))) ∷ marked 0 (Got 56) ∷
-    marked 0 (Sent 58 4 (messages.Answer 56 (answers.Granted (grant_with 2 2 [])))) ∷ marked 1 (Got 57) ∷
-    marked 1 (Sent 59 4 (messages.Answer 57 (answers.Granted (grant_with 3 0 [])))) ∷ marked 4 (Got 58)
+    marked 0 (Sent 58 4 (messages.Answer 56 (answers.Granted (whole_grant 2 2 [])))) ∷ marked 1 (Got 57) ∷
+    marked 1 (Sent 59 4 (messages.Answer 57 (answers.Granted (whole_grant 3 0 [])))) ∷ marked 4 (Got 58)
     ∷ marked 4 (Got 59) ∷
     marked 5 (Got 53) ∷ marked 5 (Told (replies.Moved 0 15)) ∷ marked 4 (Told (replies.Response 0)) ∷
     marked 4 (Called (commands.Do 0 1))
-    ∷ marked 4 (Sent 60 0 (messages.Request (tx 0 4) 2 2 (wants.Read (read_of 0 1)))) ∷
-    marked 4 (Sent 61 1 (messages.Request (tx 0 4) 2 3 (wants.Read (read_of 0 1)))) ∷ marked 0 (Got 60) ∷
-    marked 0 (Sent 62 4 (messages.Answer 60 (answers.Granted (grant_with 2 2 [])))) ∷ marked 1 (Got 61)
+    ∷ marked 4 (Sent 60 0 (messages.Request (tx 0 4) 2 2 (wants.Read (first_read 0 1)))) ∷
+    marked 4 (Sent 61 1 (messages.Request (tx 0 4) 2 3 (wants.Read (first_read 0 1)))) ∷ marked 0 (Got 60) ∷
+    marked 0 (Sent 62 4 (messages.Answer 60 (answers.Granted (whole_grant 2 2 [])))) ∷ marked 1 (Got 61)
     ∷ marked 4 (Got 62) ∷
-    marked 1 (Sent 63 4 (messages.Answer 61 (answers.Granted (grant_with 3 0 [])))) ∷ marked 4 (Got 63) ∷
+    marked 1 (Sent 63 4 (messages.Answer 61 (answers.Granted (whole_grant 3 0 [])))) ∷ marked 4 (Got 63) ∷
     marked 4 (Sent 64 0 (messages.Request (tx 0 4) 2 2 (wants.Append 0 [] (own_line 1 0 1 ∷ own_line 2 0 1 ∷ [])))) ∷
     marked 4 (Sent 65 1 (messages.Request (tx 0 4) 2 3 (wants.Append 0 [] (own_line 1 0 1 ∷ own_line 2 0 1 ∷ [])))) ∷
-    marked 0 (Got 64) ∷ marked 0 (Sent 66 4 (messages.Answer 64 (answers.Granted (grant_with 2 2 []))))
+    marked 0 (Got 64) ∷ marked 0 (Sent 66 4 (messages.Answer 64 (answers.Granted (whole_grant 2 2 []))))
     ∷ marked 1 (Got 65) ∷
-    marked 1 (Sent 67 4 (messages.Answer 65 (answers.Granted (grant_with 3 0 [])))) ∷ marked 4 (Got 66)
+    marked 1 (Sent 67 4 (messages.Answer 65 (answers.Granted (whole_grant 3 0 [])))) ∷ marked 4 (Got 66)
     ∷ marked 4 (Got 67) ∷
     marked 4 (Told (replies.Response 0)) ∷ marked 4 (Called commands.Commit) ∷
     marked 4 (Sent 68 0 (messages.Request (tx 0 4) 2 2 wants.Prepare)) ∷

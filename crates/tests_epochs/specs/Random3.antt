@@ -15,7 +15,7 @@ use Rattle.qc_msg.specs.declared.record.Record.TheVariants as records
 use Rattle.qc_msg.specs.declared.reply.Reply.TheVariants as replies
 use Rattle.qc_msg.specs.declared.message.Want.TheVariants as wants
 use Rattle.qc_msg.specs.declared.step.Fall.TheVariants as falls
-use Rattle.qc_msg.specs.Vocabulary.{grant_with, read_of, snapshot_with, start_with}
+use Rattle.qc_msg.specs.Vocabulary.{whole_grant, first_read, snapshot_with, start_with}
 use Rattle.qc_outside.specs.declared.disk.ArmKind.TheVariants as arms
 
 abbrev pub decl : Declaration
@@ -31,13 +31,14 @@ abbrev pub history : List Entry
 history =
     marked 6 (Phase 1) ∷ marked 4 (Called commands.Begin) ∷ marked 4 (Told (replies.Began (tx 1 1))) ∷
     marked 5 (Called (commands.Epoch 2)) ∷ marked 3 (Called commands.Begin) ∷ marked 4 (Called (commands.Do 0 1)) ∷
-    marked 4 (Sent 0 1 (messages.Request (tx 1 1) 1 0 (wants.Read (read_of 0 1))))
+    marked 4 (Sent 0 1 (messages.Request (tx 1 1) 1 0 (wants.Read (first_read 0 1))))
     ∷ marked 3 (Told (replies.Began (tx 0 1))) ∷
     marked 5 (Sent 1 0 (messages.Close 2)) ∷ marked 5 (Sent 2 1 (messages.Close 2)) ∷
     marked 5 (Sent 3 2 (messages.Close 2)) ∷ marked 1 (Got 0) ∷
-    marked 1 (Sent 4 4 (messages.Answer 0 (answers.Granted (grant_with 1 0 [])))) ∷ marked 4 (Got 4) ∷
+    marked 1 (Sent 4 4 (messages.Answer 0 (answers.Granted (whole_grant 1 0 [])))) ∷ marked 4 (Got 4) ∷
     marked 4 (Told replies.Absent) ∷ marked 4 (Called (commands.Do 0 1)) ∷
-    marked 4 (Sent 5 1 (messages.Request (tx 1 1) 1 1 (wants.Read (read_of 0 1)))) ∷ marked 1 (Got 2) ∷ marked 0 (Got 1)
+    marked 4 (Sent 5 1 (messages.Request (tx 1 1) 1 1 (wants.Read (first_read 0 1)))) ∷ marked 1 (Got 2) ∷
+    marked 0 (Got 1)
     ∷
     marked 1 (Wrote (records.Close 2)) ∷ marked 1 (Sent 6 5 (messages.Answer 2 (answers.Shut (snapshot_with 0 [] []))))
     ∷

@@ -19,7 +19,7 @@ use Rattle.qc_msg.specs.declared.record.Record.TheVariants as records
 use Rattle.qc_msg.specs.declared.reply.Reply.TheVariants as replies
 use Rattle.qc_msg.specs.declared.message.Want.TheVariants as wants
 use Rattle.qc_msg.specs.declared.step.Fall.TheVariants as falls
-use Rattle.qc_msg.specs.Vocabulary.{grant_with, read_of}
+use Rattle.qc_msg.specs.Vocabulary.{whole_grant, first_read}
 use Rattle.qc_outside.specs.declared.disk.ArmKind.TheVariants as arms
 
 abbrev pub decl : Declaration
@@ -43,10 +43,10 @@ history =
     marked 2 (Told (replies.Began (tx 0 2))) ∷ marked 2 (Called (commands.Do 0 1)) ∷ marked 1 (Got 0) ∷
     marked 2 (Sent 2 1 (messages.Request (tx 0 2) 1 0 (wants.Append 0 [] (own_line 1 0 1 ∷ [])))) ∷
     marked 3 (Called commands.Begin) ∷ marked 3 (Told (replies.Began (tx 1 2))) ∷ marked 3 (Called (commands.Do 0 0)) ∷
-    marked 3 (Sent 3 1 (messages.Request (tx 1 2) 1 0 (wants.Read (read_of 0 0))))
+    marked 3 (Sent 3 1 (messages.Request (tx 1 2) 1 0 (wants.Read (first_read 0 0))))
     ∷ marked 5 (Told (replies.Began (tx 3 1))) ∷
-    marked 5 (Called commands.Commit) ∷ marked 1 (Sent 4 2 (messages.Answer 0 (answers.Granted (grant_with 1 0 [])))) ∷
-    marked 2 (Got 4) ∷ marked 1 (Got 2) ∷ marked 1 (Sent 5 2 (messages.Answer 2 (answers.Granted (grant_with 1 0 []))))
+    marked 5 (Called commands.Commit) ∷ marked 1 (Sent 4 2 (messages.Answer 0 (answers.Granted (whole_grant 1 0 [])))) ∷
+    marked 2 (Got 4) ∷ marked 1 (Got 2) ∷ marked 1 (Sent 5 2 (messages.Answer 2 (answers.Granted (whole_grant 1 0 []))))
     ∷
     marked 2 (Got 5) ∷ marked 1 (Got 3) ∷ marked 2 (Told (replies.Response 0)) ∷
     marked 5 (Wrote (commit (stamp 1 3) (tx 3 1) [])) ∷ marked 5 (Told (replies.Committed (stamp 1 3))) ∷
@@ -66,16 +66,16 @@ history =
     marked 2 (Wrote (commit (stamp 3 0) (tx 0 2) (operation 0 1 (Some 0) ∷ []))) ∷
     marked 2 (Sent 12 1 (messages.Decision (tx 0 2) (outcomes.Committed (stamp 3 0)))) ∷
     marked 2 (Told (replies.Committed (stamp 3 0))) ∷ marked 1 (Got 12) ∷ marked 1 (Wrote (records.Done (tx 0 2) 3)) ∷
-    marked 5 (Sent 13 1 (messages.Request (tx_in 3 2 1) 1 0 (wants.Read (read_of 0 0)))) ∷ marked 1 (Got 13) ∷
-    marked 1 (Sent 14 5 (messages.Answer 13 (answers.Granted (grant_with 1 3 (line 3 0 2 1 0 1 ∷ [])))))
+    marked 5 (Sent 13 1 (messages.Request (tx_in 3 2 1) 1 0 (wants.Read (first_read 0 0)))) ∷ marked 1 (Got 13) ∷
+    marked 1 (Sent 14 5 (messages.Answer 13 (answers.Granted (whole_grant 1 3 (line 3 0 2 1 0 1 ∷ [])))))
     ∷ marked 5 (Got 14) ∷
     marked 5 (Sent 15 1 (messages.Request (tx_in 3 2 1) 1 1 (wants.Append 0 (line 3 0 2 1 0 1 ∷ []) (own_line 1 0 0 ∷
     [])))) ∷
-    marked 1 (Got 15) ∷ marked 1 (Sent 16 5 (messages.Answer 15 (answers.Granted (grant_with 1 3 []))))
+    marked 1 (Got 15) ∷ marked 1 (Sent 16 5 (messages.Answer 15 (answers.Granted (whole_grant 1 3 []))))
     ∷ marked 5 (Got 16) ∷
     marked 5 (Told (replies.Response 0)) ∷ marked 7 (Phase 4) ∷ marked 7 (Cut 1 5) ∷ marked 7 (Armed 3 arms.Fail 9) ∷
     marked 5 (Called (commands.Do 0 0))
-    ∷ marked 5 (Sent 17 1 (messages.Request (tx_in 3 2 1) 1 1 (wants.Read (read_of 0 0)))) ∷
+    ∷ marked 5 (Sent 17 1 (messages.Request (tx_in 3 2 1) 1 1 (wants.Read (first_read 0 0)))) ∷
     marked 5 (Lost 17) ∷ marked 5 (Told (replies.Quorum halves.Read 0 2)) ∷ marked 5 (Called commands.Commit) ∷
     marked 5 (Sent 18 1 (messages.Request (tx_in 3 2 1) 1 1 wants.Prepare)) ∷ marked 5 (Lost 18) ∷
     marked 5 (Sent 19 1 (messages.Decision (tx_in 3 2 1) outcomes.Aborted)) ∷
@@ -99,13 +99,13 @@ history =
     marked 3 (Sent 29 1 (messages.Decision (tx 1 3) outcomes.Aborted)) ∷
     marked 3 (Told (replies.Aborted causes.Doomed)) ∷ marked 3 (Called commands.Begin) ∷ marked 1 (Got 28) ∷
     marked 3 (Told (replies.Began (tx 1 4))) ∷ marked 3 (Called (commands.Do 0 0)) ∷
-    marked 3 (Sent 30 1 (messages.Request (tx 1 4) 1 0 (wants.Read (read_of 0 0)))) ∷ marked 1 (Got 29)
+    marked 3 (Sent 30 1 (messages.Request (tx 1 4) 1 0 (wants.Read (first_read 0 0)))) ∷ marked 1 (Got 29)
     ∷ marked 1 (Got 30) ∷
-    marked 1 (Sent 31 3 (messages.Answer 30 (answers.Granted (grant_with 1 3 (line 3 0 2 1 0 1 ∷ [])))))
+    marked 1 (Sent 31 3 (messages.Answer 30 (answers.Granted (whole_grant 1 3 (line 3 0 2 1 0 1 ∷ [])))))
     ∷ marked 3 (Got 31) ∷
     marked 3 (Sent 32 1 (messages.Request (tx 1 4) 1 1 (wants.Append 0 (line 3 0 2 1 0 1 ∷ []) (own_line 1 0 0 ∷ []))))
     ∷
-    marked 1 (Got 32) ∷ marked 1 (Sent 33 3 (messages.Answer 32 (answers.Granted (grant_with 1 3 []))))
+    marked 1 (Got 32) ∷ marked 1 (Sent 33 3 (messages.Answer 32 (answers.Granted (whole_grant 1 3 []))))
     ∷ marked 3 (Got 33) ∷
     marked 3 (Told (replies.Response 0)) ∷ marked 3 (Called commands.Commit) ∷
     marked 3 (Sent 34 1 (messages.Request (tx 1 4) 1 1 wants.Prepare)) ∷ marked 1 (Got 34) ∷
@@ -120,31 +120,31 @@ history =
     marked 5 (Called commands.Commit) ∷ marked 5 (Wrote (commit (stamp 4 3) (tx_in 3 2 3) [])) ∷
     marked 5 (Told (replies.Committed (stamp 4 3))) ∷ marked 5 (Called commands.Begin) ∷
     marked 5 (Told (replies.Began (tx_in 3 2 4))) ∷ marked 5 (Called (commands.Do 0 0)) ∷
-    marked 5 (Sent 37 1 (messages.Request (tx_in 3 2 4) 1 0 (wants.Read (read_of 0 0)))) ∷ marked 1 (Got 37) ∷
+    marked 5 (Sent 37 1 (messages.Request (tx_in 3 2 4) 1 0 (wants.Read (first_read 0 0)))) ∷ marked 1 (Got 37) ∷
     marked 1
-    (Sent 38 5 (messages.Answer 37 (answers.Granted (grant_with 1 4 (line 3 0 2 1 0 1 ∷ line 4 1 4 1 0 0 ∷ []))))) ∷
+    (Sent 38 5 (messages.Answer 37 (answers.Granted (whole_grant 1 4 (line 3 0 2 1 0 1 ∷ line 4 1 4 1 0 0 ∷ []))))) ∷
     marked 5 (Got 38) ∷
     marked 5 (Sent 39 1 (messages.Request (tx_in 3 2 4) 1 1 (wants.Append 0 (line 3 0 2 1 0 1 ∷ line 4 1 4 1 0 0 ∷ [])
     (own_line 1 0 0 ∷ [])))) ∷
-    marked 1 (Got 39) ∷ marked 1 (Sent 40 5 (messages.Answer 39 (answers.Granted (grant_with 1 4 []))))
+    marked 1 (Got 39) ∷ marked 1 (Sent 40 5 (messages.Answer 39 (answers.Granted (whole_grant 1 4 []))))
     ∷ marked 5 (Got 40) ∷
     marked 5 (Told (replies.Response 0)) ∷ marked 5 (Called (commands.Do 0 0)) ∷
-    marked 5 (Sent 41 1 (messages.Request (tx_in 3 2 4) 1 1 (wants.Read (read_of 0 0)))) ∷ marked 1 (Got 41) ∷
+    marked 5 (Sent 41 1 (messages.Request (tx_in 3 2 4) 1 1 (wants.Read (first_read 0 0)))) ∷ marked 1 (Got 41) ∷
     marked 1
-    (Sent 42 5 (messages.Answer 41 (answers.Granted (grant_with 1 4 (line 3 0 2 1 0 1 ∷ line 4 1 4 1 0 0 ∷ []))))) ∷
+    (Sent 42 5 (messages.Answer 41 (answers.Granted (whole_grant 1 4 (line 3 0 2 1 0 1 ∷ line 4 1 4 1 0 0 ∷ []))))) ∷
     marked 5 (Got 42) ∷
     marked 5 (Sent 43 1 (messages.Request (tx_in 3 2 4) 1 1 (wants.Append 0 (line 3 0 2 1 0 1 ∷ line 4 1 4 1 0 0 ∷ [])
     (own_line 1 0 0 ∷ own_line 2 0 0 ∷ [])))) ∷
-    marked 1 (Got 43) ∷ marked 1 (Sent 44 5 (messages.Answer 43 (answers.Granted (grant_with 1 4 []))))
+    marked 1 (Got 43) ∷ marked 1 (Sent 44 5 (messages.Answer 43 (answers.Granted (whole_grant 1 4 []))))
     ∷ marked 5 (Got 44) ∷
     marked 5 (Told (replies.Response 0)) ∷ marked 5 (Called (commands.Do 0 0)) ∷
-    marked 5 (Sent 45 1 (messages.Request (tx_in 3 2 4) 1 1 (wants.Read (read_of 0 0)))) ∷ marked 1 (Got 45) ∷
+    marked 5 (Sent 45 1 (messages.Request (tx_in 3 2 4) 1 1 (wants.Read (first_read 0 0)))) ∷ marked 1 (Got 45) ∷
     marked 1
-    (Sent 46 5 (messages.Answer 45 (answers.Granted (grant_with 1 4 (line 3 0 2 1 0 1 ∷ line 4 1 4 1 0 0 ∷ []))))) ∷
+    (Sent 46 5 (messages.Answer 45 (answers.Granted (whole_grant 1 4 (line 3 0 2 1 0 1 ∷ line 4 1 4 1 0 0 ∷ []))))) ∷
     marked 5 (Got 46) ∷
     marked 5 (Sent 47 1 (messages.Request (tx_in 3 2 4) 1 1 (wants.Append 0 (line 3 0 2 1 0 1 ∷ line 4 1 4 1 0 0 ∷ [])
     (own_line 1 0 0 ∷ own_line 2 0 0 ∷ own_line 3 0 0 ∷ [])))) ∷
-    marked 1 (Got 47) ∷ marked 1 (Sent 48 5 (messages.Answer 47 (answers.Granted (grant_with 1 4 []))))
+    marked 1 (Got 47) ∷ marked 1 (Sent 48 5 (messages.Answer 47 (answers.Granted (whole_grant 1 4 []))))
     ∷ marked 5 (Got 48) ∷
     marked 5 (Told (replies.Response 0)) ∷ marked 5 (Called commands.Commit) ∷
     marked 5 (Sent 49 1 (messages.Request (tx_in 3 2 4) 1 1 wants.Prepare)) ∷ marked 1 (Got 49) ∷

@@ -17,7 +17,7 @@ use Rattle.qc_msg.specs.declared.record.Record.TheVariants as records
 use Rattle.qc_msg.specs.declared.reply.Reply.TheVariants as replies
 use Rattle.qc_msg.specs.declared.message.Want.TheVariants as wants
 use Rattle.qc_msg.specs.declared.step.Fall.TheVariants as falls
-use Rattle.qc_msg.specs.Vocabulary.{grant_with, read_of, snapshot_with, start_with}
+use Rattle.qc_msg.specs.Vocabulary.{whole_grant, first_read, snapshot_with, start_with}
 use Rattle.qc_outside.specs.declared.disk.ArmKind.TheVariants as arms
 
 abbrev pub decl : Declaration
@@ -53,13 +53,13 @@ history =
     marked 1 (Rose ((records.Close 2) ∷ [])) ∷ marked 1 (Wrote records.Life) ∷ marked 4 (Called commands.Abort) ∷
     marked 4 (Told replies.NoTransaction) ∷ marked 4 (Called commands.Begin) ∷
     marked 4 (Told (replies.Began (tx 1 1))) ∷ marked 4 (Called (commands.Do 0 1)) ∷
-    marked 4 (Sent 12 1 (messages.Request (tx 1 1) 1 0 (wants.Read (read_of 0 1)))) ∷
-    marked 4 (Sent 13 2 (messages.Request (tx 1 1) 1 0 (wants.Read (read_of 0 1)))) ∷ marked 1 (Got 12) ∷
+    marked 4 (Sent 12 1 (messages.Request (tx 1 1) 1 0 (wants.Read (first_read 0 1)))) ∷
+    marked 4 (Sent 13 2 (messages.Request (tx 1 1) 1 0 (wants.Read (first_read 0 1)))) ∷ marked 1 (Got 12) ∷
     marked 1 (Sent 14 4 (messages.Answer 12 (answers.Closed 2))) ∷ marked 4 (Got 14) ∷
     marked 3 (Called commands.Abort) ∷ marked 3 (Told replies.Dropped) ∷ marked 3 (Called commands.Begin) ∷
     marked 3 (Told (replies.Began (tx 0 3))) ∷ marked 3 (Called (commands.Do 0 1)) ∷
-    marked 3 (Sent 15 1 (messages.Request (tx 0 3) 1 0 (wants.Read (read_of 0 1)))) ∷
-    marked 3 (Sent 16 2 (messages.Request (tx 0 3) 1 0 (wants.Read (read_of 0 1)))) ∷ marked 1 (Got 15) ∷
+    marked 3 (Sent 15 1 (messages.Request (tx 0 3) 1 0 (wants.Read (first_read 0 1)))) ∷
+    marked 3 (Sent 16 2 (messages.Request (tx 0 3) 1 0 (wants.Read (first_read 0 1)))) ∷ marked 1 (Got 15) ∷
     marked 1 (Sent 17 3 (messages.Answer 15 (answers.Closed 2))) ∷ marked 2 (Got 13) ∷
     marked 2 (Sent 18 4 (messages.Answer 13 (answers.Closed 2))) ∷ marked 4 (Got 18) ∷
     marked 4 (Told (replies.Closed 2 1)) ∷ marked 4 (Called commands.Commit) ∷
@@ -68,14 +68,14 @@ history =
     marked 4 (Sent 20 2 (messages.Decision (tx 1 1) (outcomes.Committed (stamp 1 1)))) ∷
     marked 4 (Told (replies.Committed (stamp 1 1))) ∷ marked 4 (Called commands.Begin) ∷
     marked 4 (Told (replies.Began (tx 1 2))) ∷ marked 1 (Got 19) ∷ marked 4 (Called (commands.Do 0 1)) ∷
-    marked 4 (Sent 21 1 (messages.Request (tx 1 2) 2 0 (wants.Read (read_of 0 1)))) ∷
-    marked 4 (Sent 22 2 (messages.Request (tx 1 2) 2 0 (wants.Read (read_of 0 1)))) ∷ marked 4 (Lost 21)
+    marked 4 (Sent 21 1 (messages.Request (tx 1 2) 2 0 (wants.Read (first_read 0 1)))) ∷
+    marked 4 (Sent 22 2 (messages.Request (tx 1 2) 2 0 (wants.Read (first_read 0 1)))) ∷ marked 4 (Lost 21)
     ∷ marked 3 (Got 17) ∷
     marked 2 (Got 16) ∷ marked 2 (Sent 23 3 (messages.Answer 16 (answers.Closed 2))) ∷ marked 3 (Got 23) ∷
     marked 3 (Told (replies.Closed 2 1)) ∷ marked 2 (Got 20) ∷ marked 2 (Got 22) ∷
-    marked 2 (Sent 24 4 (messages.Answer 22 (answers.Granted (grant_with 2 1 [])))) ∷ marked 4 (Got 24) ∷
-    marked 4 (Sent 25 0 (messages.Request (tx 1 2) 2 0 (wants.Read (read_of 0 1)))) ∷ marked 0 (Got 25) ∷
-    marked 0 (Sent 26 4 (messages.Answer 25 (answers.Granted (grant_with 1 0 [])))) ∷ marked 4 (Got 26) ∷
+    marked 2 (Sent 24 4 (messages.Answer 22 (answers.Granted (whole_grant 2 1 [])))) ∷ marked 4 (Got 24) ∷
+    marked 4 (Sent 25 0 (messages.Request (tx 1 2) 2 0 (wants.Read (first_read 0 1)))) ∷ marked 0 (Got 25) ∷
+    marked 0 (Sent 26 4 (messages.Answer 25 (answers.Granted (whole_grant 1 0 [])))) ∷ marked 4 (Got 26) ∷
     marked 4 (Sent 27 1 (messages.Request (tx 1 2) 2 0 (wants.Append 0 [] (own_line 1 0 1 ∷ [])))) ∷
     marked 4 (Sent 28 2 (messages.Request (tx 1 2) 2 2 (wants.Append 0 [] (own_line 1 0 1 ∷ [])))) ∷ marked 1 (Got 27) ∷
     marked 1 (Sent 29 4 (messages.Answer 27 (answers.Behind 1))) ∷ marked 4 (Got 29) ∷
@@ -83,17 +83,17 @@ history =
     marked 3 (Sent 30 1 (messages.Decision (tx 0 3) (outcomes.Committed (stamp 2 0)))) ∷
     marked 3 (Sent 31 2 (messages.Decision (tx 0 3) (outcomes.Committed (stamp 2 0)))) ∷
     marked 3 (Told (replies.Committed (stamp 2 0))) ∷ marked 1 (Got 30) ∷ marked 2 (Got 28) ∷
-    marked 2 (Sent 32 4 (messages.Answer 28 (answers.Granted (grant_with 2 1 [])))) ∷ marked 4 (Got 32) ∷
+    marked 2 (Sent 32 4 (messages.Answer 28 (answers.Granted (whole_grant 2 1 [])))) ∷ marked 4 (Got 32) ∷
     marked 4 (Sent 33 0 (messages.Request (tx 1 2) 2 1 (wants.Append 0 [] (own_line 1 0 1 ∷ [])))) ∷ marked 0 (Got 33) ∷
-    marked 0 (Sent 34 4 (messages.Answer 33 (answers.Granted (grant_with 1 0 [])))) ∷ marked 4 (Got 34) ∷
+    marked 0 (Sent 34 4 (messages.Answer 33 (answers.Granted (whole_grant 1 0 [])))) ∷ marked 4 (Got 34) ∷
     marked 4 (Told (replies.Response 0)) ∷ marked 4 (Called commands.Commit) ∷
     marked 4 (Sent 35 2 (messages.Request (tx 1 2) 2 2 wants.Prepare)) ∷
     marked 4 (Sent 36 0 (messages.Request (tx 1 2) 2 1 wants.Prepare)) ∷ marked 0 (Got 36) ∷
     marked 0 (Wrote (prepare (tx 1 2) 2 (read_lock 0 1 ∷ []) (own_line 1 0 1 ∷ []) [])) ∷
     marked 0 (Sent 37 4 (messages.Answer 36 (answers.Yes 0))) ∷ marked 4 (Got 37) ∷ marked 3 (Called commands.Begin) ∷
     marked 3 (Told (replies.Began (tx 0 4))) ∷ marked 3 (Called (commands.Do 0 1)) ∷
-    marked 3 (Sent 38 0 (messages.Request (tx 0 4) 2 0 (wants.Read (read_of 0 1)))) ∷
-    marked 3 (Sent 39 1 (messages.Request (tx 0 4) 2 0 (wants.Read (read_of 0 1)))) ∷ marked 1 (Got 39) ∷
+    marked 3 (Sent 38 0 (messages.Request (tx 0 4) 2 0 (wants.Read (first_read 0 1)))) ∷
+    marked 3 (Sent 39 1 (messages.Request (tx 0 4) 2 0 (wants.Read (first_read 0 1)))) ∷ marked 1 (Got 39) ∷
     marked 1 (Sent 40 3 (messages.Answer 39 (answers.Behind 1))) ∷ marked 0 (Got 38) ∷
     marked 0 (Sent 41 3 (messages.Answer 38 (answers.Clash (tx 1 2) 1 1))) ∷
     marked 0 (Sent 42 4 (messages.Inquiry (tx 1 2))) ∷ marked 4 (Got 42) ∷
@@ -111,18 +111,18 @@ history =
     marked 4 (Told (replies.Committed (stamp 2 1))) ∷ marked 4 (Called commands.Begin) ∷ marked 0 (Got 47) ∷
     marked 0 (Fell falls.Disk (Some (records.Done (tx 1 2) 2))) ∷ marked 4 (Told (replies.Began (tx 1 3))) ∷
     marked 4 (Called (commands.Do 0 1))
-    ∷ marked 4 (Sent 50 1 (messages.Request (tx 1 3) 2 0 (wants.Read (read_of 0 1)))) ∷
-    marked 4 (Sent 51 2 (messages.Request (tx 1 3) 2 0 (wants.Read (read_of 0 1)))) ∷ marked 1 (Got 46)
+    ∷ marked 4 (Sent 50 1 (messages.Request (tx 1 3) 2 0 (wants.Read (first_read 0 1)))) ∷
+    marked 4 (Sent 51 2 (messages.Request (tx 1 3) 2 0 (wants.Read (first_read 0 1)))) ∷ marked 1 (Got 46)
     ∷ marked 1 (Got 48) ∷
     marked 1 (Got 50) ∷ marked 1 (Sent 52 4 (messages.Answer 50 (answers.Behind 1))) ∷ marked 4 (Got 52) ∷
     marked 2 (Got 49) ∷ marked 2 (Wrote (records.Done (tx 1 2) 2)) ∷ marked 3 (Called commands.Begin) ∷
     marked 3 (Told (replies.Began (tx 0 5))) ∷ marked 3 (Called (commands.Do 0 1)) ∷
-    marked 3 (Sent 53 0 (messages.Request (tx 0 5) 2 0 (wants.Read (read_of 0 1)))) ∷
-    marked 3 (Sent 54 1 (messages.Request (tx 0 5) 2 0 (wants.Read (read_of 0 1)))) ∷ marked 1 (Got 54) ∷
+    marked 3 (Sent 53 0 (messages.Request (tx 0 5) 2 0 (wants.Read (first_read 0 1)))) ∷
+    marked 3 (Sent 54 1 (messages.Request (tx 0 5) 2 0 (wants.Read (first_read 0 1)))) ∷ marked 1 (Got 54) ∷
     marked 1 (Sent 55 3 (messages.Answer 54 (answers.Behind 1))) ∷ marked 2 (Got 51) ∷
-    marked 2 (Sent 56 4 (messages.Answer 51 (answers.Granted (grant_with 2 2 (line 2 1 2 1 0 1 ∷ [])))))
+    marked 2 (Sent 56 4 (messages.Answer 51 (answers.Granted (whole_grant 2 2 (line 2 1 2 1 0 1 ∷ [])))))
     ∷ marked 4 (Got 56) ∷
-    marked 4 (Sent 57 0 (messages.Request (tx 1 3) 2 0 (wants.Read (read_of 0 1)))) ∷ marked 4 (Lost 57) ∷
+    marked 4 (Sent 57 0 (messages.Request (tx 1 3) 2 0 (wants.Read (first_read 0 1)))) ∷ marked 4 (Lost 57) ∷
     marked 4 (Told (replies.Quorum halves.Read 3 4)) ∷ marked 4 (Called commands.Commit) ∷
     marked 4 (Sent 58 2 (messages.Request (tx 1 3) 2 2 wants.Prepare)) ∷ marked 2 (Got 58) ∷
     marked 2 (Wrote (prepare (tx 1 3) 2 (read_lock 0 1 ∷ []) [] [])) ∷
@@ -133,8 +133,8 @@ history =
     marked 4 (Sent 62 2 (messages.Decision (tx 1 3) (outcomes.Committed (stamp 3 1)))) ∷
     marked 4 (Told (replies.Committed (stamp 3 1))) ∷ marked 1 (Got 61) ∷ marked 3 (Got 55) ∷ marked 2 (Got 62) ∷
     marked 2 (Wrote (records.Done (tx 1 3) 3)) ∷ marked 3 (Lost 53) ∷
-    marked 3 (Sent 63 2 (messages.Request (tx 0 5) 2 0 (wants.Read (read_of 0 1)))) ∷ marked 2 (Got 63) ∷
-    marked 2 (Sent 64 3 (messages.Answer 63 (answers.Granted (grant_with 2 3 (line 2 1 2 1 0 1 ∷ [])))))
+    marked 3 (Sent 63 2 (messages.Request (tx 0 5) 2 0 (wants.Read (first_read 0 1)))) ∷ marked 2 (Got 63) ∷
+    marked 2 (Sent 64 3 (messages.Answer 63 (answers.Granted (whole_grant 2 3 (line 2 1 2 1 0 1 ∷ [])))))
     ∷ marked 3 (Got 64) ∷
     marked 3 (Told (replies.Quorum halves.Read 3 4)) ∷ marked 3 (Called commands.Commit) ∷
     marked 3 (Sent 65 2 (messages.Request (tx 0 5) 2 2 wants.Prepare)) ∷ marked 2 (Got 65) ∷

@@ -18,7 +18,7 @@ use Rattle.qc_msg.specs.declared.record.Record.TheVariants as records
 use Rattle.qc_msg.specs.declared.reply.Reply.TheVariants as replies
 use Rattle.qc_msg.specs.declared.message.Want.TheVariants as wants
 use Rattle.qc_msg.specs.declared.step.Fall.TheVariants as falls
-use Rattle.qc_msg.specs.Vocabulary.{grant_with, read_of, snapshot_with, start_with}
+use Rattle.qc_msg.specs.Vocabulary.{whole_grant, first_read, snapshot_with, start_with}
 use Rattle.qc_outside.specs.declared.disk.ArmKind.TheVariants as arms
 
 abbrev pub decl : Declaration
@@ -35,14 +35,14 @@ history =
     marked 5 (Phase 1) ∷ marked 5 (Armed 1 arms.Fail 2) ∷ marked 2 (Fell falls.Script None) ∷ marked 2 (Rose []) ∷
     marked 2 (Wrote records.Life) ∷ marked 2 (Called commands.Begin) ∷ marked 2 (Told (replies.Began (tx_in 0 2 1))) ∷
     marked 2 (Called (commands.Do 0 1)) ∷ marked 3 (Called commands.Begin) ∷ marked 3 (Told (replies.Began (tx 1 1))) ∷
-    marked 2 (Sent 0 0 (messages.Request (tx_in 0 2 1) 1 0 (wants.Read (read_of 0 1)))) ∷
-    marked 2 (Sent 1 1 (messages.Request (tx_in 0 2 1) 1 0 (wants.Read (read_of 0 1)))) ∷ marked 1 (Got 1)
+    marked 2 (Sent 0 0 (messages.Request (tx_in 0 2 1) 1 0 (wants.Read (first_read 0 1)))) ∷
+    marked 2 (Sent 1 1 (messages.Request (tx_in 0 2 1) 1 0 (wants.Read (first_read 0 1)))) ∷ marked 1 (Got 1)
     ∷ marked 0 (Got 0) ∷
-    marked 0 (Sent 2 2 (messages.Answer 0 (answers.Granted (grant_with 1 0 [])))) ∷
-    marked 1 (Sent 3 2 (messages.Answer 1 (answers.Granted (grant_with 1 0 [])))) ∷ marked 2 (Got 2) ∷ marked 2 (Got 3)
+    marked 0 (Sent 2 2 (messages.Answer 0 (answers.Granted (whole_grant 1 0 [])))) ∷
+    marked 1 (Sent 3 2 (messages.Answer 1 (answers.Granted (whole_grant 1 0 [])))) ∷ marked 2 (Got 2) ∷ marked 2 (Got 3)
     ∷
     marked 2 (Sent 4 0 (messages.Request (tx_in 0 2 1) 1 1 (wants.Append 0 [] (own_line 1 0 1 ∷ [])))) ∷
-    marked 0 (Got 4) ∷ marked 0 (Sent 5 2 (messages.Answer 4 (answers.Granted (grant_with 1 0 [])))) ∷ marked 2 (Got 5)
+    marked 0 (Got 4) ∷ marked 0 (Sent 5 2 (messages.Answer 4 (answers.Granted (whole_grant 1 0 [])))) ∷ marked 2 (Got 5)
     ∷
     marked 2 (Told (replies.Response 0)) ∷ marked 2 (Called commands.Commit) ∷
     marked 2 (Sent 6 0 (messages.Request (tx_in 0 2 1) 1 1 wants.Prepare)) ∷
@@ -78,8 +78,8 @@ history =
     marked 4 (Got 13) ∷ marked 2 (Wrote (commit (stamp 1 0) (tx_in 0 3 1) [])) ∷
     marked 2 (Told (replies.Committed (stamp 1 0))) ∷ marked 2 (Called commands.Begin) ∷
     marked 2 (Told (replies.Began (tx_in 0 3 2))) ∷ marked 4 (Got 14) ∷ marked 2 (Called (commands.Do 1 1)) ∷
-    marked 2 (Sent 15 0 (messages.Request (tx_in 0 3 2) 1 0 (wants.Read (read_of 1 1)))) ∷
-    marked 2 (Sent 16 1 (messages.Request (tx_in 0 3 2) 1 0 (wants.Read (read_of 1 1)))) ∷
+    marked 2 (Sent 15 0 (messages.Request (tx_in 0 3 2) 1 0 (wants.Read (first_read 1 1)))) ∷
+    marked 2 (Sent 16 1 (messages.Request (tx_in 0 3 2) 1 0 (wants.Read (first_read 1 1)))) ∷
     marked 4 (Sent 17 2 (messages.Ask (tx_in 0 2 1))) ∷ marked 0 (Got 15) ∷ marked 2 (Got 17) ∷
     marked 0 (Sent 18 2 (messages.Answer 15 (answers.Closed 2))) ∷ marked 1 (Got 16) ∷
     marked 1 (Sent 19 2 (messages.Answer 16 (answers.Closed 2))) ∷
@@ -92,8 +92,8 @@ history =
     ∷
     marked 2 (Called (commands.Do 1 2)) ∷ marked 4 (Got 23) ∷ marked 0 (Wrote (records.Install (start_with 2 0 []))) ∷
     marked 0 (Sent 24 4 (messages.Answer 21 answers.Installed)) ∷
-    marked 2 (Sent 25 0 (messages.Request (tx_in 0 3 2) 1 0 (wants.Read (read_of 1 2)))) ∷
-    marked 2 (Sent 26 1 (messages.Request (tx_in 0 3 2) 1 0 (wants.Read (read_of 1 2)))) ∷ marked 4 (Got 24)
+    marked 2 (Sent 25 0 (messages.Request (tx_in 0 3 2) 1 0 (wants.Read (first_read 1 2)))) ∷
+    marked 2 (Sent 26 1 (messages.Request (tx_in 0 3 2) 1 0 (wants.Read (first_read 1 2)))) ∷ marked 4 (Got 24)
     ∷ marked 1 (Got 26) ∷
     marked 4 (Told (replies.Moved 3 3)) ∷ marked 1 (Sent 27 2 (messages.Answer 26 (answers.Closed 2))) ∷
     marked 4 (Called (commands.Epoch 2)) ∷ marked 2 (Got 27)
@@ -103,8 +103,8 @@ history =
     marked 0 (Sent 31 2 (messages.Answer 25 (answers.Closed 2))) ∷ marked 0 (Got 28) ∷ marked 2 (Got 31) ∷
     marked 4 (Got 30) ∷ marked 2 (Told (replies.Closed 2 0)) ∷
     marked 0 (Sent 32 4 (messages.Answer 28 answers.Installed)) ∷ marked 2 (Called (commands.Do 0 2)) ∷
-    marked 2 (Sent 33 0 (messages.Request (tx_in 0 3 2) 1 0 (wants.Read (read_of 0 2)))) ∷
-    marked 2 (Sent 34 1 (messages.Request (tx_in 0 3 2) 1 0 (wants.Read (read_of 0 2)))) ∷ marked 1 (Got 34) ∷
+    marked 2 (Sent 33 0 (messages.Request (tx_in 0 3 2) 1 0 (wants.Read (first_read 0 2)))) ∷
+    marked 2 (Sent 34 1 (messages.Request (tx_in 0 3 2) 1 0 (wants.Read (first_read 0 2)))) ∷ marked 1 (Got 34) ∷
     marked 1 (Sent 35 2 (messages.Answer 34 (answers.Closed 2))) ∷ marked 0 (Got 33) ∷ marked 4 (Got 32) ∷
     marked 4 (Told (replies.Moved 0 3)) ∷ marked 0 (Sent 36 2 (messages.Answer 33 (answers.Closed 2))) ∷
     marked 2 (Got 35) ∷ marked 2 (Got 36) ∷ marked 2 (Told (replies.Closed 2 0)) ∷ marked 2 (Called commands.Commit) ∷
@@ -118,20 +118,20 @@ history =
     marked 4 (Sent 40 1 (messages.Install (start_with 2 0 []))) ∷ marked 2 (Called (commands.Do 0 0))
     ∷ marked 0 (Got 39) ∷
     marked 0 (Sent 41 4 (messages.Answer 39 answers.Installed)) ∷ marked 4 (Got 41) ∷
-    marked 2 (Sent 42 0 (messages.Request (tx_in 0 3 3) 2 0 (wants.Read (read_of 0 0)))) ∷
-    marked 2 (Sent 43 1 (messages.Request (tx_in 0 3 3) 2 0 (wants.Read (read_of 0 0)))) ∷ marked 0 (Got 42)
+    marked 2 (Sent 42 0 (messages.Request (tx_in 0 3 3) 2 0 (wants.Read (first_read 0 0)))) ∷
+    marked 2 (Sent 43 1 (messages.Request (tx_in 0 3 3) 2 0 (wants.Read (first_read 0 0)))) ∷ marked 0 (Got 42)
     ∷ marked 1 (Got 40) ∷
-    marked 0 (Sent 44 2 (messages.Answer 42 (answers.Granted (grant_with 2 2 [])))) ∷ marked 2 (Got 44) ∷
+    marked 0 (Sent 44 2 (messages.Answer 42 (answers.Granted (whole_grant 2 2 [])))) ∷ marked 2 (Got 44) ∷
     marked 1 (Sent 45 4 (messages.Answer 40 answers.Installed)) ∷ marked 4 (Got 45) ∷ marked 1 (Got 43) ∷
     marked 4 (Told (replies.Moved 0 3)) ∷ marked 4 (Called (commands.Epoch 2)) ∷
-    marked 1 (Sent 46 2 (messages.Answer 43 (answers.Granted (grant_with 3 2 [])))) ∷
+    marked 1 (Sent 46 2 (messages.Answer 43 (answers.Granted (whole_grant 3 2 [])))) ∷
     marked 4 (Sent 47 0 (messages.Install (start_with 2 0 [])))
     ∷ marked 4 (Sent 48 1 (messages.Install (start_with 2 0 []))) ∷
     marked 2 (Got 46) ∷ marked 1 (Got 48) ∷ marked 0 (Got 47) ∷
     marked 2 (Sent 49 0 (messages.Request (tx_in 0 3 3) 2 2 (wants.Append 0 [] (own_line 1 0 0 ∷ [])))) ∷
     marked 0 (Sent 50 4 (messages.Answer 47 answers.Installed)) ∷ marked 0 (Got 49) ∷ marked 4 (Got 50) ∷
     marked 1 (Sent 51 4 (messages.Answer 48 answers.Installed)) ∷
-    marked 0 (Sent 52 2 (messages.Answer 49 (answers.Granted (grant_with 2 2 [])))) ∷ marked 4 (Got 51) ∷
+    marked 0 (Sent 52 2 (messages.Answer 49 (answers.Granted (whole_grant 2 2 [])))) ∷ marked 4 (Got 51) ∷
     marked 4 (Told (replies.Moved 0 3)) ∷ marked 2 (Got 52) ∷ marked 2 (Told (replies.Response 0)) ∷
     marked 2 (Called commands.Commit) ∷ marked 2 (Sent 53 0 (messages.Request (tx_in 0 3 3) 2 2 wants.Prepare)) ∷
     marked 2 (Sent 54 1 (messages.Request (tx_in 0 3 3) 2 3 wants.Prepare)) ∷ marked 1 (Got 54) ∷ marked 0 (Got 53) ∷
@@ -146,33 +146,33 @@ history =
     marked 1 (Wrote (records.Done (tx_in 0 3 3) 3)) ∷ marked 0 (Got 57) ∷ marked 2 (Called commands.Begin) ∷
     marked 0 (Fell falls.Stop (Some (records.Done (tx_in 0 3 3) 3))) ∷ marked 2 (Told (replies.Began (tx_in 0 3 4))) ∷
     marked 2 (Called (commands.Do 1 2))
-    ∷ marked 2 (Sent 59 0 (messages.Request (tx_in 0 3 4) 2 0 (wants.Read (read_of 1 2)))) ∷
-    marked 2 (Sent 60 1 (messages.Request (tx_in 0 3 4) 2 0 (wants.Read (read_of 1 2)))) ∷ marked 2 (Lost 59) ∷
-    marked 1 (Got 60) ∷ marked 1 (Sent 61 2 (messages.Answer 60 (answers.Granted (grant_with 3 3 []))))
+    ∷ marked 2 (Sent 59 0 (messages.Request (tx_in 0 3 4) 2 0 (wants.Read (first_read 1 2)))) ∷
+    marked 2 (Sent 60 1 (messages.Request (tx_in 0 3 4) 2 0 (wants.Read (first_read 1 2)))) ∷ marked 2 (Lost 59) ∷
+    marked 1 (Got 60) ∷ marked 1 (Sent 61 2 (messages.Answer 60 (answers.Granted (whole_grant 3 3 []))))
     ∷ marked 2 (Got 61) ∷
     marked 2 (Told (replies.Quorum halves.Read 1 2)) ∷ marked 2 (Called (commands.Do 0 0)) ∷
-    marked 2 (Sent 62 0 (messages.Request (tx_in 0 3 4) 2 0 (wants.Read (read_of 0 0)))) ∷
-    marked 2 (Sent 63 1 (messages.Request (tx_in 0 3 4) 2 3 (wants.Read (read_of 0 0)))) ∷ marked 1 (Got 63) ∷
-    marked 2 (Lost 62) ∷ marked 1 (Sent 64 2 (messages.Answer 63 (answers.Granted (grant_with 3 3 []))))
+    marked 2 (Sent 62 0 (messages.Request (tx_in 0 3 4) 2 0 (wants.Read (first_read 0 0)))) ∷
+    marked 2 (Sent 63 1 (messages.Request (tx_in 0 3 4) 2 3 (wants.Read (first_read 0 0)))) ∷ marked 1 (Got 63) ∷
+    marked 2 (Lost 62) ∷ marked 1 (Sent 64 2 (messages.Answer 63 (answers.Granted (whole_grant 3 3 []))))
     ∷ marked 2 (Got 64) ∷
     marked 2 (Told (replies.Quorum halves.Read 1 2)) ∷ marked 2 (Called (commands.Do 1 2)) ∷
-    marked 2 (Sent 65 0 (messages.Request (tx_in 0 3 4) 2 0 (wants.Read (read_of 1 2)))) ∷
-    marked 2 (Sent 66 1 (messages.Request (tx_in 0 3 4) 2 3 (wants.Read (read_of 1 2)))) ∷ marked 2 (Lost 65) ∷
-    marked 1 (Got 66) ∷ marked 1 (Sent 67 2 (messages.Answer 66 (answers.Granted (grant_with 3 3 []))))
+    marked 2 (Sent 65 0 (messages.Request (tx_in 0 3 4) 2 0 (wants.Read (first_read 1 2)))) ∷
+    marked 2 (Sent 66 1 (messages.Request (tx_in 0 3 4) 2 3 (wants.Read (first_read 1 2)))) ∷ marked 2 (Lost 65) ∷
+    marked 1 (Got 66) ∷ marked 1 (Sent 67 2 (messages.Answer 66 (answers.Granted (whole_grant 3 3 []))))
     ∷ marked 2 (Got 67) ∷
     marked 2 (Told (replies.Quorum halves.Read 1 2)) ∷ marked 5 (Phase 5) ∷ marked 5 (Heal 3 2) ∷ marked 5 (Cut 2 4) ∷
     marked 5 (Armed 2 arms.Fail 3) ∷ marked 3 (Called commands.Begin) ∷ marked 3 (Told (replies.Began (tx_in 1 4 1))) ∷
     marked 3 (Called (commands.Do 0 1))
-    ∷ marked 3 (Sent 68 1 (messages.Request (tx_in 1 4 1) 1 0 (wants.Read (read_of 0 1)))) ∷
-    marked 3 (Sent 69 0 (messages.Request (tx_in 1 4 1) 1 0 (wants.Read (read_of 0 1)))) ∷ marked 3 (Lost 69) ∷
+    ∷ marked 3 (Sent 68 1 (messages.Request (tx_in 1 4 1) 1 0 (wants.Read (first_read 0 1)))) ∷
+    marked 3 (Sent 69 0 (messages.Request (tx_in 1 4 1) 1 0 (wants.Read (first_read 0 1)))) ∷ marked 3 (Lost 69) ∷
     marked 1 (Got 68) ∷ marked 1 (Sent 70 3 (messages.Answer 68 (answers.Closed 2))) ∷ marked 3 (Got 70) ∷
     marked 3 (Told (replies.Closed 2 1)) ∷ marked 3 (Called (commands.Do 1 1)) ∷
-    marked 3 (Sent 71 1 (messages.Request (tx_in 1 4 1) 1 0 (wants.Read (read_of 1 1)))) ∷
-    marked 3 (Sent 72 0 (messages.Request (tx_in 1 4 1) 1 0 (wants.Read (read_of 1 1)))) ∷ marked 1 (Got 71) ∷
+    marked 3 (Sent 71 1 (messages.Request (tx_in 1 4 1) 1 0 (wants.Read (first_read 1 1)))) ∷
+    marked 3 (Sent 72 0 (messages.Request (tx_in 1 4 1) 1 0 (wants.Read (first_read 1 1)))) ∷ marked 1 (Got 71) ∷
     marked 1 (Sent 73 3 (messages.Answer 71 (answers.Closed 2))) ∷ marked 3 (Got 73) ∷ marked 3 (Lost 72) ∷
     marked 3 (Told (replies.Closed 2 1)) ∷ marked 3 (Called (commands.Do 0 2)) ∷
-    marked 3 (Sent 74 1 (messages.Request (tx_in 1 4 1) 1 0 (wants.Read (read_of 0 2)))) ∷
-    marked 3 (Sent 75 0 (messages.Request (tx_in 1 4 1) 1 0 (wants.Read (read_of 0 2)))) ∷ marked 3 (Lost 75) ∷
+    marked 3 (Sent 74 1 (messages.Request (tx_in 1 4 1) 1 0 (wants.Read (first_read 0 2)))) ∷
+    marked 3 (Sent 75 0 (messages.Request (tx_in 1 4 1) 1 0 (wants.Read (first_read 0 2)))) ∷ marked 3 (Lost 75) ∷
     marked 1 (Got 74) ∷ marked 1 (Sent 76 3 (messages.Answer 74 (answers.Closed 2))) ∷ marked 3 (Got 76) ∷
     marked 3 (Told (replies.Closed 2 1)) ∷ marked 5 (Phase 6) ∷ marked 4 (Called (commands.Epoch 2)) ∷
     marked 4 (Sent 77 0 (messages.Install (start_with 2 0 [])))

@@ -19,7 +19,7 @@ use Rattle.qc_msg.specs.declared.record.Record.TheVariants as records
 use Rattle.qc_msg.specs.declared.reply.Reply.TheVariants as replies
 use Rattle.qc_msg.specs.declared.message.Want.TheVariants as wants
 use Rattle.qc_msg.specs.declared.step.Fall.TheVariants as falls
-use Rattle.qc_msg.specs.Vocabulary.{grant_with, read_of, snapshot_with, start_with}
+use Rattle.qc_msg.specs.Vocabulary.{whole_grant, first_read, snapshot_with, start_with}
 use Rattle.qc_outside.specs.declared.disk.ArmKind.TheVariants as arms
 
 abbrev pub decl : Declaration
@@ -32,14 +32,15 @@ decl =
 abbrev pub history : List Entry
 history =
     marked 6 (Phase 1) ∷ marked 4 (Called commands.Begin) ∷ marked 4 (Told (replies.Began (tx 1 1))) ∷
-    marked 4 (Called (commands.Do 0 0)) ∷ marked 4 (Sent 0 2 (messages.Request (tx 1 1) 1 0 (wants.Read (read_of 0 0))))
+    marked 4 (Called (commands.Do 0 0)) ∷
+    marked 4 (Sent 0 2 (messages.Request (tx 1 1) 1 0 (wants.Read (first_read 0 0))))
     ∷
-    marked 4 (Sent 1 0 (messages.Request (tx 1 1) 1 0 (wants.Read (read_of 0 0)))) ∷ marked 0 (Got 1) ∷
-    marked 0 (Sent 2 4 (messages.Answer 1 (answers.Granted (grant_with 1 0 [])))) ∷ marked 4 (Got 2) ∷ marked 2 (Got 0)
+    marked 4 (Sent 1 0 (messages.Request (tx 1 1) 1 0 (wants.Read (first_read 0 0)))) ∷ marked 0 (Got 1) ∷
+    marked 0 (Sent 2 4 (messages.Answer 1 (answers.Granted (whole_grant 1 0 [])))) ∷ marked 4 (Got 2) ∷ marked 2 (Got 0)
     ∷
-    marked 2 (Sent 3 4 (messages.Answer 0 (answers.Granted (grant_with 1 0 [])))) ∷ marked 4 (Got 3) ∷
+    marked 2 (Sent 3 4 (messages.Answer 0 (answers.Granted (whole_grant 1 0 [])))) ∷ marked 4 (Got 3) ∷
     marked 4 (Sent 4 2 (messages.Request (tx 1 1) 1 1 (wants.Append 0 [] (own_line 1 0 0 ∷ [])))) ∷ marked 2 (Got 4) ∷
-    marked 2 (Sent 5 4 (messages.Answer 4 (answers.Granted (grant_with 1 0 [])))) ∷ marked 4 (Got 5) ∷
+    marked 2 (Sent 5 4 (messages.Answer 4 (answers.Granted (whole_grant 1 0 [])))) ∷ marked 4 (Got 5) ∷
     marked 4 (Told (replies.Response 0)) ∷ marked 4 (Called commands.Commit) ∷
     marked 4 (Sent 6 2 (messages.Request (tx 1 1) 1 1 wants.Prepare)) ∷
     marked 4 (Sent 7 0 (messages.Request (tx 1 1) 1 1 wants.Prepare)) ∷ marked 0 (Got 7) ∷
@@ -59,8 +60,8 @@ history =
     marked 0 (Wrote (records.Done (tx 1 1) 1)) ∷ marked 4 (Called commands.Begin) ∷
     marked 4 (Told (replies.Began (tx 1 2))) ∷ marked 2 (Got 13) ∷ marked 2 (Wrote (records.Done (tx 1 1) 1)) ∷
     marked 4 (Called (commands.Do 0 2))
-    ∷ marked 4 (Sent 16 2 (messages.Request (tx 1 2) 1 0 (wants.Read (read_of 0 2)))) ∷
-    marked 4 (Sent 17 0 (messages.Request (tx 1 2) 1 0 (wants.Read (read_of 0 2)))) ∷ marked 0 (Got 17) ∷
+    ∷ marked 4 (Sent 16 2 (messages.Request (tx 1 2) 1 0 (wants.Read (first_read 0 2)))) ∷
+    marked 4 (Sent 17 0 (messages.Request (tx 1 2) 1 0 (wants.Read (first_read 0 2)))) ∷ marked 0 (Got 17) ∷
     marked 0 (Sent 18 4 (messages.Answer 17 (answers.Closed 2))) ∷ marked 4 (Got 18) ∷ marked 2 (Got 16) ∷
     marked 2 (Sent 19 4 (messages.Answer 16 (answers.Closed 2))) ∷ marked 4 (Got 19) ∷
     marked 4 (Told (replies.Closed 2 2)) ∷ marked 4 (Called commands.Commit) ∷
@@ -93,20 +94,20 @@ history =
     marked 0 (Fell falls.Stop (Some records.Life)) ∷ marked 3 (Called commands.Begin) ∷
     marked 4 (Called commands.Begin) ∷ marked 2 (Got 13) ∷ marked 3 (Told (replies.Began (tx 0 1))) ∷
     marked 3 (Called (commands.Do 0 0))
-    ∷ marked 3 (Sent 34 0 (messages.Request (tx 0 1) 1 0 (wants.Read (read_of 0 0)))) ∷
-    marked 3 (Sent 35 2 (messages.Request (tx 0 1) 1 0 (wants.Read (read_of 0 0)))) ∷ marked 3 (Lost 34)
+    ∷ marked 3 (Sent 34 0 (messages.Request (tx 0 1) 1 0 (wants.Read (first_read 0 0)))) ∷
+    marked 3 (Sent 35 2 (messages.Request (tx 0 1) 1 0 (wants.Read (first_read 0 0)))) ∷ marked 3 (Lost 34)
     ∷ marked 2 (Got 35) ∷
     marked 2 (Sent 36 3 (messages.Answer 35 (answers.Closed 2))) ∷ marked 3 (Got 36) ∷
     marked 3 (Told (replies.Closed 2 2)) ∷ marked 3 (Called (commands.Do 0 2)) ∷
-    marked 3 (Sent 37 0 (messages.Request (tx 0 1) 1 0 (wants.Read (read_of 0 2)))) ∷
-    marked 3 (Sent 38 2 (messages.Request (tx 0 1) 1 0 (wants.Read (read_of 0 2)))) ∷ marked 2 (Got 38)
+    marked 3 (Sent 37 0 (messages.Request (tx 0 1) 1 0 (wants.Read (first_read 0 2)))) ∷
+    marked 3 (Sent 38 2 (messages.Request (tx 0 1) 1 0 (wants.Read (first_read 0 2)))) ∷ marked 2 (Got 38)
     ∷ marked 3 (Lost 37) ∷
     marked 2 (Sent 39 3 (messages.Answer 38 (answers.Closed 2))) ∷ marked 3 (Got 39) ∷
     marked 3 (Told (replies.Closed 2 2)) ∷ marked 4 (Told (replies.Began (tx 1 3))) ∷
     marked 4 (Called (commands.Do 0 2))
-    ∷ marked 4 (Sent 40 2 (messages.Request (tx 1 3) 2 0 (wants.Read (read_of 0 2)))) ∷
+    ∷ marked 4 (Sent 40 2 (messages.Request (tx 1 3) 2 0 (wants.Read (first_read 0 2)))) ∷
     marked 2 (Got 40)
-    ∷ marked 2 (Sent 41 4 (messages.Answer 40 (answers.Granted (grant_with 2 2 (line 1 1 1 1 0 0 ∷ []))))) ∷
+    ∷ marked 2 (Sent 41 4 (messages.Answer 40 (answers.Granted (whole_grant 2 2 (line 1 1 1 1 0 0 ∷ []))))) ∷
     marked 4 (Got 41) ∷ marked 5 (Called (commands.Epoch 2)) ∷
     marked 5 (Sent 42 0 (messages.Install (start_with 2 1 (line 1 1 1 1 0 0 ∷ [])))) ∷
     marked 5 (Sent 43 1 (messages.Install (start_with 2 1 (line 1 1 1 1 0 0 ∷ [])))) ∷
@@ -114,11 +115,11 @@ history =
     marked 1 (Sent 45 5 (messages.Answer 43 answers.Installed)) ∷ marked 5 (Got 45) ∷ marked 5 (Lost 42) ∷
     marked 4 (Sent 46 2 (messages.Request (tx 1 3) 2 2 (wants.Append 0 (line 1 1 1 1 0 0 ∷ []) (own_line 1 0 2 ∷ []))))
     ∷
-    marked 2 (Got 46) ∷ marked 2 (Sent 47 4 (messages.Answer 46 (answers.Granted (grant_with 2 2 []))))
+    marked 2 (Got 46) ∷ marked 2 (Sent 47 4 (messages.Answer 46 (answers.Granted (whole_grant 2 2 []))))
     ∷ marked 4 (Got 47) ∷
     marked 4 (Told (replies.Response 1)) ∷ marked 4 (Called (commands.Do 0 2)) ∷
-    marked 4 (Sent 48 2 (messages.Request (tx 1 3) 2 2 (wants.Read (read_of 0 2)))) ∷ marked 2 (Got 48) ∷
-    marked 2 (Sent 49 4 (messages.Answer 48 (answers.Granted (grant_with 2 2 (line 1 1 1 1 0 0 ∷ [])))))
+    marked 4 (Sent 48 2 (messages.Request (tx 1 3) 2 2 (wants.Read (first_read 0 2)))) ∷ marked 2 (Got 48) ∷
+    marked 2 (Sent 49 4 (messages.Answer 48 (answers.Granted (whole_grant 2 2 (line 1 1 1 1 0 0 ∷ [])))))
     ∷ marked 4 (Got 49) ∷
     marked 5 (Lost 44) ∷ marked 5 (Told (replies.Moved 0 2)) ∷ marked 4 (Told replies.Absent) ∷
     marked 4 (Called commands.Commit) ∷ marked 4 (Sent 50 2 (messages.Request (tx 1 3) 2 2 wants.Prepare)) ∷
@@ -130,8 +131,8 @@ history =
     marked 6 (Phase 3) ∷ marked 6 (Heal 5 2) ∷ marked 6 (Cut 5 2) ∷ marked 6 (Cut 5 3) ∷
     marked 6 (Armed 1 arms.Fail 3) ∷ marked 4 (Called commands.Begin) ∷ marked 4 (Told (replies.Began (tx 1 4))) ∷
     marked 5 (Called (commands.Epoch 2)) ∷ marked 3 (Called (commands.Do 0 0)) ∷
-    marked 3 (Sent 53 0 (messages.Request (tx 0 1) 1 0 (wants.Read (read_of 0 0)))) ∷
-    marked 3 (Sent 54 2 (messages.Request (tx 0 1) 1 0 (wants.Read (read_of 0 0)))) ∷
+    marked 3 (Sent 53 0 (messages.Request (tx 0 1) 1 0 (wants.Read (first_read 0 0)))) ∷
+    marked 3 (Sent 54 2 (messages.Request (tx 0 1) 1 0 (wants.Read (first_read 0 0)))) ∷
     marked 5 (Sent 55 0 (messages.Install (start_with 2 1 (line 1 1 1 1 0 0 ∷ [])))) ∷
     marked 5 (Sent 56 1 (messages.Install (start_with 2 1 (line 1 1 1 1 0 0 ∷ [])))) ∷
     marked 5 (Sent 57 2 (messages.Install (start_with 2 1 (line 1 1 1 1 0 0 ∷ [])))) ∷ marked 5 (Lost 55)
@@ -157,17 +158,18 @@ history =
     marked 0 (Wrote records.Life) ∷ marked 4 (Called commands.Abort) ∷ marked 3 (Called commands.Abort) ∷
     marked 3 (Told replies.NoTransaction) ∷ marked 4 (Told replies.NoTransaction) ∷ marked 4 (Called commands.Begin) ∷
     marked 4 (Told (replies.Began (tx 1 5))) ∷ marked 4 (Called (commands.Do 0 1)) ∷
-    marked 4 (Sent 66 2 (messages.Request (tx 1 5) 2 0 (wants.Read (read_of 0 1)))) ∷ marked 3 (Called commands.Begin) ∷
+    marked 4 (Sent 66 2 (messages.Request (tx 1 5) 2 0 (wants.Read (first_read 0 1)))) ∷
+    marked 3 (Called commands.Begin) ∷
     marked 3 (Told (replies.Began (tx 0 2))) ∷ marked 3 (Called (commands.Do 0 2)) ∷
-    marked 3 (Sent 67 2 (messages.Request (tx 0 2) 2 0 (wants.Read (read_of 0 2)))) ∷ marked 2 (Got 66) ∷
+    marked 3 (Sent 67 2 (messages.Request (tx 0 2) 2 0 (wants.Read (first_read 0 2)))) ∷ marked 2 (Got 66) ∷
     marked 2
-    (Sent 68 4 (messages.Answer 66 (answers.Granted (grant_with 2 3 (line 1 1 1 1 0 0 ∷ line 3 1 3 1 0 2 ∷ []))))) ∷
+    (Sent 68 4 (messages.Answer 66 (answers.Granted (whole_grant 2 3 (line 1 1 1 1 0 0 ∷ line 3 1 3 1 0 2 ∷ []))))) ∷
     marked 4 (Got 68) ∷
     marked 4 (Sent 69 2 (messages.Request (tx 1 5) 2 2 (wants.Append 0 (line 1 1 1 1 0 0 ∷ line 3 1 3 1 0 2 ∷ [])
     (own_line 1 0 1 ∷ [])))) ∷
     marked 2 (Got 67) ∷
     marked 2
-    (Sent 70 3 (messages.Answer 67 (answers.Granted (grant_with 2 3 (line 1 1 1 1 0 0 ∷ line 3 1 3 1 0 2 ∷ []))))) ∷
+    (Sent 70 3 (messages.Answer 67 (answers.Granted (whole_grant 2 3 (line 1 1 1 1 0 0 ∷ line 3 1 3 1 0 2 ∷ []))))) ∷
     marked 3 (Got 70) ∷ marked 3 (Told replies.Absent) ∷ marked 3 (Called commands.Commit) ∷
     marked 3 (Sent 71 2 (messages.Request (tx 0 2) 2 2 wants.Prepare)) ∷ marked 2 (Got 69) ∷
     marked 2 (Sent 72 4 (messages.Answer 69 (answers.Clash (tx 0 2) 2 1))) ∷
@@ -177,17 +179,17 @@ history =
     marked 4 (Told (replies.Aborted causes.Doomed)) ∷ marked 4 (Called commands.Begin) ∷
     marked 3 (Sent 75 2 (messages.Decision (tx 0 2) outcomes.Active)) ∷ marked 4 (Told (replies.Began (tx 1 6))) ∷
     marked 4 (Called (commands.Do 0 1))
-    ∷ marked 4 (Sent 76 2 (messages.Request (tx 1 6) 2 0 (wants.Read (read_of 0 1)))) ∷
+    ∷ marked 4 (Sent 76 2 (messages.Request (tx 1 6) 2 0 (wants.Read (first_read 0 1)))) ∷
     marked 2 (Got 71) ∷ marked 2 (Wrote (prepare (tx 0 2) 2 (read_lock 0 2 ∷ []) [] [])) ∷
     marked 2 (Sent 77 3 (messages.Answer 71 (answers.Yes 3))) ∷ marked 3 (Got 77) ∷
     marked 3 (Wrote (commit (stamp 4 0) (tx 0 2) (operation 0 2 None ∷ []))) ∷
     marked 3 (Sent 78 2 (messages.Decision (tx 0 2) (outcomes.Committed (stamp 4 0)))) ∷
     marked 3 (Told (replies.Committed (stamp 4 0))) ∷ marked 2 (Got 74) ∷ marked 3 (Called commands.Begin) ∷
     marked 3 (Told (replies.Began (tx 0 3))) ∷ marked 3 (Called (commands.Do 0 2)) ∷
-    marked 3 (Sent 79 2 (messages.Request (tx 0 3) 2 0 (wants.Read (read_of 0 2)))) ∷ marked 2 (Got 75)
+    marked 3 (Sent 79 2 (messages.Request (tx 0 3) 2 0 (wants.Read (first_read 0 2)))) ∷ marked 2 (Got 75)
     ∷ marked 2 (Got 76) ∷
     marked 2
-    (Sent 80 4 (messages.Answer 76 (answers.Granted (grant_with 2 3 (line 1 1 1 1 0 0 ∷ line 3 1 3 1 0 2 ∷ []))))) ∷
+    (Sent 80 4 (messages.Answer 76 (answers.Granted (whole_grant 2 3 (line 1 1 1 1 0 0 ∷ line 3 1 3 1 0 2 ∷ []))))) ∷
     marked 4 (Got 80) ∷
     marked 4 (Sent 81 2 (messages.Request (tx 1 6) 2 2 (wants.Append 0 (line 1 1 1 1 0 0 ∷ line 3 1 3 1 0 2 ∷ [])
     (own_line 1 0 1 ∷ [])))) ∷
@@ -200,13 +202,13 @@ history =
     marked 3 (Wrote (commit (stamp 5 0) (tx 0 3) [])) ∷
     marked 3 (Sent 83 2 (messages.Decision (tx 0 3) (outcomes.Committed (stamp 5 0)))) ∷
     marked 3 (Told (replies.Committed (stamp 5 0))) ∷
-    marked 4 (Sent 84 2 (messages.Request (tx 1 7) 2 0 (wants.Read (read_of 0 1)))) ∷ marked 4 (Lost 84) ∷
+    marked 4 (Sent 84 2 (messages.Request (tx 1 7) 2 0 (wants.Read (first_read 0 1)))) ∷ marked 4 (Lost 84) ∷
     marked 4 (Told (replies.Quorum halves.Read 0 2)) ∷ marked 4 (Called commands.Commit) ∷
     marked 4 (Wrote (commit (stamp 5 1) (tx 1 7) [])) ∷
     marked 4 (Sent 85 2 (messages.Decision (tx 1 7) (outcomes.Committed (stamp 5 1)))) ∷
     marked 4 (Told (replies.Committed (stamp 5 1))) ∷ marked 3 (Called commands.Begin) ∷
     marked 3 (Told (replies.Began (tx 0 4))) ∷ marked 3 (Called (commands.Do 0 2)) ∷
-    marked 3 (Sent 86 2 (messages.Request (tx 0 4) 2 0 (wants.Read (read_of 0 2)))) ∷ marked 3 (Lost 86) ∷
+    marked 3 (Sent 86 2 (messages.Request (tx 0 4) 2 0 (wants.Read (first_read 0 2)))) ∷ marked 3 (Lost 86) ∷
     marked 3 (Told (replies.Quorum halves.Read 0 2)) ∷ marked 3 (Called commands.Commit) ∷
     marked 3 (Wrote (commit (stamp 6 0) (tx 0 4) [])) ∷
     marked 3 (Sent 87 2 (messages.Decision (tx 0 4) (outcomes.Committed (stamp 6 0)))) ∷

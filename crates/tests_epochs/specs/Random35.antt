@@ -18,7 +18,7 @@ use Rattle.qc_msg.specs.declared.record.Record.TheVariants as records
 use Rattle.qc_msg.specs.declared.reply.Reply.TheVariants as replies
 use Rattle.qc_msg.specs.declared.message.Want.TheVariants as wants
 use Rattle.qc_msg.specs.declared.step.Fall.TheVariants as falls
-use Rattle.qc_msg.specs.Vocabulary.{grant_with, read_of, snapshot_with}
+use Rattle.qc_msg.specs.Vocabulary.{whole_grant, first_read, snapshot_with}
 use Rattle.qc_outside.specs.declared.disk.ArmKind.TheVariants as arms
 
 abbrev pub decl : Declaration
@@ -34,32 +34,33 @@ abbrev pub history : List Entry
 history =
     marked 7 (Phase 1) ∷ marked 7 (Armed 3 arms.Stop 1) ∷ marked 5 (Called commands.Begin) ∷
     marked 5 (Told (replies.Began (tx 2 1))) ∷ marked 5 (Called (commands.Do 0 0)) ∷
-    marked 5 (Sent 0 2 (messages.Request (tx 2 1) 1 0 (wants.Read (read_of 0 0)))) ∷
-    marked 5 (Sent 1 0 (messages.Request (tx 2 1) 1 0 (wants.Read (read_of 0 0)))) ∷ marked 0 (Got 1) ∷
-    marked 0 (Sent 2 5 (messages.Answer 1 (answers.Granted (grant_with 1 0 [])))) ∷ marked 5 (Got 2) ∷ marked 2 (Got 0)
+    marked 5 (Sent 0 2 (messages.Request (tx 2 1) 1 0 (wants.Read (first_read 0 0)))) ∷
+    marked 5 (Sent 1 0 (messages.Request (tx 2 1) 1 0 (wants.Read (first_read 0 0)))) ∷ marked 0 (Got 1) ∷
+    marked 0 (Sent 2 5 (messages.Answer 1 (answers.Granted (whole_grant 1 0 [])))) ∷ marked 5 (Got 2) ∷ marked 2 (Got 0)
     ∷
-    marked 2 (Sent 3 5 (messages.Answer 0 (answers.Granted (grant_with 1 0 [])))) ∷ marked 5 (Got 3) ∷
+    marked 2 (Sent 3 5 (messages.Answer 0 (answers.Granted (whole_grant 1 0 [])))) ∷ marked 5 (Got 3) ∷
     marked 5 (Sent 4 2 (messages.Request (tx 2 1) 1 1 (wants.Append 0 [] (own_line 1 0 0 ∷ [])))) ∷
     marked 5 (Sent 5 0 (messages.Request (tx 2 1) 1 1 (wants.Append 0 [] (own_line 1 0 0 ∷ [])))) ∷ marked 0 (Got 5) ∷
-    marked 0 (Sent 6 5 (messages.Answer 5 (answers.Granted (grant_with 1 0 [])))) ∷ marked 5 (Got 6) ∷ marked 2 (Got 4)
+    marked 0 (Sent 6 5 (messages.Answer 5 (answers.Granted (whole_grant 1 0 [])))) ∷ marked 5 (Got 6) ∷ marked 2 (Got 4)
     ∷
-    marked 2 (Sent 7 5 (messages.Answer 4 (answers.Granted (grant_with 1 0 [])))) ∷ marked 5 (Got 7) ∷
+    marked 2 (Sent 7 5 (messages.Answer 4 (answers.Granted (whole_grant 1 0 [])))) ∷ marked 5 (Got 7) ∷
     marked 5 (Told (replies.Response 0)) ∷ marked 4 (Called commands.Begin) ∷ marked 4 (Told (replies.Began (tx 1 1))) ∷
-    marked 4 (Called (commands.Do 0 1)) ∷ marked 4 (Sent 8 1 (messages.Request (tx 1 1) 1 0 (wants.Read (read_of 0 1))))
+    marked 4 (Called (commands.Do 0 1)) ∷
+    marked 4 (Sent 8 1 (messages.Request (tx 1 1) 1 0 (wants.Read (first_read 0 1))))
     ∷
-    marked 4 (Sent 9 2 (messages.Request (tx 1 1) 1 0 (wants.Read (read_of 0 1)))) ∷ marked 1 (Got 8) ∷
-    marked 1 (Sent 10 4 (messages.Answer 8 (answers.Granted (grant_with 1 0 [])))) ∷ marked 4 (Got 10)
+    marked 4 (Sent 9 2 (messages.Request (tx 1 1) 1 0 (wants.Read (first_read 0 1)))) ∷ marked 1 (Got 8) ∷
+    marked 1 (Sent 10 4 (messages.Answer 8 (answers.Granted (whole_grant 1 0 [])))) ∷ marked 4 (Got 10)
     ∷ marked 2 (Got 9) ∷
-    marked 2 (Sent 11 4 (messages.Answer 9 (answers.Granted (grant_with 1 0 [])))) ∷ marked 4 (Got 11) ∷
+    marked 2 (Sent 11 4 (messages.Answer 9 (answers.Granted (whole_grant 1 0 [])))) ∷ marked 4 (Got 11) ∷
     marked 4 (Sent 12 1 (messages.Request (tx 1 1) 1 1 (wants.Append 0 [] (own_line 1 0 1 ∷ [])))) ∷
     marked 4 (Sent 13 2 (messages.Request (tx 1 1) 1 1 (wants.Append 0 [] (own_line 1 0 1 ∷ [])))) ∷ marked 1 (Got 12) ∷
-    marked 1 (Sent 14 4 (messages.Answer 12 (answers.Granted (grant_with 1 0 [])))) ∷ marked 2 (Got 13) ∷
-    marked 2 (Sent 15 4 (messages.Answer 13 (answers.Granted (grant_with 1 0 [])))) ∷ marked 4 (Got 14)
+    marked 1 (Sent 14 4 (messages.Answer 12 (answers.Granted (whole_grant 1 0 [])))) ∷ marked 2 (Got 13) ∷
+    marked 2 (Sent 15 4 (messages.Answer 13 (answers.Granted (whole_grant 1 0 [])))) ∷ marked 4 (Got 14)
     ∷ marked 4 (Got 15) ∷
     marked 4 (Told (replies.Response 0)) ∷ marked 4 (Called (commands.Do 0 2)) ∷
-    marked 4 (Sent 16 1 (messages.Request (tx 1 1) 1 1 (wants.Read (read_of 0 2)))) ∷
-    marked 4 (Sent 17 2 (messages.Request (tx 1 1) 1 1 (wants.Read (read_of 0 2)))) ∷ marked 1 (Got 16) ∷
-    marked 1 (Sent 18 4 (messages.Answer 16 (answers.Granted (grant_with 1 0 [])))) ∷ marked 2 (Got 17) ∷
+    marked 4 (Sent 16 1 (messages.Request (tx 1 1) 1 1 (wants.Read (first_read 0 2)))) ∷
+    marked 4 (Sent 17 2 (messages.Request (tx 1 1) 1 1 (wants.Read (first_read 0 2)))) ∷ marked 1 (Got 16) ∷
+    marked 1 (Sent 18 4 (messages.Answer 16 (answers.Granted (whole_grant 1 0 [])))) ∷ marked 2 (Got 17) ∷
     marked 2 (Sent 19 4 (messages.Answer 17 (answers.Clash (tx 2 1) 2 0))) ∷
     marked 2 (Sent 20 5 (messages.Inquiry (tx 2 1))) ∷ marked 5 (Got 20) ∷
     marked 5 (Sent 21 2 (messages.Decision (tx 2 1) outcomes.Active)) ∷ marked 4 (Got 18) ∷ marked 2 (Got 21) ∷
@@ -76,27 +77,27 @@ history =
     marked 4 (Told (replies.Committed (stamp 1 1))) ∷ marked 1 (Got 26) ∷ marked 1 (Wrote (records.Done (tx 1 1) 1)) ∷
     marked 2 (Got 27) ∷ marked 2 (Wrote (records.Done (tx 1 1) 1)) ∷ marked 4 (Called commands.Begin) ∷
     marked 4 (Told (replies.Began (tx 1 2))) ∷ marked 4 (Called (commands.Do 0 1)) ∷
-    marked 4 (Sent 28 1 (messages.Request (tx 1 2) 1 0 (wants.Read (read_of 0 1)))) ∷
-    marked 4 (Sent 29 2 (messages.Request (tx 1 2) 1 0 (wants.Read (read_of 0 1)))) ∷ marked 1 (Got 28) ∷
-    marked 1 (Sent 30 4 (messages.Answer 28 (answers.Granted (grant_with 1 1 (line 1 1 1 1 0 1 ∷ [])))))
+    marked 4 (Sent 28 1 (messages.Request (tx 1 2) 1 0 (wants.Read (first_read 0 1)))) ∷
+    marked 4 (Sent 29 2 (messages.Request (tx 1 2) 1 0 (wants.Read (first_read 0 1)))) ∷ marked 1 (Got 28) ∷
+    marked 1 (Sent 30 4 (messages.Answer 28 (answers.Granted (whole_grant 1 1 (line 1 1 1 1 0 1 ∷ [])))))
     ∷ marked 2 (Got 29) ∷
-    marked 2 (Sent 31 4 (messages.Answer 29 (answers.Granted (grant_with 1 1 (line 1 1 1 1 0 1 ∷ [])))))
+    marked 2 (Sent 31 4 (messages.Answer 29 (answers.Granted (whole_grant 1 1 (line 1 1 1 1 0 1 ∷ [])))))
     ∷ marked 4 (Got 30) ∷
     marked 4 (Got 31) ∷ marked 4 (Told replies.Absent) ∷ marked 4 (Called (commands.Do 0 0)) ∷
-    marked 4 (Sent 32 1 (messages.Request (tx 1 2) 1 1 (wants.Read (read_of 0 0)))) ∷
-    marked 4 (Sent 33 2 (messages.Request (tx 1 2) 1 1 (wants.Read (read_of 0 0)))) ∷ marked 1 (Got 32) ∷
-    marked 1 (Sent 34 4 (messages.Answer 32 (answers.Granted (grant_with 1 1 (line 1 1 1 1 0 1 ∷ [])))))
+    marked 4 (Sent 32 1 (messages.Request (tx 1 2) 1 1 (wants.Read (first_read 0 0)))) ∷
+    marked 4 (Sent 33 2 (messages.Request (tx 1 2) 1 1 (wants.Read (first_read 0 0)))) ∷ marked 1 (Got 32) ∷
+    marked 1 (Sent 34 4 (messages.Answer 32 (answers.Granted (whole_grant 1 1 (line 1 1 1 1 0 1 ∷ [])))))
     ∷ marked 4 (Got 34) ∷
     marked 2 (Got 33) ∷ marked 2 (Sent 35 4 (messages.Answer 33 (answers.Clash (tx 2 1) 0 0))) ∷
     marked 2 (Sent 36 5 (messages.Inquiry (tx 2 1))) ∷ marked 5 (Got 36) ∷
     marked 5 (Sent 37 2 (messages.Decision (tx 2 1) outcomes.Active)) ∷ marked 4 (Got 35) ∷ marked 2 (Got 37) ∷
     marked 4 (Told (replies.Conflict (tx 2 1) 2)) ∷ marked 4 (Called (commands.Do 0 1)) ∷
-    marked 4 (Sent 38 1 (messages.Request (tx 1 2) 1 1 (wants.Read (read_of 0 1)))) ∷
-    marked 4 (Sent 39 2 (messages.Request (tx 1 2) 1 1 (wants.Read (read_of 0 1)))) ∷ marked 1 (Got 38) ∷
-    marked 1 (Sent 40 4 (messages.Answer 38 (answers.Granted (grant_with 1 1 (line 1 1 1 1 0 1 ∷ [])))))
+    marked 4 (Sent 38 1 (messages.Request (tx 1 2) 1 1 (wants.Read (first_read 0 1)))) ∷
+    marked 4 (Sent 39 2 (messages.Request (tx 1 2) 1 1 (wants.Read (first_read 0 1)))) ∷ marked 1 (Got 38) ∷
+    marked 1 (Sent 40 4 (messages.Answer 38 (answers.Granted (whole_grant 1 1 (line 1 1 1 1 0 1 ∷ [])))))
     ∷ marked 4 (Got 40) ∷
     marked 2 (Got 39)
-    ∷ marked 2 (Sent 41 4 (messages.Answer 39 (answers.Granted (grant_with 1 1 (line 1 1 1 1 0 1 ∷ []))))) ∷
+    ∷ marked 2 (Sent 41 4 (messages.Answer 39 (answers.Granted (whole_grant 1 1 (line 1 1 1 1 0 1 ∷ []))))) ∷
     marked 4 (Got 41) ∷ marked 4 (Told replies.Absent) ∷ marked 4 (Called commands.Commit) ∷
     marked 4 (Sent 42 1 (messages.Request (tx 1 2) 1 1 wants.Prepare)) ∷
     marked 4 (Sent 43 2 (messages.Request (tx 1 2) 1 1 wants.Prepare)) ∷ marked 2 (Got 43) ∷
@@ -110,11 +111,11 @@ history =
     marked 4 (Rose ((commit (stamp 1 1) (tx 1 1) (operation 0 1 (Some 0) ∷ [])) ∷ [])) ∷ marked 4 (Wrote records.Life) ∷
     marked 5 (Called commands.Commit) ∷ marked 4 (Called commands.Begin) ∷
     marked 4 (Told (replies.Began (tx_in 1 2 1))) ∷ marked 4 (Called (commands.Do 0 0)) ∷
-    marked 4 (Sent 46 1 (messages.Request (tx_in 1 2 1) 1 0 (wants.Read (read_of 0 0)))) ∷
-    marked 4 (Sent 47 2 (messages.Request (tx_in 1 2 1) 1 0 (wants.Read (read_of 0 0)))) ∷ marked 1 (Got 46) ∷
-    marked 1 (Sent 48 4 (messages.Answer 46 (answers.Granted (grant_with 1 1 (line 1 1 1 1 0 1 ∷ [])))))
+    marked 4 (Sent 46 1 (messages.Request (tx_in 1 2 1) 1 0 (wants.Read (first_read 0 0)))) ∷
+    marked 4 (Sent 47 2 (messages.Request (tx_in 1 2 1) 1 0 (wants.Read (first_read 0 0)))) ∷ marked 1 (Got 46) ∷
+    marked 1 (Sent 48 4 (messages.Answer 46 (answers.Granted (whole_grant 1 1 (line 1 1 1 1 0 1 ∷ [])))))
     ∷ marked 4 (Got 48) ∷
-    marked 4 (Lost 47) ∷ marked 4 (Sent 49 0 (messages.Request (tx_in 1 2 1) 1 0 (wants.Read (read_of 0 0)))) ∷
+    marked 4 (Lost 47) ∷ marked 4 (Sent 49 0 (messages.Request (tx_in 1 2 1) 1 0 (wants.Read (first_read 0 0)))) ∷
     marked 0 (Got 49) ∷ marked 5 (Sent 50 2 (messages.Request (tx 2 1) 1 1 wants.Prepare)) ∷
     marked 5 (Sent 51 0 (messages.Request (tx 2 1) 1 1 wants.Prepare)) ∷ marked 2 (Got 50) ∷
     marked 2 (Wrote (prepare (tx 2 1) 1 (read_lock 0 0 ∷ []) (own_line 1 0 0 ∷ []) [])) ∷
@@ -122,11 +123,11 @@ history =
     marked 0 (Sent 53 4 (messages.Answer 49 (answers.Clash (tx 2 1) 0 0))) ∷
     marked 0 (Sent 54 5 (messages.Inquiry (tx 2 1))) ∷ marked 4 (Got 53) ∷
     marked 4 (Told (replies.Conflict (tx 2 1) 0)) ∷ marked 0 (Got 51) ∷ marked 4 (Called (commands.Do 0 2)) ∷
-    marked 4 (Sent 55 1 (messages.Request (tx_in 1 2 1) 1 1 (wants.Read (read_of 0 2)))) ∷
-    marked 4 (Sent 56 2 (messages.Request (tx_in 1 2 1) 1 0 (wants.Read (read_of 0 2)))) ∷ marked 1 (Got 55) ∷
-    marked 1 (Sent 57 4 (messages.Answer 55 (answers.Granted (grant_with 1 1 (line 1 1 1 1 0 1 ∷ [])))))
+    marked 4 (Sent 55 1 (messages.Request (tx_in 1 2 1) 1 1 (wants.Read (first_read 0 2)))) ∷
+    marked 4 (Sent 56 2 (messages.Request (tx_in 1 2 1) 1 0 (wants.Read (first_read 0 2)))) ∷ marked 1 (Got 55) ∷
+    marked 1 (Sent 57 4 (messages.Answer 55 (answers.Granted (whole_grant 1 1 (line 1 1 1 1 0 1 ∷ [])))))
     ∷ marked 4 (Got 57) ∷
-    marked 4 (Lost 56) ∷ marked 4 (Sent 58 0 (messages.Request (tx_in 1 2 1) 1 0 (wants.Read (read_of 0 2)))) ∷
+    marked 4 (Lost 56) ∷ marked 4 (Sent 58 0 (messages.Request (tx_in 1 2 1) 1 0 (wants.Read (first_read 0 2)))) ∷
     marked 0 (Wrote (prepare (tx 2 1) 1 (read_lock 0 0 ∷ []) (own_line 1 0 0 ∷ []) [])) ∷
     marked 0 (Sent 59 5 (messages.Answer 51 (answers.Yes 0))) ∷ marked 0 (Got 58) ∷ marked 5 (Got 54) ∷
     marked 5 (Sent 60 0 (messages.Decision (tx 2 1) outcomes.Active)) ∷ marked 5 (Got 59) ∷
@@ -163,25 +164,25 @@ history =
     ∷ prepared (tx 2 1) 1 (read_lock 0 0 ∷ []) (own_line 1 0 0 ∷ []) [] ∷ []))))) ∷
     marked 6 (Got 72) ∷ marked 6 (Sent 73 4 (messages.Ask (tx 1 2))) ∷ marked 6 (Sent 74 5 (messages.Ask (tx 2 1))) ∷
     marked 6 (Lost 74) ∷ marked 3 (Called commands.Begin) ∷ marked 3 (Told (replies.Began (tx 0 1))) ∷
-    marked 4 (Sent 75 1 (messages.Request (tx_in 1 2 2) 1 0 (wants.Read (read_of 0 2)))) ∷
-    marked 4 (Sent 76 2 (messages.Request (tx_in 1 2 2) 1 0 (wants.Read (read_of 0 2)))) ∷ marked 1 (Got 75) ∷
+    marked 4 (Sent 75 1 (messages.Request (tx_in 1 2 2) 1 0 (wants.Read (first_read 0 2)))) ∷
+    marked 4 (Sent 76 2 (messages.Request (tx_in 1 2 2) 1 0 (wants.Read (first_read 0 2)))) ∷ marked 1 (Got 75) ∷
     marked 1 (Sent 77 4 (messages.Answer 75 (answers.Closed 2))) ∷ marked 4 (Got 73) ∷
     marked 4 (Sent 78 6 (messages.Answer 73 (answers.Answered outcomes.Aborted))) ∷ marked 4 (Got 77) ∷
     marked 6 (Got 78) ∷ marked 6 (Told (replies.InDoubt (tx 2 1) 2)) ∷ marked 4 (Lost 76) ∷
     marked 3 (Called (commands.Do 0 1))
-    ∷ marked 3 (Sent 79 0 (messages.Request (tx 0 1) 1 0 (wants.Read (read_of 0 1)))) ∷
-    marked 3 (Sent 80 1 (messages.Request (tx 0 1) 1 0 (wants.Read (read_of 0 1)))) ∷ marked 3 (Lost 79)
+    ∷ marked 3 (Sent 79 0 (messages.Request (tx 0 1) 1 0 (wants.Read (first_read 0 1)))) ∷
+    marked 3 (Sent 80 1 (messages.Request (tx 0 1) 1 0 (wants.Read (first_read 0 1)))) ∷ marked 3 (Lost 79)
     ∷ marked 1 (Got 80) ∷
     marked 1 (Sent 81 3 (messages.Answer 80 (answers.Closed 2))) ∷ marked 4 (Told (replies.Closed 2 1)) ∷
     marked 4 (Called commands.Abort) ∷ marked 4 (Sent 82 1 (messages.Decision (tx_in 1 2 2) outcomes.Aborted)) ∷
     marked 4 (Sent 83 2 (messages.Decision (tx_in 1 2 2) outcomes.Aborted)) ∷ marked 4 (Told replies.Dropped) ∷
     marked 1 (Got 82) ∷ marked 3 (Got 81) ∷ marked 3 (Told (replies.Closed 2 1)) ∷ marked 3 (Called (commands.Do 0 0)) ∷
-    marked 3 (Sent 84 0 (messages.Request (tx 0 1) 1 0 (wants.Read (read_of 0 0)))) ∷
-    marked 3 (Sent 85 1 (messages.Request (tx 0 1) 1 0 (wants.Read (read_of 0 0)))) ∷ marked 1 (Got 85) ∷
+    marked 3 (Sent 84 0 (messages.Request (tx 0 1) 1 0 (wants.Read (first_read 0 0)))) ∷
+    marked 3 (Sent 85 1 (messages.Request (tx 0 1) 1 0 (wants.Read (first_read 0 0)))) ∷ marked 1 (Got 85) ∷
     marked 1 (Sent 86 3 (messages.Answer 85 (answers.Closed 2))) ∷ marked 3 (Got 86) ∷ marked 3 (Lost 84) ∷
     marked 3 (Told (replies.Closed 2 1)) ∷ marked 3 (Called (commands.Do 0 2)) ∷
-    marked 3 (Sent 87 0 (messages.Request (tx 0 1) 1 0 (wants.Read (read_of 0 2)))) ∷
-    marked 3 (Sent 88 1 (messages.Request (tx 0 1) 1 0 (wants.Read (read_of 0 2)))) ∷ marked 1 (Got 88) ∷
+    marked 3 (Sent 87 0 (messages.Request (tx 0 1) 1 0 (wants.Read (first_read 0 2)))) ∷
+    marked 3 (Sent 88 1 (messages.Request (tx 0 1) 1 0 (wants.Read (first_read 0 2)))) ∷ marked 1 (Got 88) ∷
     marked 1 (Sent 89 3 (messages.Answer 88 (answers.Closed 2))) ∷ marked 3 (Got 89) ∷ marked 3 (Lost 87) ∷
     marked 3 (Told (replies.Closed 2 1)) ∷ marked 3 (Called commands.Commit) ∷
     marked 3 (Wrote (commit (stamp 1 0) (tx 0 1) [])) ∷
@@ -193,18 +194,18 @@ history =
     marked 2 (Fell falls.Script None) ∷
     marked 5 (Rose ((commit (stamp 2 2) (tx 2 1) (operation 0 0 (Some 0) ∷ [])) ∷ [])) ∷ marked 5 (Wrote records.Life) ∷
     marked 3 (Called commands.Begin) ∷ marked 3 (Told (replies.Began (tx 0 2))) ∷ marked 3 (Called (commands.Do 0 1)) ∷
-    marked 3 (Sent 93 0 (messages.Request (tx 0 2) 2 0 (wants.Read (read_of 0 1)))) ∷
-    marked 3 (Sent 94 1 (messages.Request (tx 0 2) 2 0 (wants.Read (read_of 0 1)))) ∷ marked 0 (Got 93) ∷
+    marked 3 (Sent 93 0 (messages.Request (tx 0 2) 2 0 (wants.Read (first_read 0 1)))) ∷
+    marked 3 (Sent 94 1 (messages.Request (tx 0 2) 2 0 (wants.Read (first_read 0 1)))) ∷ marked 0 (Got 93) ∷
     marked 0 (Sent 95 3 (messages.Answer 93 (answers.Behind 1))) ∷ marked 3 (Got 95) ∷ marked 1 (Got 94) ∷
     marked 1 (Sent 96 3 (messages.Answer 94 (answers.Behind 1))) ∷ marked 3 (Got 96) ∷
-    marked 3 (Sent 97 2 (messages.Request (tx 0 2) 2 0 (wants.Read (read_of 0 1)))) ∷ marked 3 (Got 96)
+    marked 3 (Sent 97 2 (messages.Request (tx 0 2) 2 0 (wants.Read (first_read 0 1)))) ∷ marked 3 (Got 96)
     ∷ marked 3 (Lost 97) ∷
     marked 3 (Told (replies.Quorum halves.Read 0 3)) ∷ marked 3 (Called (commands.Do 0 1)) ∷
-    marked 3 (Sent 98 0 (messages.Request (tx 0 2) 2 0 (wants.Read (read_of 0 1)))) ∷
-    marked 3 (Sent 99 1 (messages.Request (tx 0 2) 2 0 (wants.Read (read_of 0 1)))) ∷ marked 0 (Got 98) ∷
+    marked 3 (Sent 98 0 (messages.Request (tx 0 2) 2 0 (wants.Read (first_read 0 1)))) ∷
+    marked 3 (Sent 99 1 (messages.Request (tx 0 2) 2 0 (wants.Read (first_read 0 1)))) ∷ marked 0 (Got 98) ∷
     marked 0 (Sent 100 3 (messages.Answer 98 (answers.Behind 1))) ∷ marked 3 (Got 100) ∷ marked 1 (Got 99) ∷
     marked 1 (Sent 101 3 (messages.Answer 99 (answers.Behind 1))) ∷ marked 3 (Got 101) ∷
-    marked 3 (Sent 102 2 (messages.Request (tx 0 2) 2 0 (wants.Read (read_of 0 1)))) ∷ marked 3 (Lost 102) ∷
+    marked 3 (Sent 102 2 (messages.Request (tx 0 2) 2 0 (wants.Read (first_read 0 1)))) ∷ marked 3 (Lost 102) ∷
     marked 3 (Told (replies.Quorum halves.Read 0 3)) ∷ marked 3 (Called commands.Commit) ∷
     marked 3 (Wrote (commit (stamp 2 0) (tx 0 2) [])) ∷
     marked 3 (Sent 103 0 (messages.Decision (tx 0 2) (outcomes.Committed (stamp 2 0)))) ∷

@@ -17,7 +17,7 @@ use Rattle.qc_msg.specs.declared.record.Record.TheVariants as records
 use Rattle.qc_msg.specs.declared.reply.Reply.TheVariants as replies
 use Rattle.qc_msg.specs.declared.message.Want.TheVariants as wants
 use Rattle.qc_msg.specs.declared.step.Fall.TheVariants as falls
-use Rattle.qc_msg.specs.Vocabulary.{grant_with, read_of, snapshot_with, start_with}
+use Rattle.qc_msg.specs.Vocabulary.{whole_grant, first_read, snapshot_with, start_with}
 use Rattle.qc_outside.specs.declared.disk.ArmKind.TheVariants as arms
 
 abbrev pub decl : Declaration
@@ -51,13 +51,13 @@ history =
     marked 1 (Sent 9 6 (messages.Answer 7 answers.Installed)) ∷ marked 6 (Got 9) ∷
     marked 0 (Wrote (records.Install (start_with 2 0 []))) ∷ marked 0 (Sent 10 6 (messages.Answer 6 answers.Installed))
     ∷
-    marked 6 (Got 10) ∷ marked 5 (Sent 11 2 (messages.Request (tx 2 1) 1 0 (wants.Read (read_of 0 0)))) ∷
-    marked 5 (Sent 12 0 (messages.Request (tx 2 1) 1 0 (wants.Read (read_of 0 0)))) ∷ marked 6 (Lost 8) ∷
+    marked 6 (Got 10) ∷ marked 5 (Sent 11 2 (messages.Request (tx 2 1) 1 0 (wants.Read (first_read 0 0)))) ∷
+    marked 5 (Sent 12 0 (messages.Request (tx 2 1) 1 0 (wants.Read (first_read 0 0)))) ∷ marked 6 (Lost 8) ∷
     marked 6 (Told (replies.Moved 7 3)) ∷ marked 0 (Got 12) ∷ marked 5 (Lost 11) ∷
     marked 0 (Sent 13 5 (messages.Answer 12 (answers.Closed 2))) ∷ marked 5 (Got 13) ∷
     marked 5 (Told (replies.Closed 2 0)) ∷ marked 5 (Called (commands.Do 0 0)) ∷
-    marked 5 (Sent 14 2 (messages.Request (tx 2 1) 1 0 (wants.Read (read_of 0 0)))) ∷
-    marked 5 (Sent 15 0 (messages.Request (tx 2 1) 1 0 (wants.Read (read_of 0 0)))) ∷ marked 5 (Lost 14)
+    marked 5 (Sent 14 2 (messages.Request (tx 2 1) 1 0 (wants.Read (first_read 0 0)))) ∷
+    marked 5 (Sent 15 0 (messages.Request (tx 2 1) 1 0 (wants.Read (first_read 0 0)))) ∷ marked 5 (Lost 14)
     ∷ marked 0 (Got 15) ∷
     marked 0 (Sent 16 5 (messages.Answer 15 (answers.Closed 2))) ∷ marked 5 (Got 16) ∷
     marked 5 (Told (replies.Closed 2 0)) ∷ marked 5 (Called commands.Commit) ∷
@@ -69,21 +69,21 @@ history =
     marked 1 (Sent 19 6 (messages.Answer 1 (answers.Closed 2))) ∷ marked 5 (Called commands.Begin) ∷
     marked 0 (Sent 20 6 (messages.Answer 0 (answers.Closed 2))) ∷ marked 5 (Told (replies.Began (tx 2 2))) ∷
     marked 0 (Got 12) ∷ marked 6 (Got 4) ∷ marked 5 (Called (commands.Do 0 0)) ∷
-    marked 5 (Sent 21 2 (messages.Request (tx 2 2) 2 0 (wants.Read (read_of 0 0)))) ∷ marked 6 (Got 5)
+    marked 5 (Sent 21 2 (messages.Request (tx 2 2) 2 0 (wants.Read (first_read 0 0)))) ∷ marked 6 (Got 5)
     ∷ marked 5 (Lost 21) ∷
     marked 0 (Sent 22 5 (messages.Answer 12 (answers.Closed 2))) ∷
-    marked 5 (Sent 23 0 (messages.Request (tx 2 2) 2 0 (wants.Read (read_of 0 0)))) ∷ marked 0 (Got 23)
+    marked 5 (Sent 23 0 (messages.Request (tx 2 2) 2 0 (wants.Read (first_read 0 0)))) ∷ marked 0 (Got 23)
     ∷ marked 5 (Got 22) ∷
-    marked 0 (Sent 24 5 (messages.Answer 23 (answers.Granted (grant_with 2 1 [])))) ∷ marked 6 (Got 19)
+    marked 0 (Sent 24 5 (messages.Answer 23 (answers.Granted (whole_grant 2 1 [])))) ∷ marked 6 (Got 19)
     ∷ marked 6 (Got 20) ∷
     marked 5 (Got 24) ∷ marked 5 (Told (replies.Quorum halves.Read 1 3)) ∷ marked 5 (Called (commands.Do 0 0)) ∷
-    marked 5 (Sent 25 2 (messages.Request (tx 2 2) 2 0 (wants.Read (read_of 0 0)))) ∷ marked 5 (Lost 25) ∷
-    marked 5 (Sent 26 0 (messages.Request (tx 2 2) 2 2 (wants.Read (read_of 0 0)))) ∷ marked 0 (Got 26) ∷
-    marked 0 (Sent 27 5 (messages.Answer 26 (answers.Granted (grant_with 2 1 [])))) ∷ marked 5 (Got 27) ∷
+    marked 5 (Sent 25 2 (messages.Request (tx 2 2) 2 0 (wants.Read (first_read 0 0)))) ∷ marked 5 (Lost 25) ∷
+    marked 5 (Sent 26 0 (messages.Request (tx 2 2) 2 2 (wants.Read (first_read 0 0)))) ∷ marked 0 (Got 26) ∷
+    marked 0 (Sent 27 5 (messages.Answer 26 (answers.Granted (whole_grant 2 1 [])))) ∷ marked 5 (Got 27) ∷
     marked 5 (Told (replies.Quorum halves.Read 1 3)) ∷ marked 5 (Called (commands.Do 0 0)) ∷
-    marked 5 (Sent 28 2 (messages.Request (tx 2 2) 2 0 (wants.Read (read_of 0 0)))) ∷ marked 5 (Lost 28) ∷
-    marked 5 (Sent 29 0 (messages.Request (tx 2 2) 2 2 (wants.Read (read_of 0 0)))) ∷ marked 0 (Got 29) ∷
-    marked 0 (Sent 30 5 (messages.Answer 29 (answers.Granted (grant_with 2 1 [])))) ∷ marked 5 (Got 30) ∷
+    marked 5 (Sent 28 2 (messages.Request (tx 2 2) 2 0 (wants.Read (first_read 0 0)))) ∷ marked 5 (Lost 28) ∷
+    marked 5 (Sent 29 0 (messages.Request (tx 2 2) 2 2 (wants.Read (first_read 0 0)))) ∷ marked 0 (Got 29) ∷
+    marked 0 (Sent 30 5 (messages.Answer 29 (answers.Granted (whole_grant 2 1 [])))) ∷ marked 5 (Got 30) ∷
     marked 5 (Told (replies.Quorum halves.Read 1 3)) ∷ marked 5 (Called commands.Commit) ∷
     marked 5 (Sent 31 0 (messages.Request (tx 2 2) 2 2 wants.Prepare)) ∷ marked 0 (Got 31) ∷
     marked 0 (Wrote (prepare (tx 2 2) 2 (read_lock 0 0 ∷ []) [] [])) ∷
@@ -94,11 +94,11 @@ history =
     marked 4 (Called commands.Begin) ∷ marked 4 (Told (replies.Began (tx_in 1 2 1))) ∷
     marked 3 (Called commands.Begin) ∷ marked 3 (Told (replies.Began (tx 0 1))) ∷ marked 4 (Called (commands.Do 0 0)) ∷
     marked 3 (Called (commands.Do 0 0))
-    ∷ marked 4 (Sent 33 1 (messages.Request (tx_in 1 2 1) 1 0 (wants.Read (read_of 0 0)))) ∷
-    marked 4 (Sent 34 2 (messages.Request (tx_in 1 2 1) 1 0 (wants.Read (read_of 0 0)))) ∷ marked 4 (Lost 34) ∷
-    marked 3 (Sent 35 0 (messages.Request (tx 0 1) 1 0 (wants.Read (read_of 0 0)))) ∷
-    marked 3 (Sent 36 1 (messages.Request (tx 0 1) 1 0 (wants.Read (read_of 0 0)))) ∷
-    marked 3 (Sent 37 2 (messages.Request (tx 0 1) 1 0 (wants.Read (read_of 0 0)))) ∷ marked 3 (Lost 37)
+    ∷ marked 4 (Sent 33 1 (messages.Request (tx_in 1 2 1) 1 0 (wants.Read (first_read 0 0)))) ∷
+    marked 4 (Sent 34 2 (messages.Request (tx_in 1 2 1) 1 0 (wants.Read (first_read 0 0)))) ∷ marked 4 (Lost 34) ∷
+    marked 3 (Sent 35 0 (messages.Request (tx 0 1) 1 0 (wants.Read (first_read 0 0)))) ∷
+    marked 3 (Sent 36 1 (messages.Request (tx 0 1) 1 0 (wants.Read (first_read 0 0)))) ∷
+    marked 3 (Sent 37 2 (messages.Request (tx 0 1) 1 0 (wants.Read (first_read 0 0)))) ∷ marked 3 (Lost 37)
     ∷ marked 1 (Got 33) ∷
     marked 0 (Got 35) ∷ marked 1 (Sent 38 4 (messages.Answer 33 (answers.Closed 2))) ∷ marked 1 (Got 36) ∷
     marked 1 (Sent 39 3 (messages.Answer 36 (answers.Closed 2))) ∷ marked 3 (Got 39) ∷ marked 4 (Got 38) ∷
@@ -108,12 +108,12 @@ history =
     marked 4 (Sent 41 2 (messages.Decision (tx_in 1 2 1) (outcomes.Committed (stamp 1 1)))) ∷
     marked 4 (Told (replies.Committed (stamp 1 1))) ∷ marked 0 (Sent 42 3 (messages.Answer 35 (answers.Closed 2))) ∷
     marked 1 (Got 40) ∷ marked 3 (Got 42) ∷ marked 3 (Told (replies.Closed 2 0)) ∷ marked 3 (Called (commands.Do 0 1)) ∷
-    marked 3 (Sent 43 0 (messages.Request (tx 0 1) 1 0 (wants.Read (read_of 0 1)))) ∷ marked 0 (Got 43) ∷
+    marked 3 (Sent 43 0 (messages.Request (tx 0 1) 1 0 (wants.Read (first_read 0 1)))) ∷ marked 0 (Got 43) ∷
     marked 0 (Sent 44 3 (messages.Answer 43 (answers.Closed 2))) ∷ marked 3 (Got 44) ∷
     marked 3 (Told (replies.Closed 2 0)) ∷ marked 3 (Called (commands.Do 0 0)) ∷
-    marked 3 (Sent 45 0 (messages.Request (tx 0 1) 1 0 (wants.Read (read_of 0 0)))) ∷
-    marked 3 (Sent 46 1 (messages.Request (tx 0 1) 1 0 (wants.Read (read_of 0 0)))) ∷
-    marked 3 (Sent 47 2 (messages.Request (tx 0 1) 1 0 (wants.Read (read_of 0 0)))) ∷ marked 3 (Lost 47)
+    marked 3 (Sent 45 0 (messages.Request (tx 0 1) 1 0 (wants.Read (first_read 0 0)))) ∷
+    marked 3 (Sent 46 1 (messages.Request (tx 0 1) 1 0 (wants.Read (first_read 0 0)))) ∷
+    marked 3 (Sent 47 2 (messages.Request (tx 0 1) 1 0 (wants.Read (first_read 0 0)))) ∷ marked 3 (Lost 47)
     ∷ marked 1 (Got 46) ∷
     marked 1 (Sent 48 3 (messages.Answer 46 (answers.Closed 2))) ∷ marked 3 (Got 48) ∷ marked 0 (Got 45) ∷
     marked 0 (Sent 49 3 (messages.Answer 45 (answers.Closed 2))) ∷ marked 3 (Got 49) ∷
@@ -134,8 +134,8 @@ history =
     marked 5 (Called commands.Begin) ∷ marked 4 (Got 54) ∷
     marked 2 (Sent 56 3 (messages.Answer 37 (answers.Closed 2))) ∷ marked 5 (Told (replies.Began (tx_in 2 2 1))) ∷
     marked 5 (Called (commands.Do 0 0))
-    ∷ marked 5 (Sent 57 2 (messages.Request (tx_in 2 2 1) 1 0 (wants.Read (read_of 0 0)))) ∷
-    marked 5 (Sent 58 0 (messages.Request (tx_in 2 2 1) 1 0 (wants.Read (read_of 0 0)))) ∷ marked 4 (Got 55)
+    ∷ marked 5 (Sent 57 2 (messages.Request (tx_in 2 2 1) 1 0 (wants.Read (first_read 0 0)))) ∷
+    marked 5 (Sent 58 0 (messages.Request (tx_in 2 2 1) 1 0 (wants.Read (first_read 0 0)))) ∷ marked 4 (Got 55)
     ∷ marked 2 (Got 57) ∷
     marked 0 (Got 58) ∷ marked 2 (Sent 59 5 (messages.Answer 57 (answers.Closed 2))) ∷ marked 5 (Got 59) ∷
     marked 0 (Sent 60 5 (messages.Answer 58 (answers.Closed 2))) ∷
@@ -147,9 +147,9 @@ history =
     marked 5 (Told (replies.Committed (stamp 2 2))) ∷ marked 2 (Got 63) ∷ marked 0 (Got 62) ∷ marked 3 (Got 39) ∷
     marked 3 (Got 42) ∷ marked 3 (Got 53) ∷ marked 3 (Got 56) ∷ marked 3 (Got 61) ∷ marked 3 (Called commands.Begin) ∷
     marked 3 (Told (replies.Began (tx_in 0 2 1))) ∷ marked 3 (Called (commands.Do 0 0)) ∷
-    marked 3 (Sent 64 0 (messages.Request (tx_in 0 2 1) 1 0 (wants.Read (read_of 0 0)))) ∷
-    marked 3 (Sent 65 1 (messages.Request (tx_in 0 2 1) 1 0 (wants.Read (read_of 0 0)))) ∷
-    marked 3 (Sent 66 2 (messages.Request (tx_in 0 2 1) 1 0 (wants.Read (read_of 0 0)))) ∷ marked 0 (Got 64)
+    marked 3 (Sent 64 0 (messages.Request (tx_in 0 2 1) 1 0 (wants.Read (first_read 0 0)))) ∷
+    marked 3 (Sent 65 1 (messages.Request (tx_in 0 2 1) 1 0 (wants.Read (first_read 0 0)))) ∷
+    marked 3 (Sent 66 2 (messages.Request (tx_in 0 2 1) 1 0 (wants.Read (first_read 0 0)))) ∷ marked 0 (Got 64)
     ∷ marked 2 (Got 66) ∷
     marked 1 (Got 65) ∷ marked 1 (Sent 67 3 (messages.Answer 65 (answers.Closed 2))) ∷
     marked 0 (Sent 68 3 (messages.Answer 64 (answers.Closed 2))) ∷
@@ -166,13 +166,13 @@ history =
     marked 3 (Sent 73 0 (messages.Request (tx_in 0 2 2) 2 0 (wants.Append 0 [] (own_line 1 0 2 ∷ [])))) ∷
     marked 3 (Sent 74 2 (messages.Request (tx_in 0 2 2) 2 0 (wants.Append 0 [] (own_line 1 0 2 ∷ [])))) ∷
     marked 5 (Called (commands.Do 0 0)) ∷ marked 3 (Lost 74) ∷
-    marked 5 (Sent 75 2 (messages.Request (tx_in 2 2 2) 2 0 (wants.Read (read_of 0 0)))) ∷ marked 2 (Got 75) ∷
+    marked 5 (Sent 75 2 (messages.Request (tx_in 2 2 2) 2 0 (wants.Read (first_read 0 0)))) ∷ marked 2 (Got 75) ∷
     marked 6 (Called (commands.Epoch 3))
-    ∷ marked 2 (Sent 76 5 (messages.Answer 75 (answers.Granted (grant_with 4 2 [])))) ∷
+    ∷ marked 2 (Sent 76 5 (messages.Answer 75 (answers.Granted (whole_grant 4 2 [])))) ∷
     marked 5 (Got 76) ∷
     marked 5 (Sent 77 2 (messages.Request (tx_in 2 2 2) 2 4 (wants.Append 0 [] (own_line 1 0 0 ∷ [])))) ∷
     marked 6 (Sent 78 0 (messages.Close 3)) ∷ marked 6 (Sent 79 2 (messages.Close 3)) ∷ marked 2 (Got 77) ∷
-    marked 2 (Sent 80 5 (messages.Answer 77 (answers.Granted (grant_with 4 2 [])))) ∷ marked 2 (Got 79) ∷
+    marked 2 (Sent 80 5 (messages.Answer 77 (answers.Granted (whole_grant 4 2 [])))) ∷ marked 2 (Got 79) ∷
     marked 2 (Wrote (records.Close 3))
     ∷ marked 2 (Sent 81 6 (messages.Answer 79 (answers.Shut (snapshot_with 2 [] [])))) ∷
     marked 5 (Got 80) ∷ marked 5 (Told (replies.Response 0)) ∷ marked 5 (Called commands.Commit) ∷

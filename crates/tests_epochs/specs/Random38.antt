@@ -17,7 +17,7 @@ use Rattle.qc_msg.specs.declared.record.Record.TheVariants as records
 use Rattle.qc_msg.specs.declared.reply.Reply.TheVariants as replies
 use Rattle.qc_msg.specs.declared.message.Want.TheVariants as wants
 use Rattle.qc_msg.specs.declared.step.Fall.TheVariants as falls
-use Rattle.qc_msg.specs.Vocabulary.{grant_with, read_of, snapshot_with, start_with}
+use Rattle.qc_msg.specs.Vocabulary.{whole_grant, first_read, snapshot_with, start_with}
 
 abbrev pub decl : Declaration
 decl =
@@ -38,38 +38,38 @@ history =
     marked 7 (Phase 2) ∷ marked 5 (Called commands.Begin) ∷ marked 4 (Called commands.Begin) ∷
     marked 5 (Told replies.Down) ∷ marked 6 (Called (commands.Epoch 3)) ∷ marked 4 (Told (replies.Began (tx 0 2))) ∷
     marked 4 (Called (commands.Do 0 0)) ∷ marked 5 (Called (commands.Do 0 0)) ∷
-    marked 4 (Sent 0 0 (messages.Request (tx 0 2) 1 0 (wants.Read (read_of 0 0)))) ∷
-    marked 4 (Sent 1 1 (messages.Request (tx 0 2) 1 0 (wants.Read (read_of 0 0)))) ∷
-    marked 4 (Sent 2 2 (messages.Request (tx 0 2) 1 0 (wants.Read (read_of 0 0)))) ∷ marked 2 (Got 2) ∷
-    marked 2 (Sent 3 4 (messages.Answer 2 (answers.Granted (grant_with 1 0 [])))) ∷ marked 6 (Told (replies.Order 1)) ∷
+    marked 4 (Sent 0 0 (messages.Request (tx 0 2) 1 0 (wants.Read (first_read 0 0)))) ∷
+    marked 4 (Sent 1 1 (messages.Request (tx 0 2) 1 0 (wants.Read (first_read 0 0)))) ∷
+    marked 4 (Sent 2 2 (messages.Request (tx 0 2) 1 0 (wants.Read (first_read 0 0)))) ∷ marked 2 (Got 2) ∷
+    marked 2 (Sent 3 4 (messages.Answer 2 (answers.Granted (whole_grant 1 0 [])))) ∷ marked 6 (Told (replies.Order 1)) ∷
     marked 4 (Got 3) ∷ marked 5 (Told replies.Down) ∷ marked 1 (Got 1) ∷
-    marked 1 (Sent 4 4 (messages.Answer 1 (answers.Granted (grant_with 1 0 [])))) ∷ marked 0 (Got 0) ∷
-    marked 0 (Sent 5 4 (messages.Answer 0 (answers.Granted (grant_with 1 0 [])))) ∷ marked 4 (Got 4) ∷ marked 4 (Got 5)
+    marked 1 (Sent 4 4 (messages.Answer 1 (answers.Granted (whole_grant 1 0 [])))) ∷ marked 0 (Got 0) ∷
+    marked 0 (Sent 5 4 (messages.Answer 0 (answers.Granted (whole_grant 1 0 [])))) ∷ marked 4 (Got 4) ∷ marked 4 (Got 5)
     ∷
     marked 4 (Sent 6 0 (messages.Request (tx 0 2) 1 1 (wants.Append 0 [] (own_line 1 0 0 ∷ [])))) ∷
     marked 4 (Sent 7 1 (messages.Request (tx 0 2) 1 1 (wants.Append 0 [] (own_line 1 0 0 ∷ [])))) ∷
     marked 4 (Sent 8 2 (messages.Request (tx 0 2) 1 1 (wants.Append 0 [] (own_line 1 0 0 ∷ [])))) ∷ marked 0 (Got 6) ∷
-    marked 0 (Sent 9 4 (messages.Answer 6 (answers.Granted (grant_with 1 0 [])))) ∷ marked 2 (Got 8) ∷ marked 1 (Got 7)
+    marked 0 (Sent 9 4 (messages.Answer 6 (answers.Granted (whole_grant 1 0 [])))) ∷ marked 2 (Got 8) ∷ marked 1 (Got 7)
     ∷
-    marked 2 (Sent 10 4 (messages.Answer 8 (answers.Granted (grant_with 1 0 [])))) ∷
-    marked 1 (Sent 11 4 (messages.Answer 7 (answers.Granted (grant_with 1 0 [])))) ∷ marked 4 (Got 9)
+    marked 2 (Sent 10 4 (messages.Answer 8 (answers.Granted (whole_grant 1 0 [])))) ∷
+    marked 1 (Sent 11 4 (messages.Answer 7 (answers.Granted (whole_grant 1 0 [])))) ∷ marked 4 (Got 9)
     ∷ marked 4 (Got 10) ∷
     marked 4 (Got 11) ∷ marked 4 (Told (replies.Response 1)) ∷ marked 4 (Called (commands.Do 0 0)) ∷
-    marked 4 (Sent 12 0 (messages.Request (tx 0 2) 1 1 (wants.Read (read_of 0 0)))) ∷
-    marked 4 (Sent 13 1 (messages.Request (tx 0 2) 1 1 (wants.Read (read_of 0 0)))) ∷
-    marked 4 (Sent 14 2 (messages.Request (tx 0 2) 1 1 (wants.Read (read_of 0 0)))) ∷ marked 0 (Got 12)
+    marked 4 (Sent 12 0 (messages.Request (tx 0 2) 1 1 (wants.Read (first_read 0 0)))) ∷
+    marked 4 (Sent 13 1 (messages.Request (tx 0 2) 1 1 (wants.Read (first_read 0 0)))) ∷
+    marked 4 (Sent 14 2 (messages.Request (tx 0 2) 1 1 (wants.Read (first_read 0 0)))) ∷ marked 0 (Got 12)
     ∷ marked 4 (Lost 14) ∷
-    marked 0 (Sent 15 4 (messages.Answer 12 (answers.Granted (grant_with 1 0 [])))) ∷ marked 4 (Got 15)
+    marked 0 (Sent 15 4 (messages.Answer 12 (answers.Granted (whole_grant 1 0 [])))) ∷ marked 4 (Got 15)
     ∷ marked 1 (Got 13) ∷
-    marked 1 (Sent 16 4 (messages.Answer 13 (answers.Granted (grant_with 1 0 [])))) ∷ marked 4 (Got 16) ∷
-    marked 4 (Sent 17 3 (messages.Request (tx 0 2) 1 0 (wants.Read (read_of 0 0)))) ∷ marked 3 (Got 17) ∷
-    marked 3 (Sent 18 4 (messages.Answer 17 (answers.Granted (grant_with 1 0 [])))) ∷ marked 4 (Got 18) ∷
+    marked 1 (Sent 16 4 (messages.Answer 13 (answers.Granted (whole_grant 1 0 [])))) ∷ marked 4 (Got 16) ∷
+    marked 4 (Sent 17 3 (messages.Request (tx 0 2) 1 0 (wants.Read (first_read 0 0)))) ∷ marked 3 (Got 17) ∷
+    marked 3 (Sent 18 4 (messages.Answer 17 (answers.Granted (whole_grant 1 0 [])))) ∷ marked 4 (Got 18) ∷
     marked 4 (Sent 19 0 (messages.Request (tx 0 2) 1 1 (wants.Append 0 [] (own_line 1 0 0 ∷ own_line 2 0 0 ∷ [])))) ∷
     marked 4 (Sent 20 1 (messages.Request (tx 0 2) 1 1 (wants.Append 0 [] (own_line 1 0 0 ∷ own_line 2 0 0 ∷ [])))) ∷
     marked 4 (Sent 21 2 (messages.Request (tx 0 2) 1 1 (wants.Append 0 [] (own_line 1 0 0 ∷ own_line 2 0 0 ∷ [])))) ∷
     marked 4 (Lost 19) ∷ marked 2 (Got 21)
-    ∷ marked 2 (Sent 22 4 (messages.Answer 21 (answers.Granted (grant_with 1 0 [])))) ∷
-    marked 1 (Got 20) ∷ marked 1 (Sent 23 4 (messages.Answer 20 (answers.Granted (grant_with 1 0 []))))
+    ∷ marked 2 (Sent 22 4 (messages.Answer 21 (answers.Granted (whole_grant 1 0 [])))) ∷
+    marked 1 (Got 20) ∷ marked 1 (Sent 23 4 (messages.Answer 20 (answers.Granted (whole_grant 1 0 []))))
     ∷ marked 4 (Got 22) ∷
     marked 4 (Got 23) ∷ marked 4 (Told (replies.Response 1)) ∷ marked 7 (Phase 3) ∷ marked 7 (Cut 6 5) ∷
     marked 7 (Cut 6 2) ∷ marked 4 (Called commands.Commit) ∷ marked 5 (Called (commands.Do 0 0)) ∷ marked 0 (Got 19) ∷
@@ -79,7 +79,7 @@ history =
     marked 4 (Sent 27 3 (messages.Request (tx 0 2) 1 1 wants.Prepare)) ∷ marked 3 (Got 27) ∷
     marked 6 (Called (commands.Epoch 2)) ∷ marked 3 (Wrote (prepare (tx 0 2) 1 (read_lock 0 0 ∷ []) [] [])) ∷
     marked 3 (Sent 28 4 (messages.Answer 27 (answers.Yes 0))) ∷
-    marked 0 (Sent 29 4 (messages.Answer 19 (answers.Granted (grant_with 1 0 [])))) ∷ marked 2 (Got 26)
+    marked 0 (Sent 29 4 (messages.Answer 19 (answers.Granted (whole_grant 1 0 [])))) ∷ marked 2 (Got 26)
     ∷ marked 1 (Got 25) ∷
     marked 5 (Told replies.Down) ∷
     marked 1 (Wrote (prepare (tx 0 2) 1 (read_lock 0 0 ∷ []) (own_line 1 0 0 ∷ own_line 2 0 0 ∷ []) [])) ∷
@@ -161,14 +161,14 @@ history =
     marked 4 (Told replies.Dropped) ∷ marked 4 (Called commands.Begin) ∷ marked 4 (Told (replies.Began (tx 0 5))) ∷
     marked 4 (Called (commands.Do 0 0)) ∷ marked 5 (Called commands.Begin) ∷
     marked 5 (Told (replies.Began (tx_in 1 2 1))) ∷
-    marked 4 (Sent 68 0 (messages.Request (tx 0 5) 1 0 (wants.Read (read_of 0 0)))) ∷
-    marked 4 (Sent 69 1 (messages.Request (tx 0 5) 1 0 (wants.Read (read_of 0 0)))) ∷
-    marked 4 (Sent 70 2 (messages.Request (tx 0 5) 1 0 (wants.Read (read_of 0 0)))) ∷ marked 1 (Got 69) ∷
+    marked 4 (Sent 68 0 (messages.Request (tx 0 5) 1 0 (wants.Read (first_read 0 0)))) ∷
+    marked 4 (Sent 69 1 (messages.Request (tx 0 5) 1 0 (wants.Read (first_read 0 0)))) ∷
+    marked 4 (Sent 70 2 (messages.Request (tx 0 5) 1 0 (wants.Read (first_read 0 0)))) ∷ marked 1 (Got 69) ∷
     marked 1 (Sent 71 4 (messages.Answer 69 (answers.Closed 2))) ∷ marked 4 (Got 71) ∷ marked 0 (Got 68) ∷
     marked 0 (Sent 72 4 (messages.Answer 68 (answers.Closed 2))) ∷ marked 4 (Got 72) ∷
     marked 5 (Called (commands.Do 0 0))
-    ∷ marked 5 (Sent 73 1 (messages.Request (tx_in 1 2 1) 1 0 (wants.Read (read_of 0 0)))) ∷
-    marked 5 (Sent 74 2 (messages.Request (tx_in 1 2 1) 1 0 (wants.Read (read_of 0 0)))) ∷ marked 2 (Got 70)
+    ∷ marked 5 (Sent 73 1 (messages.Request (tx_in 1 2 1) 1 0 (wants.Read (first_read 0 0)))) ∷
+    marked 5 (Sent 74 2 (messages.Request (tx_in 1 2 1) 1 0 (wants.Read (first_read 0 0)))) ∷ marked 2 (Got 70)
     ∷ marked 1 (Got 73) ∷
     marked 2 (Sent 75 4 (messages.Answer 70 (answers.Closed 2))) ∷
     marked 1 (Sent 76 5 (messages.Answer 73 (answers.Closed 2))) ∷ marked 2 (Got 74) ∷
@@ -186,15 +186,15 @@ history =
     marked 5 (Told (replies.Committed (stamp 2 1))) ∷ marked 1 (Got 81) ∷ marked 2 (Got 82) ∷
     marked 4 (Called commands.Begin) ∷ marked 5 (Called commands.Begin) ∷ marked 4 (Told (replies.Began (tx 0 6))) ∷
     marked 4 (Called (commands.Do 0 0)) ∷ marked 5 (Told (replies.Began (tx_in 1 2 2))) ∷
-    marked 4 (Sent 83 0 (messages.Request (tx 0 6) 2 0 (wants.Read (read_of 0 0))))
+    marked 4 (Sent 83 0 (messages.Request (tx 0 6) 2 0 (wants.Read (first_read 0 0))))
     ∷ marked 5 (Called (commands.Do 0 0)) ∷
-    marked 0 (Got 83) ∷ marked 5 (Sent 84 1 (messages.Request (tx_in 1 2 2) 2 0 (wants.Read (read_of 0 0)))) ∷
+    marked 0 (Got 83) ∷ marked 5 (Sent 84 1 (messages.Request (tx_in 1 2 2) 2 0 (wants.Read (first_read 0 0)))) ∷
     marked 0
-    (Sent 85 4 (messages.Answer 83 (answers.Granted (grant_with 2 4 (line 2 0 2 1 0 0 ∷ line 2 0 2 2 0 0 ∷ []))))) ∷
+    (Sent 85 4 (messages.Answer 83 (answers.Granted (whole_grant 2 4 (line 2 0 2 1 0 0 ∷ line 2 0 2 2 0 0 ∷ []))))) ∷
     marked 4 (Got 85) ∷ marked 1 (Got 84) ∷ marked 4 (Told replies.Absent) ∷ marked 4 (Called commands.Commit) ∷
     marked 4 (Sent 86 0 (messages.Request (tx 0 6) 2 2 wants.Prepare)) ∷
     marked 1
-    (Sent 87 5 (messages.Answer 84 (answers.Granted (grant_with 2 4 (line 2 0 2 1 0 0 ∷ line 2 0 2 2 0 0 ∷ []))))) ∷
+    (Sent 87 5 (messages.Answer 84 (answers.Granted (whole_grant 2 4 (line 2 0 2 1 0 0 ∷ line 2 0 2 2 0 0 ∷ []))))) ∷
     marked 5 (Got 87) ∷ marked 0 (Got 86) ∷ marked 0 (Wrote (prepare (tx 0 6) 2 (read_lock 0 0 ∷ []) [] [])) ∷
     marked 0 (Sent 88 4 (messages.Answer 86 (answers.Yes 4))) ∷ marked 4 (Got 88) ∷
     marked 4 (Wrote (commit (stamp 5 0) (tx 0 6) (operation 0 0 None ∷ []))) ∷
@@ -203,20 +203,20 @@ history =
     marked 5 (Told replies.Absent) ∷ marked 5 (Called commands.Commit) ∷ marked 4 (Told (replies.Began (tx 0 7))) ∷
     marked 4 (Called (commands.Do 0 0)) ∷ marked 5 (Sent 90 1 (messages.Request (tx_in 1 2 2) 2 2 wants.Prepare)) ∷
     marked 1 (Got 90) ∷ marked 0 (Wrote (records.Done (tx 0 6) 5)) ∷
-    marked 4 (Sent 91 0 (messages.Request (tx 0 7) 2 0 (wants.Read (read_of 0 0)))) ∷ marked 0 (Got 91) ∷
+    marked 4 (Sent 91 0 (messages.Request (tx 0 7) 2 0 (wants.Read (first_read 0 0)))) ∷ marked 0 (Got 91) ∷
     marked 1 (Wrote (prepare (tx_in 1 2 2) 2 (read_lock 0 0 ∷ []) [] [])) ∷
     marked 1 (Sent 92 5 (messages.Answer 90 (answers.Yes 4))) ∷
     marked 0
-    (Sent 93 4 (messages.Answer 91 (answers.Granted (grant_with 2 5 (line 2 0 2 1 0 0 ∷ line 2 0 2 2 0 0 ∷ []))))) ∷
+    (Sent 93 4 (messages.Answer 91 (answers.Granted (whole_grant 2 5 (line 2 0 2 1 0 0 ∷ line 2 0 2 2 0 0 ∷ []))))) ∷
     marked 5 (Got 92) ∷ marked 4 (Got 93) ∷
     marked 5 (Wrote (commit (stamp 5 1) (tx_in 1 2 2) (operation 0 0 None ∷ []))) ∷
     marked 5 (Sent 94 1 (messages.Decision (tx_in 1 2 2) (outcomes.Committed (stamp 5 1)))) ∷
     marked 5 (Told (replies.Committed (stamp 5 1))) ∷ marked 5 (Called commands.Begin) ∷
     marked 5 (Told (replies.Began (tx_in 1 2 3))) ∷ marked 4 (Told replies.Absent) ∷
     marked 5 (Called (commands.Do 0 0)) ∷ marked 1 (Got 94) ∷ marked 1 (Wrote (records.Done (tx_in 1 2 2) 5)) ∷
-    marked 5 (Sent 95 1 (messages.Request (tx_in 1 2 3) 2 0 (wants.Read (read_of 0 0)))) ∷ marked 1 (Got 95) ∷
+    marked 5 (Sent 95 1 (messages.Request (tx_in 1 2 3) 2 0 (wants.Read (first_read 0 0)))) ∷ marked 1 (Got 95) ∷
     marked 1
-    (Sent 96 5 (messages.Answer 95 (answers.Granted (grant_with 2 5 (line 2 0 2 1 0 0 ∷ line 2 0 2 2 0 0 ∷ []))))) ∷
+    (Sent 96 5 (messages.Answer 95 (answers.Granted (whole_grant 2 5 (line 2 0 2 1 0 0 ∷ line 2 0 2 2 0 0 ∷ []))))) ∷
     marked 4 (Called commands.Commit) ∷ marked 5 (Got 96) ∷ marked 5 (Told replies.Absent) ∷
     marked 4 (Sent 97 0 (messages.Request (tx 0 7) 2 2 wants.Prepare)) ∷ marked 0 (Got 97) ∷
     marked 5 (Called commands.Commit) ∷ marked 0 (Wrote (prepare (tx 0 7) 2 (read_lock 0 0 ∷ []) [] [])) ∷

@@ -19,7 +19,7 @@ use Rattle.qc_msg.specs.declared.record.Record.TheVariants as records
 use Rattle.qc_msg.specs.declared.reply.Reply.TheVariants as replies
 use Rattle.qc_msg.specs.declared.message.Want.TheVariants as wants
 use Rattle.qc_msg.specs.declared.step.Fall.TheVariants as falls
-use Rattle.qc_msg.specs.Vocabulary.{grant_with, read_of, snapshot_with, start_with}
+use Rattle.qc_msg.specs.Vocabulary.{whole_grant, first_read, snapshot_with, start_with}
 
 abbrev pub decl : Declaration
 decl =
@@ -51,23 +51,25 @@ history =
     marked 5 (Fell falls.Disk (Some records.Life)) ∷ marked 4 (Called commands.Begin) ∷
     marked 5 (Called commands.Begin) ∷ marked 5 (Told replies.Down) ∷ marked 6 (Called (commands.Epoch 2)) ∷
     marked 4 (Told (replies.Began (tx 1 6))) ∷ marked 4 (Called (commands.Do 0 0)) ∷
-    marked 4 (Sent 0 1 (messages.Request (tx 1 6) 1 0 (wants.Read (read_of 0 0)))) ∷
-    marked 4 (Sent 1 2 (messages.Request (tx 1 6) 1 0 (wants.Read (read_of 0 0)))) ∷
-    marked 4 (Sent 2 0 (messages.Request (tx 1 6) 1 0 (wants.Read (read_of 0 0)))) ∷ marked 0 (Got 2) ∷ marked 1 (Got 0)
+    marked 4 (Sent 0 1 (messages.Request (tx 1 6) 1 0 (wants.Read (first_read 0 0)))) ∷
+    marked 4 (Sent 1 2 (messages.Request (tx 1 6) 1 0 (wants.Read (first_read 0 0)))) ∷
+    marked 4 (Sent 2 0 (messages.Request (tx 1 6) 1 0 (wants.Read (first_read 0 0)))) ∷ marked 0 (Got 2) ∷
+    marked 1 (Got 0)
     ∷
-    marked 2 (Got 1) ∷ marked 1 (Sent 3 4 (messages.Answer 0 (answers.Granted (grant_with 1 0 [])))) ∷ marked 4 (Got 3)
+    marked 2 (Got 1) ∷ marked 1 (Sent 3 4 (messages.Answer 0 (answers.Granted (whole_grant 1 0 [])))) ∷ marked 4 (Got 3)
     ∷
-    marked 0 (Sent 4 4 (messages.Answer 2 (answers.Granted (grant_with 1 0 [])))) ∷ marked 4 (Got 4) ∷
-    marked 2 (Sent 5 4 (messages.Answer 1 (answers.Granted (grant_with 1 0 [])))) ∷ marked 4 (Got 5) ∷
+    marked 0 (Sent 4 4 (messages.Answer 2 (answers.Granted (whole_grant 1 0 [])))) ∷ marked 4 (Got 4) ∷
+    marked 2 (Sent 5 4 (messages.Answer 1 (answers.Granted (whole_grant 1 0 [])))) ∷ marked 4 (Got 5) ∷
     marked 4 (Told replies.Absent) ∷ marked 4 (Called (commands.Do 0 0)) ∷
-    marked 4 (Sent 6 1 (messages.Request (tx 1 6) 1 1 (wants.Read (read_of 0 0)))) ∷
-    marked 4 (Sent 7 2 (messages.Request (tx 1 6) 1 1 (wants.Read (read_of 0 0)))) ∷
-    marked 4 (Sent 8 0 (messages.Request (tx 1 6) 1 1 (wants.Read (read_of 0 0)))) ∷ marked 2 (Got 7) ∷ marked 0 (Got 8)
+    marked 4 (Sent 6 1 (messages.Request (tx 1 6) 1 1 (wants.Read (first_read 0 0)))) ∷
+    marked 4 (Sent 7 2 (messages.Request (tx 1 6) 1 1 (wants.Read (first_read 0 0)))) ∷
+    marked 4 (Sent 8 0 (messages.Request (tx 1 6) 1 1 (wants.Read (first_read 0 0)))) ∷ marked 2 (Got 7) ∷
+    marked 0 (Got 8)
     ∷
-    marked 0 (Sent 9 4 (messages.Answer 8 (answers.Granted (grant_with 1 0 [])))) ∷ marked 1 (Got 6) ∷ marked 4 (Got 9)
+    marked 0 (Sent 9 4 (messages.Answer 8 (answers.Granted (whole_grant 1 0 [])))) ∷ marked 1 (Got 6) ∷ marked 4 (Got 9)
     ∷
-    marked 1 (Sent 10 4 (messages.Answer 6 (answers.Granted (grant_with 1 0 [])))) ∷
-    marked 2 (Sent 11 4 (messages.Answer 7 (answers.Granted (grant_with 1 0 [])))) ∷ marked 4 (Got 11)
+    marked 1 (Sent 10 4 (messages.Answer 6 (answers.Granted (whole_grant 1 0 [])))) ∷
+    marked 2 (Sent 11 4 (messages.Answer 7 (answers.Granted (whole_grant 1 0 [])))) ∷ marked 4 (Got 11)
     ∷ marked 4 (Lost 6) ∷
     marked 4 (Told replies.Absent) ∷ marked 4 (Called commands.Commit) ∷
     marked 4 (Sent 12 1 (messages.Request (tx 1 6) 1 1 wants.Prepare)) ∷
@@ -110,11 +112,12 @@ history =
     marked 5 (Told replies.Down) ∷ marked 5 (Called (commands.Do 0 0)) ∷ marked 5 (Told replies.Down) ∷
     marked 5 (Called (commands.Do 0 1)) ∷ marked 4 (Called commands.Begin) ∷ marked 4 (Told (replies.Began (tx 1 7))) ∷
     marked 4 (Called (commands.Do 0 1))
-    ∷ marked 4 (Sent 34 1 (messages.Request (tx 1 7) 1 0 (wants.Read (read_of 0 1)))) ∷
-    marked 4 (Sent 35 2 (messages.Request (tx 1 7) 1 0 (wants.Read (read_of 0 1)))) ∷ marked 3 (Called commands.Begin) ∷
+    ∷ marked 4 (Sent 34 1 (messages.Request (tx 1 7) 1 0 (wants.Read (first_read 0 1)))) ∷
+    marked 4 (Sent 35 2 (messages.Request (tx 1 7) 1 0 (wants.Read (first_read 0 1)))) ∷
+    marked 3 (Called commands.Begin) ∷
     marked 5 (Told replies.Down) ∷ marked 3 (Told (replies.Began (tx 0 1))) ∷ marked 5 (Called commands.Commit) ∷
     marked 5 (Told replies.Down) ∷ marked 3 (Called (commands.Do 0 1)) ∷
-    marked 3 (Sent 36 0 (messages.Request (tx 0 1) 1 0 (wants.Read (read_of 0 1))))
+    marked 3 (Sent 36 0 (messages.Request (tx 0 1) 1 0 (wants.Read (first_read 0 1))))
     ∷ marked 6 (Called (commands.Epoch 2)) ∷
     marked 6 (Sent 37 0 (messages.Install (start_with 2 0 [])))
     ∷ marked 6 (Sent 38 1 (messages.Install (start_with 2 0 []))) ∷
@@ -124,12 +127,12 @@ history =
     marked 2 (Sent 42 6 (messages.Answer 39 answers.Installed)) ∷ marked 4 (Got 40) ∷ marked 4 (Got 41) ∷
     marked 6 (Got 42) ∷ marked 1 (Got 34) ∷ marked 1 (Sent 43 4 (messages.Answer 34 (answers.Closed 2))) ∷
     marked 4 (Got 43) ∷ marked 4 (Told (replies.Closed 2 1)) ∷ marked 4 (Called (commands.Do 0 0)) ∷
-    marked 4 (Sent 44 1 (messages.Request (tx 1 7) 1 0 (wants.Read (read_of 0 0)))) ∷
-    marked 4 (Sent 45 2 (messages.Request (tx 1 7) 1 0 (wants.Read (read_of 0 0)))) ∷
-    marked 4 (Sent 46 0 (messages.Request (tx 1 7) 1 0 (wants.Read (read_of 0 0)))) ∷ marked 0 (Got 36) ∷
+    marked 4 (Sent 44 1 (messages.Request (tx 1 7) 1 0 (wants.Read (first_read 0 0)))) ∷
+    marked 4 (Sent 45 2 (messages.Request (tx 1 7) 1 0 (wants.Read (first_read 0 0)))) ∷
+    marked 4 (Sent 46 0 (messages.Request (tx 1 7) 1 0 (wants.Read (first_read 0 0)))) ∷ marked 0 (Got 36) ∷
     marked 0 (Sent 47 3 (messages.Answer 36 (answers.Closed 2))) ∷ marked 0 (Got 37) ∷
     marked 0 (Sent 48 6 (messages.Answer 37 answers.Installed)) ∷ marked 3 (Lost 36) ∷
-    marked 3 (Sent 49 1 (messages.Request (tx 0 1) 1 0 (wants.Read (read_of 0 1)))) ∷ marked 2 (Got 45) ∷
+    marked 3 (Sent 49 1 (messages.Request (tx 0 1) 1 0 (wants.Read (first_read 0 1)))) ∷ marked 2 (Got 45) ∷
     marked 2 (Sent 50 4 (messages.Answer 45 (answers.Closed 2))) ∷ marked 4 (Got 50) ∷ marked 6 (Got 48) ∷
     marked 1 (Got 38) ∷ marked 1 (Sent 51 6 (messages.Answer 38 answers.Installed)) ∷ marked 0 (Got 46) ∷
     marked 0 (Sent 52 4 (messages.Answer 46 (answers.Closed 2))) ∷ marked 4 (Got 52) ∷ marked 6 (Got 51) ∷
@@ -138,8 +141,8 @@ history =
     marked 4 (Told (replies.Closed 2 1)) ∷ marked 1 (Got 49) ∷
     marked 1 (Sent 54 3 (messages.Answer 49 (answers.Closed 2))) ∷ marked 3 (Got 54) ∷
     marked 3 (Told (replies.Closed 2 1)) ∷ marked 3 (Called (commands.Do 0 0)) ∷
-    marked 3 (Sent 55 0 (messages.Request (tx 0 1) 1 0 (wants.Read (read_of 0 0)))) ∷
-    marked 3 (Sent 56 1 (messages.Request (tx 0 1) 1 0 (wants.Read (read_of 0 0)))) ∷ marked 0 (Got 55) ∷
+    marked 3 (Sent 55 0 (messages.Request (tx 0 1) 1 0 (wants.Read (first_read 0 0)))) ∷
+    marked 3 (Sent 56 1 (messages.Request (tx 0 1) 1 0 (wants.Read (first_read 0 0)))) ∷ marked 0 (Got 55) ∷
     marked 0 (Sent 57 3 (messages.Answer 55 (answers.Closed 2))) ∷ marked 3 (Got 57) ∷ marked 3 (Lost 56) ∷
     marked 3 (Told (replies.Closed 2 0)) ∷ marked 6 (Called (commands.Epoch 2)) ∷
     marked 6 (Sent 58 0 (messages.Install (start_with 2 0 [])))
@@ -152,8 +155,8 @@ history =
     marked 5 (Wrote records.Life) ∷ marked 3 (Called commands.Abort) ∷ marked 5 (Called commands.Abort) ∷
     marked 5 (Told replies.NoTransaction) ∷ marked 5 (Called commands.Begin) ∷
     marked 5 (Told (replies.Began (tx_in 2 3 1))) ∷ marked 5 (Called (commands.Do 0 1)) ∷
-    marked 5 (Sent 64 2 (messages.Request (tx_in 2 3 1) 1 0 (wants.Read (read_of 0 1)))) ∷
-    marked 5 (Sent 65 0 (messages.Request (tx_in 2 3 1) 1 0 (wants.Read (read_of 0 1))))
+    marked 5 (Sent 64 2 (messages.Request (tx_in 2 3 1) 1 0 (wants.Read (first_read 0 1)))) ∷
+    marked 5 (Sent 65 0 (messages.Request (tx_in 2 3 1) 1 0 (wants.Read (first_read 0 1))))
     ∷ marked 4 (Called commands.Abort) ∷
     marked 4 (Sent 66 0 (messages.Decision (tx 1 7) outcomes.Aborted)) ∷
     marked 4 (Sent 67 1 (messages.Decision (tx 1 7) outcomes.Aborted)) ∷
@@ -163,7 +166,7 @@ history =
     marked 3 (Called commands.Begin) ∷ marked 1 (Got 67) ∷ marked 4 (Called commands.Begin) ∷
     marked 4 (Told (replies.Began (tx 1 8))) ∷ marked 4 (Called (commands.Do 0 1)) ∷ marked 0 (Got 65) ∷
     marked 1 (Got 70) ∷ marked 4 (Sent 71 1 (messages.Request (tx 1 8) 2 0 (wants.Append 0 [] (own_line 1 0 0 ∷ [])))) ∷
-    marked 1 (Got 71) ∷ marked 1 (Sent 72 4 (messages.Answer 71 (answers.Granted (grant_with 2 0 []))))
+    marked 1 (Got 71) ∷ marked 1 (Sent 72 4 (messages.Answer 71 (answers.Granted (whole_grant 2 0 []))))
     ∷ marked 4 (Got 72) ∷
     marked 0 (Sent 73 5 (messages.Answer 65 (answers.Closed 2))) ∷ marked 5 (Got 73) ∷
     marked 4 (Told (replies.Response 2)) ∷ marked 0 (Got 66) ∷ marked 2 (Got 64) ∷ marked 4 (Called commands.Commit) ∷
@@ -182,7 +185,7 @@ history =
     marked 5 (Told (replies.Began (tx_in 2 3 2))) ∷ marked 1 (Got 79) ∷ marked 1 (Wrote (records.Done (tx 1 8) 6)) ∷
     marked 5 (Called (commands.Do 0 1)) ∷
     marked 5 (Sent 80 1 (messages.Request (tx_in 2 3 2) 2 0 (wants.Append 0 [] (own_line 1 0 0 ∷ [])))) ∷
-    marked 1 (Got 80) ∷ marked 1 (Sent 81 5 (messages.Answer 80 (answers.Granted (grant_with 2 6 []))))
+    marked 1 (Got 80) ∷ marked 1 (Sent 81 5 (messages.Answer 80 (answers.Granted (whole_grant 2 6 []))))
     ∷ marked 5 (Got 81) ∷
     marked 5 (Told (replies.Response 2)) ∷ marked 0 (Got 69) ∷ marked 5 (Called commands.Commit) ∷
     marked 5 (Sent 82 1 (messages.Request (tx_in 2 3 2) 2 2 wants.Prepare)) ∷ marked 1 (Got 82) ∷

@@ -14,7 +14,7 @@ use Rattle.qc_msg.specs.declared.record.Record.TheVariants as records
 use Rattle.qc_msg.specs.declared.reply.Reply.TheVariants as replies
 use Rattle.qc_msg.specs.declared.message.Want.TheVariants as wants
 use Rattle.qc_msg.specs.declared.step.Fall.TheVariants as falls
-use Rattle.qc_msg.specs.Vocabulary.{grant_with, read_of}
+use Rattle.qc_msg.specs.Vocabulary.{whole_grant, first_read}
 
 abbrev pub decl : Declaration
 decl =
@@ -27,17 +27,18 @@ decl =
 abbrev pub history : List Entry
 history =
     marked 4 (Phase 1) ∷ marked 1 (Called commands.Begin) ∷ marked 1 (Told (replies.Began (tx 0 1))) ∷
-    marked 1 (Called (commands.Do 0 1)) ∷ marked 1 (Sent 0 0 (messages.Request (tx 0 1) 1 0 (wants.Read (read_of 0 1))))
+    marked 1 (Called (commands.Do 0 1)) ∷
+    marked 1 (Sent 0 0 (messages.Request (tx 0 1) 1 0 (wants.Read (first_read 0 1))))
     ∷
-    marked 0 (Got 0) ∷ marked 0 (Sent 1 1 (messages.Answer 0 (answers.Granted (grant_with 1 0 [])))) ∷ marked 1 (Got 1)
+    marked 0 (Got 0) ∷ marked 0 (Sent 1 1 (messages.Answer 0 (answers.Granted (whole_grant 1 0 [])))) ∷ marked 1 (Got 1)
     ∷
     marked 1 (Sent 2 0 (messages.Request (tx 0 1) 1 1 (wants.Append 0 [] (own_line 1 0 1 ∷ [])))) ∷ marked 0 (Got 2) ∷
-    marked 0 (Sent 3 1 (messages.Answer 2 (answers.Granted (grant_with 1 0 [])))) ∷ marked 1 (Got 3) ∷
+    marked 0 (Sent 3 1 (messages.Answer 2 (answers.Granted (whole_grant 1 0 [])))) ∷ marked 1 (Got 3) ∷
     marked 1 (Told (replies.Response 0)) ∷ marked 1 (Called (commands.Do 0 1)) ∷
-    marked 1 (Sent 4 0 (messages.Request (tx 0 1) 1 1 (wants.Read (read_of 0 1)))) ∷ marked 0 (Got 4) ∷
-    marked 0 (Sent 5 1 (messages.Answer 4 (answers.Granted (grant_with 1 0 [])))) ∷ marked 1 (Got 5) ∷
+    marked 1 (Sent 4 0 (messages.Request (tx 0 1) 1 1 (wants.Read (first_read 0 1)))) ∷ marked 0 (Got 4) ∷
+    marked 0 (Sent 5 1 (messages.Answer 4 (answers.Granted (whole_grant 1 0 [])))) ∷ marked 1 (Got 5) ∷
     marked 1 (Sent 6 0 (messages.Request (tx 0 1) 1 1 (wants.Append 0 [] (own_line 1 0 1 ∷ own_line 2 0 1 ∷ [])))) ∷
-    marked 0 (Got 6) ∷ marked 0 (Sent 7 1 (messages.Answer 6 (answers.Granted (grant_with 1 0 [])))) ∷ marked 1 (Got 7)
+    marked 0 (Got 6) ∷ marked 0 (Sent 7 1 (messages.Answer 6 (answers.Granted (whole_grant 1 0 [])))) ∷ marked 1 (Got 7)
     ∷
     marked 1 (Told (replies.Response 0)) ∷ marked 1 (Called commands.Commit) ∷
     marked 1 (Sent 8 0 (messages.Request (tx 0 1) 1 1 wants.Prepare)) ∷ marked 0 (Got 8) ∷
@@ -48,22 +49,22 @@ history =
     marked 1 (Told (replies.Committed (stamp 1 0))) ∷ marked 0 (Got 10) ∷ marked 0 (Wrote (records.Done (tx 0 1) 1)) ∷
     marked 4 (Phase 2) ∷ marked 4 (Phase 3) ∷ marked 4 (Phase 4) ∷ marked 4 (Cut 2 1) ∷
     marked 1 (Called commands.Begin) ∷ marked 1 (Told (replies.Began (tx 0 2))) ∷ marked 1 (Called (commands.Do 0 2)) ∷
-    marked 1 (Sent 11 0 (messages.Request (tx 0 2) 1 0 (wants.Read (read_of 0 2)))) ∷ marked 0 (Got 11) ∷
+    marked 1 (Sent 11 0 (messages.Request (tx 0 2) 1 0 (wants.Read (first_read 0 2)))) ∷ marked 0 (Got 11) ∷
     marked 0
-    (Sent 12 1 (messages.Answer 11 (answers.Granted (grant_with 1 1 (line 1 0 1 1 0 1 ∷ line 1 0 1 2 0 1 ∷ []))))) ∷
+    (Sent 12 1 (messages.Answer 11 (answers.Granted (whole_grant 1 1 (line 1 0 1 1 0 1 ∷ line 1 0 1 2 0 1 ∷ []))))) ∷
     marked 1 (Got 12) ∷
     marked 1 (Sent 13 0 (messages.Request (tx 0 2) 1 1 (wants.Append 0 (line 1 0 1 1 0 1 ∷ line 1 0 1 2 0 1 ∷ [])
     (own_line 1 0 4 ∷ [])))) ∷
-    marked 0 (Got 13) ∷ marked 0 (Sent 14 1 (messages.Answer 13 (answers.Granted (grant_with 1 1 []))))
+    marked 0 (Got 13) ∷ marked 0 (Sent 14 1 (messages.Answer 13 (answers.Granted (whole_grant 1 1 []))))
     ∷ marked 1 (Got 14) ∷
     marked 1 (Told (replies.Response 2)) ∷ marked 1 (Called (commands.Do 0 1)) ∷
-    marked 1 (Sent 15 0 (messages.Request (tx 0 2) 1 1 (wants.Read (read_of 0 1)))) ∷ marked 0 (Got 15) ∷
+    marked 1 (Sent 15 0 (messages.Request (tx 0 2) 1 1 (wants.Read (first_read 0 1)))) ∷ marked 0 (Got 15) ∷
     marked 0
-    (Sent 16 1 (messages.Answer 15 (answers.Granted (grant_with 1 1 (line 1 0 1 1 0 1 ∷ line 1 0 1 2 0 1 ∷ []))))) ∷
+    (Sent 16 1 (messages.Answer 15 (answers.Granted (whole_grant 1 1 (line 1 0 1 1 0 1 ∷ line 1 0 1 2 0 1 ∷ []))))) ∷
     marked 1 (Got 16) ∷
     marked 1 (Sent 17 0 (messages.Request (tx 0 2) 1 1 (wants.Append 0 (line 1 0 1 1 0 1 ∷ line 1 0 1 2 0 1 ∷ [])
     (own_line 1 0 4 ∷ own_line 2 0 1 ∷ [])))) ∷
-    marked 0 (Got 17) ∷ marked 0 (Sent 18 1 (messages.Answer 17 (answers.Granted (grant_with 1 1 []))))
+    marked 0 (Got 17) ∷ marked 0 (Sent 18 1 (messages.Answer 17 (answers.Granted (whole_grant 1 1 []))))
     ∷ marked 1 (Got 18) ∷
     marked 1 (Told (replies.Response 0)) ∷ marked 4 (Phase 5) ∷ marked 4 (Heal 2 1) ∷
     marked 0 (Fell falls.Script None) ∷
@@ -72,32 +73,32 @@ history =
     marked 0 (Wrote records.Life) ∷ marked 3 (Fell falls.Script None) ∷ marked 3 (Rose []) ∷
     marked 3 (Wrote records.Life) ∷ marked 2 (Called commands.Begin) ∷ marked 2 (Told (replies.Began (tx 1 1))) ∷
     marked 2 (Called (commands.Do 0 2))
-    ∷ marked 2 (Sent 19 0 (messages.Request (tx 1 1) 1 0 (wants.Read (read_of 0 2)))) ∷
+    ∷ marked 2 (Sent 19 0 (messages.Request (tx 1 1) 1 0 (wants.Read (first_read 0 2)))) ∷
     marked 0 (Got 19) ∷
     marked 0
-    (Sent 20 2 (messages.Answer 19 (answers.Granted (grant_with 2 1 (line 1 0 1 1 0 1 ∷ line 1 0 1 2 0 1 ∷ []))))) ∷
+    (Sent 20 2 (messages.Answer 19 (answers.Granted (whole_grant 2 1 (line 1 0 1 1 0 1 ∷ line 1 0 1 2 0 1 ∷ []))))) ∷
     marked 2 (Got 20) ∷
     marked 2 (Sent 21 0 (messages.Request (tx 1 1) 1 2 (wants.Append 0 (line 1 0 1 1 0 1 ∷ line 1 0 1 2 0 1 ∷ [])
     (own_line 1 0 4 ∷ [])))) ∷
-    marked 0 (Got 21) ∷ marked 0 (Sent 22 2 (messages.Answer 21 (answers.Granted (grant_with 2 1 []))))
+    marked 0 (Got 21) ∷ marked 0 (Sent 22 2 (messages.Answer 21 (answers.Granted (whole_grant 2 1 []))))
     ∷ marked 2 (Got 22) ∷
     marked 2 (Told (replies.Response 2)) ∷ marked 2 (Called (commands.Do 0 2)) ∷
-    marked 2 (Sent 23 0 (messages.Request (tx 1 1) 1 2 (wants.Read (read_of 0 2)))) ∷ marked 0 (Got 23) ∷
+    marked 2 (Sent 23 0 (messages.Request (tx 1 1) 1 2 (wants.Read (first_read 0 2)))) ∷ marked 0 (Got 23) ∷
     marked 0
-    (Sent 24 2 (messages.Answer 23 (answers.Granted (grant_with 2 1 (line 1 0 1 1 0 1 ∷ line 1 0 1 2 0 1 ∷ []))))) ∷
+    (Sent 24 2 (messages.Answer 23 (answers.Granted (whole_grant 2 1 (line 1 0 1 1 0 1 ∷ line 1 0 1 2 0 1 ∷ []))))) ∷
     marked 2 (Got 24) ∷
     marked 2 (Sent 25 0 (messages.Request (tx 1 1) 1 2 (wants.Append 0 (line 1 0 1 1 0 1 ∷ line 1 0 1 2 0 1 ∷ [])
     (own_line 1 0 4 ∷ own_line 2 0 4 ∷ [])))) ∷
-    marked 0 (Got 25) ∷ marked 0 (Sent 26 2 (messages.Answer 25 (answers.Granted (grant_with 2 1 []))))
+    marked 0 (Got 25) ∷ marked 0 (Sent 26 2 (messages.Answer 25 (answers.Granted (whole_grant 2 1 []))))
     ∷ marked 2 (Got 26) ∷
     marked 2 (Told (replies.Response 2)) ∷ marked 2 (Called (commands.Do 0 0)) ∷
-    marked 2 (Sent 27 0 (messages.Request (tx 1 1) 1 2 (wants.Read (read_of 0 0)))) ∷ marked 0 (Got 27) ∷
+    marked 2 (Sent 27 0 (messages.Request (tx 1 1) 1 2 (wants.Read (first_read 0 0)))) ∷ marked 0 (Got 27) ∷
     marked 0
-    (Sent 28 2 (messages.Answer 27 (answers.Granted (grant_with 2 1 (line 1 0 1 1 0 1 ∷ line 1 0 1 2 0 1 ∷ []))))) ∷
+    (Sent 28 2 (messages.Answer 27 (answers.Granted (whole_grant 2 1 (line 1 0 1 1 0 1 ∷ line 1 0 1 2 0 1 ∷ []))))) ∷
     marked 2 (Got 28) ∷
     marked 2 (Sent 29 0 (messages.Request (tx 1 1) 1 2 (wants.Append 0 (line 1 0 1 1 0 1 ∷ line 1 0 1 2 0 1 ∷ [])
     (own_line 1 0 4 ∷ own_line 2 0 4 ∷ own_line 3 0 0 ∷ [])))) ∷
-    marked 0 (Got 29) ∷ marked 0 (Sent 30 2 (messages.Answer 29 (answers.Granted (grant_with 2 1 []))))
+    marked 0 (Got 29) ∷ marked 0 (Sent 30 2 (messages.Answer 29 (answers.Granted (whole_grant 2 1 []))))
     ∷ marked 2 (Got 30) ∷
     marked 2 (Told (replies.Response 0)) ∷ marked 2 (Called commands.Abort) ∷
     marked 2 (Sent 31 0 (messages.Decision (tx 1 1) outcomes.Aborted)) ∷ marked 2 (Told replies.Dropped) ∷

@@ -16,7 +16,7 @@ use Rattle.qc_msg.specs.declared.record.Record.TheVariants as records
 use Rattle.qc_msg.specs.declared.reply.Reply.TheVariants as replies
 use Rattle.qc_msg.specs.declared.message.Want.TheVariants as wants
 use Rattle.qc_msg.specs.declared.step.Fall.TheVariants as falls
-use Rattle.qc_msg.specs.Vocabulary.{grant_with, read_of}
+use Rattle.qc_msg.specs.Vocabulary.{whole_grant, first_read}
 use Rattle.qc_outside.specs.declared.disk.ArmKind.TheVariants as arms
 
 abbrev pub decl : Declaration
@@ -30,10 +30,10 @@ history =
     marked 5 (Phase 1) ∷ marked 5 (Armed 2 arms.Stop 5) ∷ marked 3 (Fell falls.Script None) ∷
     marked 4 (Fell falls.Script None) ∷ marked 4 (Rose []) ∷ marked 4 (Wrote records.Life) ∷
     marked 2 (Called commands.Begin) ∷ marked 2 (Told (replies.Began (tx 1 1))) ∷ marked 2 (Called (commands.Do 0 0)) ∷
-    marked 2 (Sent 0 0 (messages.Request (tx 1 1) 1 0 (wants.Read (read_of 0 0)))) ∷ marked 0 (Got 0) ∷
-    marked 0 (Sent 1 2 (messages.Answer 0 (answers.Granted (grant_with 1 0 [])))) ∷ marked 2 (Got 1) ∷
+    marked 2 (Sent 0 0 (messages.Request (tx 1 1) 1 0 (wants.Read (first_read 0 0)))) ∷ marked 0 (Got 0) ∷
+    marked 0 (Sent 1 2 (messages.Answer 0 (answers.Granted (whole_grant 1 0 [])))) ∷ marked 2 (Got 1) ∷
     marked 2 (Sent 2 0 (messages.Request (tx 1 1) 1 1 (wants.Append 0 [] (own_line 1 0 0 ∷ [])))) ∷ marked 0 (Got 2) ∷
-    marked 0 (Sent 3 2 (messages.Answer 2 (answers.Granted (grant_with 1 0 [])))) ∷ marked 2 (Got 3) ∷
+    marked 0 (Sent 3 2 (messages.Answer 2 (answers.Granted (whole_grant 1 0 [])))) ∷ marked 2 (Got 3) ∷
     marked 2 (Told (replies.Response 0)) ∷ marked 2 (Called commands.Commit) ∷
     marked 2 (Sent 4 0 (messages.Request (tx 1 1) 1 1 wants.Prepare)) ∷ marked 0 (Got 4) ∷
     marked 0 (Wrote (prepare (tx 1 1) 1 (read_lock 0 0 ∷ []) (own_line 1 0 0 ∷ []) [])) ∷
@@ -46,27 +46,27 @@ history =
     marked 3 (Rose []) ∷ marked 3 (Wrote records.Life) ∷ marked 5 (Armed 4 arms.Stop 7) ∷
     marked 1 (Called commands.Begin) ∷ marked 3 (Called commands.Begin) ∷
     marked 3 (Told (replies.Began (tx_in 2 2 1))) ∷ marked 3 (Called (commands.Do 0 0)) ∷ marked 2 (Got 5) ∷
-    marked 3 (Sent 7 0 (messages.Request (tx_in 2 2 1) 1 0 (wants.Read (read_of 0 0)))) ∷ marked 0 (Got 7) ∷
-    marked 0 (Sent 8 3 (messages.Answer 7 (answers.Granted (grant_with 1 1 (line 1 1 1 1 0 0 ∷ [])))))
+    marked 3 (Sent 7 0 (messages.Request (tx_in 2 2 1) 1 0 (wants.Read (first_read 0 0)))) ∷ marked 0 (Got 7) ∷
+    marked 0 (Sent 8 3 (messages.Answer 7 (answers.Granted (whole_grant 1 1 (line 1 1 1 1 0 0 ∷ [])))))
     ∷ marked 3 (Got 8) ∷
     marked 2 (Called commands.Begin) ∷ marked 1 (Told (replies.Began (tx 0 1))) ∷ marked 1 (Called (commands.Do 1 1)) ∷
-    marked 1 (Sent 9 0 (messages.Request (tx 0 1) 1 0 (wants.Read (read_of 1 1)))) ∷ marked 0 (Got 9) ∷
-    marked 0 (Sent 10 1 (messages.Answer 9 (answers.Granted (grant_with 1 1 [])))) ∷ marked 1 (Got 10) ∷
+    marked 1 (Sent 9 0 (messages.Request (tx 0 1) 1 0 (wants.Read (first_read 1 1)))) ∷ marked 0 (Got 9) ∷
+    marked 0 (Sent 10 1 (messages.Answer 9 (answers.Granted (whole_grant 1 1 [])))) ∷ marked 1 (Got 10) ∷
     marked 3 (Told replies.Absent) ∷ marked 3 (Called (commands.Do 0 1)) ∷
     marked 2 (Told (replies.Began (tx_in 1 2 1))) ∷
-    marked 3 (Sent 11 0 (messages.Request (tx_in 2 2 1) 1 1 (wants.Read (read_of 0 1)))) ∷ marked 0 (Got 11) ∷
+    marked 3 (Sent 11 0 (messages.Request (tx_in 2 2 1) 1 1 (wants.Read (first_read 0 1)))) ∷ marked 0 (Got 11) ∷
     marked 1 (Told replies.Absent) ∷ marked 2 (Called (commands.Do 0 1)) ∷ marked 1 (Called (commands.Do 0 1)) ∷
-    marked 2 (Sent 12 0 (messages.Request (tx_in 1 2 1) 1 0 (wants.Read (read_of 0 1)))) ∷
-    marked 1 (Sent 13 0 (messages.Request (tx 0 1) 1 1 (wants.Read (read_of 0 1)))) ∷
-    marked 0 (Sent 14 3 (messages.Answer 11 (answers.Granted (grant_with 1 1 (line 1 1 1 1 0 0 ∷ [])))))
+    marked 2 (Sent 12 0 (messages.Request (tx_in 1 2 1) 1 0 (wants.Read (first_read 0 1)))) ∷
+    marked 1 (Sent 13 0 (messages.Request (tx 0 1) 1 1 (wants.Read (first_read 0 1)))) ∷
+    marked 0 (Sent 14 3 (messages.Answer 11 (answers.Granted (whole_grant 1 1 (line 1 1 1 1 0 0 ∷ [])))))
     ∷ marked 3 (Got 14) ∷
     marked 0 (Got 12) ∷
     marked 3 (Sent 15 0 (messages.Request (tx_in 2 2 1) 1 1 (wants.Append 0 (line 1 1 1 1 0 0 ∷ []) (own_line 2 0 1 ∷
     [])))) ∷
-    marked 0 (Sent 16 2 (messages.Answer 12 (answers.Granted (grant_with 1 1 (line 1 1 1 1 0 0 ∷ [])))))
+    marked 0 (Sent 16 2 (messages.Answer 12 (answers.Granted (whole_grant 1 1 (line 1 1 1 1 0 0 ∷ [])))))
     ∷ marked 2 (Got 16) ∷
     marked 0 (Got 13)
-    ∷ marked 0 (Sent 17 1 (messages.Answer 13 (answers.Granted (grant_with 1 1 (line 1 1 1 1 0 0 ∷ []))))) ∷
+    ∷ marked 0 (Sent 17 1 (messages.Answer 13 (answers.Granted (whole_grant 1 1 (line 1 1 1 1 0 0 ∷ []))))) ∷
     marked 0 (Got 15) ∷ marked 1 (Got 17) ∷
     marked 1 (Sent 18 0 (messages.Request (tx 0 1) 1 1 (wants.Append 0 (line 1 1 1 1 0 0 ∷ []) (own_line 2 0 1 ∷ []))))
     ∷

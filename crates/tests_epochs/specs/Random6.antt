@@ -18,7 +18,7 @@ use Rattle.qc_msg.specs.declared.record.Record.TheVariants as records
 use Rattle.qc_msg.specs.declared.reply.Reply.TheVariants as replies
 use Rattle.qc_msg.specs.declared.message.Want.TheVariants as wants
 use Rattle.qc_msg.specs.declared.step.Fall.TheVariants as falls
-use Rattle.qc_msg.specs.Vocabulary.{grant_with, read_of}
+use Rattle.qc_msg.specs.Vocabulary.{whole_grant, first_read}
 
 abbrev pub decl : Declaration
 decl =
@@ -32,15 +32,16 @@ abbrev pub history : List Entry
 history =
     marked 5 (Phase 1) ∷ marked 4 (Fell falls.Script None) ∷ marked 3 (Called commands.Begin) ∷
     marked 3 (Told (replies.Began (tx 0 1))) ∷ marked 3 (Called (commands.Do 0 0)) ∷
-    marked 3 (Sent 0 0 (messages.Request (tx 0 1) 1 0 (wants.Read (read_of 0 0)))) ∷
-    marked 3 (Sent 1 1 (messages.Request (tx 0 1) 1 0 (wants.Read (read_of 0 0)))) ∷ marked 1 (Got 1) ∷ marked 0 (Got 0)
+    marked 3 (Sent 0 0 (messages.Request (tx 0 1) 1 0 (wants.Read (first_read 0 0)))) ∷
+    marked 3 (Sent 1 1 (messages.Request (tx 0 1) 1 0 (wants.Read (first_read 0 0)))) ∷ marked 1 (Got 1) ∷
+    marked 0 (Got 0)
     ∷
-    marked 1 (Sent 2 3 (messages.Answer 1 (answers.Granted (grant_with 1 0 [])))) ∷ marked 3 (Got 2) ∷
-    marked 0 (Sent 3 3 (messages.Answer 0 (answers.Granted (grant_with 1 0 [])))) ∷ marked 3 (Got 3) ∷
+    marked 1 (Sent 2 3 (messages.Answer 1 (answers.Granted (whole_grant 1 0 [])))) ∷ marked 3 (Got 2) ∷
+    marked 0 (Sent 3 3 (messages.Answer 0 (answers.Granted (whole_grant 1 0 [])))) ∷ marked 3 (Got 3) ∷
     marked 3 (Sent 4 0 (messages.Request (tx 0 1) 1 1 (wants.Append 0 [] (own_line 1 0 0 ∷ [])))) ∷
     marked 3 (Sent 5 1 (messages.Request (tx 0 1) 1 1 (wants.Append 0 [] (own_line 1 0 0 ∷ [])))) ∷ marked 1 (Got 5) ∷
-    marked 0 (Got 4) ∷ marked 1 (Sent 6 3 (messages.Answer 5 (answers.Granted (grant_with 1 0 [])))) ∷
-    marked 0 (Sent 7 3 (messages.Answer 4 (answers.Granted (grant_with 1 0 [])))) ∷ marked 3 (Got 6) ∷ marked 3 (Got 7)
+    marked 0 (Got 4) ∷ marked 1 (Sent 6 3 (messages.Answer 5 (answers.Granted (whole_grant 1 0 [])))) ∷
+    marked 0 (Sent 7 3 (messages.Answer 4 (answers.Granted (whole_grant 1 0 [])))) ∷ marked 3 (Got 6) ∷ marked 3 (Got 7)
     ∷
     marked 3 (Told (replies.Response 0)) ∷ marked 3 (Called (commands.Do 1 0)) ∷ marked 3 (Told (replies.Response 0)) ∷
     marked 3 (Called (commands.Do 1 0)) ∷ marked 3 (Told (replies.Response 0)) ∷ marked 3 (Called commands.Commit) ∷
@@ -68,17 +69,17 @@ history =
     marked 1 (Fell falls.Disk (Some records.Life)) ∷ marked 4 (Fell falls.Script None) ∷
     marked 4 (Rose (records.Life ∷ [])) ∷ marked 4 (Wrote records.Life) ∷ marked 3 (Called commands.Begin) ∷
     marked 3 (Told (replies.Began (tx_in 0 2 1))) ∷ marked 3 (Called (commands.Do 0 1)) ∷
-    marked 3 (Sent 12 0 (messages.Request (tx_in 0 2 1) 1 0 (wants.Read (read_of 0 1)))) ∷
-    marked 3 (Sent 13 1 (messages.Request (tx_in 0 2 1) 1 0 (wants.Read (read_of 0 1)))) ∷ marked 3 (Lost 13) ∷
+    marked 3 (Sent 12 0 (messages.Request (tx_in 0 2 1) 1 0 (wants.Read (first_read 0 1)))) ∷
+    marked 3 (Sent 13 1 (messages.Request (tx_in 0 2 1) 1 0 (wants.Read (first_read 0 1)))) ∷ marked 3 (Lost 13) ∷
     marked 0 (Got 12) ∷ marked 0 (Sent 14 3 (messages.Answer 12 (answers.Clash (tx 0 1) 1 0))) ∷
     marked 0 (Sent 15 3 (messages.Inquiry (tx 0 1))) ∷ marked 3 (Got 14) ∷
     marked 3 (Told (replies.Conflict (tx 0 1) 0)) ∷ marked 3 (Got 15) ∷
     marked 3 (Sent 16 0 (messages.Decision (tx 0 1) outcomes.Aborted)) ∷ marked 3 (Called (commands.Do 1 0)) ∷
     marked 3 (Told (replies.Response 0)) ∷ marked 3 (Called (commands.Do 0 0)) ∷
-    marked 3 (Sent 17 0 (messages.Request (tx_in 0 2 1) 1 0 (wants.Read (read_of 0 0)))) ∷
-    marked 3 (Sent 18 1 (messages.Request (tx_in 0 2 1) 1 0 (wants.Read (read_of 0 0)))) ∷ marked 3 (Lost 18) ∷
+    marked 3 (Sent 17 0 (messages.Request (tx_in 0 2 1) 1 0 (wants.Read (first_read 0 0)))) ∷
+    marked 3 (Sent 18 1 (messages.Request (tx_in 0 2 1) 1 0 (wants.Read (first_read 0 0)))) ∷ marked 3 (Lost 18) ∷
     marked 0 (Got 16) ∷ marked 0 (Got 17)
-    ∷ marked 0 (Sent 19 3 (messages.Answer 17 (answers.Granted (grant_with 1 0 [])))) ∷
+    ∷ marked 0 (Sent 19 3 (messages.Answer 17 (answers.Granted (whole_grant 1 0 [])))) ∷
     marked 3 (Got 19) ∷ marked 3 (Told (replies.Quorum halves.Read 1 2)) ∷ marked 5 (Phase 6) ∷
     marked 3 (Called commands.Commit) ∷ marked 3 (Sent 20 0 (messages.Request (tx_in 0 2 1) 1 1 wants.Prepare)) ∷
     marked 0 (Got 20) ∷ marked 0 (Sent 21 3 (messages.Answer 20 answers.Fault)) ∷

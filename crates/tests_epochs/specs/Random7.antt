@@ -15,7 +15,7 @@ use Rattle.qc_msg.specs.declared.record.Record.TheVariants as records
 use Rattle.qc_msg.specs.declared.reply.Reply.TheVariants as replies
 use Rattle.qc_msg.specs.declared.message.Want.TheVariants as wants
 use Rattle.qc_msg.specs.declared.step.Fall.TheVariants as falls
-use Rattle.qc_msg.specs.Vocabulary.{grant_with, read_of, snapshot_with, start_with}
+use Rattle.qc_msg.specs.Vocabulary.{whole_grant, first_read, snapshot_with, start_with}
 use Rattle.qc_outside.specs.declared.disk.ArmKind.TheVariants as arms
 
 abbrev pub decl : Declaration
@@ -42,7 +42,7 @@ history =
     marked 6 (Sent 5 1 (messages.Request (tx 1 2) 1 0 (wants.Append 0 [] (own_line 1 0 4 ∷ [])))) ∷
     marked 6 (Sent 6 2 (messages.Request (tx 1 2) 1 0 (wants.Append 0 [] (own_line 1 0 4 ∷ [])))) ∷
     marked 6 (Sent 7 3 (messages.Request (tx 1 2) 1 0 (wants.Append 0 [] (own_line 1 0 4 ∷ [])))) ∷ marked 3 (Got 7) ∷
-    marked 8 (Got 3) ∷ marked 3 (Sent 8 6 (messages.Answer 7 (answers.Granted (grant_with 1 0 [])))) ∷ marked 2 (Got 6)
+    marked 8 (Got 3) ∷ marked 3 (Sent 8 6 (messages.Answer 7 (answers.Granted (whole_grant 1 0 [])))) ∷ marked 2 (Got 6)
     ∷
     marked 2 (Sent 9 6 (messages.Answer 6 (answers.Closed 2))) ∷ marked 6 (Got 8) ∷ marked 8 (Got 4) ∷
     marked 8 (Lost 1) ∷ marked 8 (Sent 10 3 (messages.Close 2)) ∷ marked 3 (Got 10) ∷ marked 6 (Got 9) ∷
@@ -69,9 +69,9 @@ history =
     marked 5 (Sent 20 1 (messages.Request (tx 0 1) 1 0 (wants.Append 0 [] (own_line 1 0 4 ∷ [])))) ∷
     marked 5 (Sent 21 2 (messages.Request (tx 0 1) 1 0 (wants.Append 0 [] (own_line 1 0 4 ∷ [])))) ∷ marked 0 (Got 19) ∷
     marked 0 (Sent 22 5 (messages.Answer 19 (answers.Closed 2))) ∷
-    marked 7 (Sent 23 2 (messages.Request (tx 2 1) 1 0 (wants.Read (read_of 0 0)))) ∷
-    marked 7 (Sent 24 3 (messages.Request (tx 2 1) 1 0 (wants.Read (read_of 0 0)))) ∷
-    marked 7 (Sent 25 4 (messages.Request (tx 2 1) 1 0 (wants.Read (read_of 0 0)))) ∷ marked 5 (Got 22)
+    marked 7 (Sent 23 2 (messages.Request (tx 2 1) 1 0 (wants.Read (first_read 0 0)))) ∷
+    marked 7 (Sent 24 3 (messages.Request (tx 2 1) 1 0 (wants.Read (first_read 0 0)))) ∷
+    marked 7 (Sent 25 4 (messages.Request (tx 2 1) 1 0 (wants.Read (first_read 0 0)))) ∷ marked 5 (Got 22)
     ∷ marked 7 (Lost 23) ∷
     marked 3 (Got 24) ∷ marked 3 (Sent 26 7 (messages.Answer 24 (answers.Closed 2))) ∷ marked 5 (Lost 20) ∷
     marked 7 (Got 26) ∷ marked 5 (Lost 21) ∷ marked 5 (Told (replies.Closed 2 0)) ∷ marked 7 (Lost 25) ∷

@@ -16,7 +16,7 @@ use Rattle.qc_msg.specs.declared.record.Record.TheVariants as records
 use Rattle.qc_msg.specs.declared.reply.Reply.TheVariants as replies
 use Rattle.qc_msg.specs.declared.message.Want.TheVariants as wants
 use Rattle.qc_msg.specs.declared.step.Fall.TheVariants as falls
-use Rattle.qc_msg.specs.Vocabulary.{grant_with, read_of, snapshot_with, start_with}
+use Rattle.qc_msg.specs.Vocabulary.{whole_grant, first_read, snapshot_with, start_with}
 use Rattle.qc_outside.specs.declared.disk.ArmKind.TheVariants as arms
 
 abbrev pub decl : Declaration
@@ -31,9 +31,9 @@ history =
     marked 7 (Phase 1) ∷ marked 7 (Armed 5 arms.Fail 3) ∷ marked 3 (Called commands.Begin) ∷
     marked 3 (Told (replies.Began (tx 1 1))) ∷ marked 3 (Called (commands.Do 0 0)) ∷ marked 2 (Called commands.Begin) ∷
     marked 2 (Told (replies.Began (tx 0 1)))
-    ∷ marked 3 (Sent 0 1 (messages.Request (tx 1 1) 1 0 (wants.Read (read_of 0 0)))) ∷
+    ∷ marked 3 (Sent 0 1 (messages.Request (tx 1 1) 1 0 (wants.Read (first_read 0 0)))) ∷
     marked 1 (Got 0) ∷ marked 5 (Called commands.Begin) ∷ marked 5 (Told (replies.Began (tx 3 1))) ∷
-    marked 1 (Sent 1 3 (messages.Answer 0 (answers.Granted (grant_with 1 0 [])))) ∷ marked 5 (Called (commands.Do 0 2))
+    marked 1 (Sent 1 3 (messages.Answer 0 (answers.Granted (whole_grant 1 0 [])))) ∷ marked 5 (Called (commands.Do 0 2))
     ∷
     marked 5 (Sent 2 1 (messages.Request (tx 3 1) 1 0 (wants.Append 0 [] (own_line 1 0 4 ∷ [])))) ∷
     marked 2 (Called (commands.Do 0 2)) ∷ marked 3 (Got 1) ∷
@@ -43,9 +43,10 @@ history =
     marked 3 (Sent 6 1 (messages.Decision (tx 1 1) outcomes.Active)) ∷ marked 5 (Got 4) ∷
     marked 2 (Sent 7 0 (messages.Request (tx 0 1) 1 0 (wants.Append 0 [] (own_line 1 0 4 ∷ [])))) ∷
     marked 2 (Sent 8 1 (messages.Request (tx 0 1) 1 0 (wants.Append 0 [] (own_line 1 0 4 ∷ [])))) ∷ marked 0 (Got 7) ∷
-    marked 1 (Got 3) ∷ marked 1 (Sent 9 3 (messages.Answer 3 (answers.Granted (grant_with 1 0 [])))) ∷ marked 1 (Got 6)
+    marked 1 (Got 3) ∷ marked 1 (Sent 9 3 (messages.Answer 3 (answers.Granted (whole_grant 1 0 [])))) ∷ marked 1 (Got 6)
     ∷
-    marked 0 (Sent 10 2 (messages.Answer 7 (answers.Granted (grant_with 1 0 [])))) ∷ marked 1 (Got 8) ∷ marked 3 (Got 9)
+    marked 0 (Sent 10 2 (messages.Answer 7 (answers.Granted (whole_grant 1 0 [])))) ∷ marked 1 (Got 8) ∷
+    marked 3 (Got 9)
     ∷
     marked 3 (Told (replies.Response 0)) ∷ marked 3 (Called commands.Commit) ∷
     marked 1 (Sent 11 2 (messages.Answer 8 (answers.Clash (tx 1 1) 0 4))) ∷
@@ -69,8 +70,8 @@ history =
     marked 0 (Sent 21 6 (messages.Answer 19 answers.Fault)) ∷ marked 0 (Fell falls.Disk (Some (records.Close 2))) ∷
     marked 1 (Got 20) ∷ marked 6 (Got 21) ∷ marked 2 (Called commands.Begin) ∷
     marked 2 (Told (replies.Began (tx 0 2))) ∷ marked 2 (Called (commands.Do 0 1)) ∷
-    marked 2 (Sent 22 0 (messages.Request (tx 0 2) 1 0 (wants.Read (read_of 0 1)))) ∷
-    marked 2 (Sent 23 1 (messages.Request (tx 0 2) 1 0 (wants.Read (read_of 0 1)))) ∷ marked 2 (Lost 22) ∷
+    marked 2 (Sent 22 0 (messages.Request (tx 0 2) 1 0 (wants.Read (first_read 0 1)))) ∷
+    marked 2 (Sent 23 1 (messages.Request (tx 0 2) 1 0 (wants.Read (first_read 0 1)))) ∷ marked 2 (Lost 22) ∷
     marked 1 (Wrote (records.Close 2)) ∷
     marked 1 (Sent 24 6 (messages.Answer 20 (answers.Shut (snapshot_with 1 (line 1 1 1 1 0 0 ∷ []) []))))
     ∷ marked 1 (Got 23) ∷
@@ -82,13 +83,13 @@ history =
     marked 1 (Wrote (records.Install (start_with 2 1 (line 1 1 1 1 0 0 ∷ [])))) ∷
     marked 1 (Sent 28 6 (messages.Answer 26 answers.Installed)) ∷ marked 6 (Got 28) ∷
     marked 6 (Told (replies.Moved 2 2))
-    ∷ marked 2 (Sent 29 0 (messages.Request (tx 0 2) 1 0 (wants.Read (read_of 0 1)))) ∷
-    marked 2 (Sent 30 1 (messages.Request (tx 0 2) 1 0 (wants.Read (read_of 0 1)))) ∷ marked 1 (Got 30)
+    ∷ marked 2 (Sent 29 0 (messages.Request (tx 0 2) 1 0 (wants.Read (first_read 0 1)))) ∷
+    marked 2 (Sent 30 1 (messages.Request (tx 0 2) 1 0 (wants.Read (first_read 0 1)))) ∷ marked 1 (Got 30)
     ∷ marked 2 (Lost 29) ∷
     marked 1 (Sent 31 2 (messages.Answer 30 (answers.Closed 2))) ∷ marked 2 (Got 31) ∷
     marked 2 (Told (replies.Closed 2 1)) ∷ marked 2 (Called (commands.Do 0 1)) ∷
-    marked 2 (Sent 32 0 (messages.Request (tx 0 2) 1 0 (wants.Read (read_of 0 1)))) ∷
-    marked 2 (Sent 33 1 (messages.Request (tx 0 2) 1 0 (wants.Read (read_of 0 1)))) ∷ marked 1 (Got 33)
+    marked 2 (Sent 32 0 (messages.Request (tx 0 2) 1 0 (wants.Read (first_read 0 1)))) ∷
+    marked 2 (Sent 33 1 (messages.Request (tx 0 2) 1 0 (wants.Read (first_read 0 1)))) ∷ marked 1 (Got 33)
     ∷ marked 2 (Lost 32) ∷
     marked 1 (Sent 34 2 (messages.Answer 33 (answers.Closed 2))) ∷ marked 2 (Got 34) ∷
     marked 2 (Told (replies.Closed 2 1)) ∷ []

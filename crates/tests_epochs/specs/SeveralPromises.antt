@@ -12,7 +12,7 @@ use Rattle.qc_msg.specs.declared.message.Outcome.TheVariants as outcomes
 use Rattle.qc_msg.specs.declared.record.Record.TheVariants as records
 use Rattle.qc_msg.specs.declared.reply.Reply.TheVariants as replies
 use Rattle.qc_msg.specs.declared.message.Want.TheVariants as wants
-use Rattle.qc_msg.specs.Vocabulary.{grant_with, read_of, snapshot_with, start_with}
+use Rattle.qc_msg.specs.Vocabulary.{whole_grant, first_read, snapshot_with, start_with}
 
 abbrev pub history : List Entry
 history =
@@ -20,8 +20,8 @@ history =
     marked 5 (Called (commands.Do 0 2)) ∷
     marked 5 (Sent 0 2 (messages.Request (tx 2 1) 1 0 (wants.Append 0 [] (own_line 1 0 3 ∷ [])))) ∷
     marked 5 (Sent 1 0 (messages.Request (tx 2 1) 1 0 (wants.Append 0 [] (own_line 1 0 3 ∷ [])))) ∷ marked 2 (Got 0) ∷
-    marked 2 (Sent 2 5 (messages.Answer 0 (answers.Granted (grant_with 1 0 [])))) ∷ marked 0 (Got 1) ∷
-    marked 0 (Sent 3 5 (messages.Answer 1 (answers.Granted (grant_with 1 0 [])))) ∷ marked 5 (Got 2) ∷ marked 5 (Got 3)
+    marked 2 (Sent 2 5 (messages.Answer 0 (answers.Granted (whole_grant 1 0 [])))) ∷ marked 0 (Got 1) ∷
+    marked 0 (Sent 3 5 (messages.Answer 1 (answers.Granted (whole_grant 1 0 [])))) ∷ marked 5 (Got 2) ∷ marked 5 (Got 3)
     ∷
     marked 5 (Told (replies.Response 2)) ∷ marked 5 (Called commands.Commit) ∷
     marked 5 (Sent 4 2 (messages.Request (tx 2 1) 1 1 wants.Prepare)) ∷
@@ -38,8 +38,8 @@ history =
     marked 4 (Called (commands.Do 0 1)) ∷
     marked 4 (Sent 10 1 (messages.Request (tx 1 1) 1 0 (wants.Append 0 [] (own_line 1 0 2 ∷ [])))) ∷
     marked 4 (Sent 11 2 (messages.Request (tx 1 1) 1 0 (wants.Append 0 [] (own_line 1 0 2 ∷ [])))) ∷ marked 1 (Got 10) ∷
-    marked 1 (Sent 12 4 (messages.Answer 10 (answers.Granted (grant_with 1 0 [])))) ∷ marked 2 (Got 11) ∷
-    marked 2 (Sent 13 4 (messages.Answer 11 (answers.Granted (grant_with 1 1 [])))) ∷ marked 4 (Got 12)
+    marked 1 (Sent 12 4 (messages.Answer 10 (answers.Granted (whole_grant 1 0 [])))) ∷ marked 2 (Got 11) ∷
+    marked 2 (Sent 13 4 (messages.Answer 11 (answers.Granted (whole_grant 1 1 [])))) ∷ marked 4 (Got 12)
     ∷ marked 4 (Got 13) ∷
     marked 4 (Told (replies.Response 2)) ∷ marked 4 (Called commands.Commit) ∷
     marked 4 (Sent 14 1 (messages.Request (tx 1 1) 1 1 wants.Prepare)) ∷
@@ -56,8 +56,8 @@ history =
     marked 3 (Called (commands.Do 0 2)) ∷
     marked 3 (Sent 20 0 (messages.Request (tx 0 1) 1 0 (wants.Append 0 [] (own_line 1 0 3 ∷ [])))) ∷
     marked 3 (Sent 21 1 (messages.Request (tx 0 1) 1 0 (wants.Append 0 [] (own_line 1 0 3 ∷ [])))) ∷ marked 0 (Got 20) ∷
-    marked 0 (Sent 22 3 (messages.Answer 20 (answers.Granted (grant_with 1 0 [])))) ∷ marked 1 (Got 21) ∷
-    marked 1 (Sent 23 3 (messages.Answer 21 (answers.Granted (grant_with 1 0 [])))) ∷ marked 3 (Got 22)
+    marked 0 (Sent 22 3 (messages.Answer 20 (answers.Granted (whole_grant 1 0 [])))) ∷ marked 1 (Got 21) ∷
+    marked 1 (Sent 23 3 (messages.Answer 21 (answers.Granted (whole_grant 1 0 [])))) ∷ marked 3 (Got 22)
     ∷ marked 3 (Got 23) ∷
     marked 3 (Told (replies.Response 2)) ∷ marked 3 (Called commands.Commit) ∷
     marked 3 (Sent 24 0 (messages.Request (tx 0 1) 1 1 wants.Prepare)) ∷
@@ -92,8 +92,8 @@ history =
     marked 2 (Sent 44 6 (messages.Answer 41 answers.Installed)) ∷ marked 6 (Got 42) ∷ marked 6 (Got 43) ∷
     marked 6 (Got 44) ∷ marked 6 (Told (replies.Moved 3 7)) ∷ marked 7 (Phase 5) ∷ marked 4 (Called commands.Begin) ∷
     marked 4 (Told (replies.Began (tx 1 2))) ∷ marked 4 (Called (commands.Do 0 0)) ∷
-    marked 4 (Sent 45 1 (messages.Request (tx 1 2) 1 0 (wants.Read (read_of 0 0)))) ∷
-    marked 4 (Sent 46 2 (messages.Request (tx 1 2) 1 0 (wants.Read (read_of 0 0)))) ∷ marked 1 (Got 45) ∷
+    marked 4 (Sent 45 1 (messages.Request (tx 1 2) 1 0 (wants.Read (first_read 0 0)))) ∷
+    marked 4 (Sent 46 2 (messages.Request (tx 1 2) 1 0 (wants.Read (first_read 0 0)))) ∷ marked 1 (Got 45) ∷
     marked 1 (Sent 47 4 (messages.Answer 45 (answers.Closed 2))) ∷ marked 2 (Got 46) ∷
     marked 2 (Sent 48 4 (messages.Answer 46 (answers.Closed 2))) ∷ marked 4 (Got 47) ∷ marked 4 (Got 48) ∷
     marked 4 (Told (replies.Closed 2 1)) ∷ marked 4 (Called commands.Abort) ∷
@@ -101,9 +101,9 @@ history =
     marked 4 (Sent 50 2 (messages.Decision (tx 1 2) outcomes.Aborted)) ∷ marked 4 (Told replies.Dropped) ∷
     marked 1 (Got 49) ∷ marked 2 (Got 50) ∷ marked 4 (Called commands.Begin) ∷
     marked 4 (Told (replies.Began (tx 1 3))) ∷ marked 4 (Called (commands.Do 0 0)) ∷
-    marked 4 (Sent 51 1 (messages.Request (tx 1 3) 2 0 (wants.Read (read_of 0 0)))) ∷ marked 1 (Got 51) ∷
+    marked 4 (Sent 51 1 (messages.Request (tx 1 3) 2 0 (wants.Read (first_read 0 0)))) ∷ marked 1 (Got 51) ∷
     marked 1
-    (Sent 52 4 (messages.Answer 51 (answers.Granted (grant_with 2 2 (line 1 2 1 1 0 3 ∷ line 2 1 1 1 0 2 ∷ []))))) ∷
+    (Sent 52 4 (messages.Answer 51 (answers.Granted (whole_grant 2 2 (line 1 2 1 1 0 3 ∷ line 2 1 1 1 0 2 ∷ []))))) ∷
     marked 4 (Got 52) ∷ marked 4 (Told (replies.Response 0)) ∷ marked 4 (Called commands.Commit) ∷
     marked 4 (Sent 53 1 (messages.Request (tx 1 3) 2 2 wants.Prepare)) ∷ marked 1 (Got 53) ∷
     marked 1 (Wrote (prepare (tx 1 3) 2 (read_lock 0 0 ∷ []) [] [])) ∷

@@ -12,7 +12,7 @@ use Rattle.qc_msg.specs.declared.record.Record.TheVariants as records
 use Rattle.qc_msg.specs.declared.reply.Reply.TheVariants as replies
 use Rattle.qc_msg.specs.declared.message.Want.TheVariants as wants
 use Rattle.qc_msg.specs.declared.step.Fall.TheVariants as falls
-use Rattle.qc_msg.specs.Vocabulary.{grant_with, read_of, snapshot_with, start_with}
+use Rattle.qc_msg.specs.Vocabulary.{whole_grant, first_read, snapshot_with, start_with}
 
 abbrev pub history : List Entry
 history =
@@ -24,10 +24,10 @@ history =
     marked 6 (Told (replies.Quorum halves.Close 1 2)) ∷ marked 7 (Phase 2) ∷ marked 0 (Fell falls.Script None) ∷
     marked 0 (Rose ((records.Close 2) ∷ [])) ∷ marked 0 (Wrote records.Life) ∷ marked 3 (Called commands.Begin) ∷
     marked 3 (Told (replies.Began (tx 0 1))) ∷ marked 3 (Called (commands.Do 0 0)) ∷
-    marked 3 (Sent 4 0 (messages.Request (tx 0 1) 1 0 (wants.Read (read_of 0 0)))) ∷
-    marked 3 (Sent 5 1 (messages.Request (tx 0 1) 1 0 (wants.Read (read_of 0 0)))) ∷ marked 0 (Got 4) ∷
+    marked 3 (Sent 4 0 (messages.Request (tx 0 1) 1 0 (wants.Read (first_read 0 0)))) ∷
+    marked 3 (Sent 5 1 (messages.Request (tx 0 1) 1 0 (wants.Read (first_read 0 0)))) ∷ marked 0 (Got 4) ∷
     marked 0 (Sent 6 3 (messages.Answer 4 (answers.Closed 2))) ∷ marked 1 (Got 5) ∷
-    marked 1 (Sent 7 3 (messages.Answer 5 (answers.Granted (grant_with 1 0 [])))) ∷ marked 3 (Got 6) ∷ marked 3 (Got 7)
+    marked 1 (Sent 7 3 (messages.Answer 5 (answers.Granted (whole_grant 1 0 [])))) ∷ marked 3 (Got 6) ∷ marked 3 (Got 7)
     ∷
     marked 3 (Told (replies.Closed 2 0)) ∷ marked 7 (Phase 3) ∷ marked 7 (Heal 1 6) ∷
     marked 6 (Called (commands.Epoch 2)) ∷ marked 6 (Sent 8 0 (messages.Close 2)) ∷

@@ -11,7 +11,7 @@ use Rattle.qc_msg.specs.declared.message.Outcome.TheVariants as outcomes
 use Rattle.qc_msg.specs.declared.record.Record.TheVariants as records
 use Rattle.qc_msg.specs.declared.reply.Reply.TheVariants as replies
 use Rattle.qc_msg.specs.declared.message.Want.TheVariants as wants
-use Rattle.qc_msg.specs.Vocabulary.{grant_with, read_of, snapshot_with, start_with}
+use Rattle.qc_msg.specs.Vocabulary.{whole_grant, first_read, snapshot_with, start_with}
 
 abbrev pub history : List Entry
 history =
@@ -23,10 +23,10 @@ history =
     marked 3 (Called commands.Begin) ∷ marked 3 (Told (replies.Began (tx 0 3))) ∷ marked 3 (Called commands.Commit) ∷
     marked 3 (Wrote (commit (stamp 3 0) (tx 0 3) [])) ∷ marked 3 (Told (replies.Committed (stamp 3 0))) ∷
     marked 3 (Called commands.Begin) ∷ marked 3 (Told (replies.Began (tx 0 4))) ∷ marked 3 (Called (commands.Do 0 0)) ∷
-    marked 3 (Sent 0 0 (messages.Request (tx 0 4) 1 0 (wants.Read (read_of 0 0)))) ∷
-    marked 3 (Sent 1 1 (messages.Request (tx 0 4) 1 0 (wants.Read (read_of 0 0)))) ∷ marked 0 (Got 0) ∷
-    marked 0 (Sent 2 3 (messages.Answer 0 (answers.Granted (grant_with 1 0 [])))) ∷ marked 1 (Got 1) ∷
-    marked 1 (Sent 3 3 (messages.Answer 1 (answers.Granted (grant_with 1 0 [])))) ∷ marked 3 (Got 2) ∷ marked 3 (Got 3)
+    marked 3 (Sent 0 0 (messages.Request (tx 0 4) 1 0 (wants.Read (first_read 0 0)))) ∷
+    marked 3 (Sent 1 1 (messages.Request (tx 0 4) 1 0 (wants.Read (first_read 0 0)))) ∷ marked 0 (Got 0) ∷
+    marked 0 (Sent 2 3 (messages.Answer 0 (answers.Granted (whole_grant 1 0 [])))) ∷ marked 1 (Got 1) ∷
+    marked 1 (Sent 3 3 (messages.Answer 1 (answers.Granted (whole_grant 1 0 [])))) ∷ marked 3 (Got 2) ∷ marked 3 (Got 3)
     ∷
     marked 3 (Told (replies.Response 0)) ∷ marked 3 (Called commands.Commit) ∷
     marked 3 (Sent 4 0 (messages.Request (tx 0 4) 1 1 wants.Prepare)) ∷
@@ -72,9 +72,9 @@ history =
     marked 4 (Sent 28 1 (messages.Request (tx 1 2) 2 0 (wants.Append 0 [] (own_line 1 0 3 ∷ [])))) ∷
     marked 4 (Sent 29 2 (messages.Request (tx 1 2) 2 0 (wants.Append 0 [] (own_line 1 0 3 ∷ [])))) ∷
     marked 4 (Sent 30 0 (messages.Request (tx 1 2) 2 0 (wants.Append 0 [] (own_line 1 0 3 ∷ [])))) ∷ marked 1 (Got 28) ∷
-    marked 1 (Sent 31 4 (messages.Answer 28 (answers.Granted (grant_with 2 4 [])))) ∷ marked 2 (Got 29) ∷
-    marked 2 (Sent 32 4 (messages.Answer 29 (answers.Granted (grant_with 1 4 [])))) ∷ marked 0 (Got 30) ∷
-    marked 0 (Sent 33 4 (messages.Answer 30 (answers.Granted (grant_with 2 4 [])))) ∷ marked 4 (Got 31)
+    marked 1 (Sent 31 4 (messages.Answer 28 (answers.Granted (whole_grant 2 4 [])))) ∷ marked 2 (Got 29) ∷
+    marked 2 (Sent 32 4 (messages.Answer 29 (answers.Granted (whole_grant 1 4 [])))) ∷ marked 0 (Got 30) ∷
+    marked 0 (Sent 33 4 (messages.Answer 30 (answers.Granted (whole_grant 2 4 [])))) ∷ marked 4 (Got 31)
     ∷ marked 4 (Got 32) ∷
     marked 4 (Got 33) ∷ marked 4 (Told (replies.Response 2)) ∷ marked 4 (Called commands.Commit) ∷
     marked 4 (Sent 34 1 (messages.Request (tx 1 2) 2 2 wants.Prepare)) ∷

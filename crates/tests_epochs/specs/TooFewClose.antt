@@ -11,7 +11,7 @@ use Rattle.qc_msg.specs.declared.message.Outcome.TheVariants as outcomes
 use Rattle.qc_msg.specs.declared.record.Record.TheVariants as records
 use Rattle.qc_msg.specs.declared.reply.Reply.TheVariants as replies
 use Rattle.qc_msg.specs.declared.message.Want.TheVariants as wants
-use Rattle.qc_msg.specs.Vocabulary.{grant_with, read_of, snapshot_with, start_with}
+use Rattle.qc_msg.specs.Vocabulary.{whole_grant, first_read, snapshot_with, start_with}
 
 abbrev pub history : List Entry
 history =
@@ -23,8 +23,8 @@ history =
     marked 6 (Told (replies.Quorum halves.Close 1 2)) ∷ marked 3 (Called (commands.Do 0 2)) ∷
     marked 3 (Sent 4 0 (messages.Request (tx 0 1) 1 0 (wants.Append 0 [] (own_line 1 0 3 ∷ [])))) ∷
     marked 3 (Sent 5 1 (messages.Request (tx 0 1) 1 0 (wants.Append 0 [] (own_line 1 0 3 ∷ [])))) ∷ marked 0 (Got 4) ∷
-    marked 0 (Sent 6 3 (messages.Answer 4 (answers.Granted (grant_with 1 0 [])))) ∷ marked 1 (Got 5) ∷
-    marked 1 (Sent 7 3 (messages.Answer 5 (answers.Granted (grant_with 1 0 [])))) ∷ marked 3 (Got 6) ∷ marked 3 (Got 7)
+    marked 0 (Sent 6 3 (messages.Answer 4 (answers.Granted (whole_grant 1 0 [])))) ∷ marked 1 (Got 5) ∷
+    marked 1 (Sent 7 3 (messages.Answer 5 (answers.Granted (whole_grant 1 0 [])))) ∷ marked 3 (Got 6) ∷ marked 3 (Got 7)
     ∷
     marked 3 (Told (replies.Response 2)) ∷ marked 3 (Called commands.Commit) ∷
     marked 3 (Sent 8 0 (messages.Request (tx 0 1) 1 1 wants.Prepare)) ∷
@@ -54,9 +54,9 @@ history =
     marked 2 (Sent 23 6 (messages.Answer 21 answers.Installed)) ∷ marked 6 (Got 22) ∷ marked 6 (Got 23) ∷
     marked 6 (Lost 20) ∷ marked 6 (Told (replies.Moved 5 5)) ∷ marked 7 (Phase 3) ∷ marked 4 (Called commands.Begin) ∷
     marked 4 (Told (replies.Began (tx 1 1))) ∷ marked 4 (Called (commands.Do 0 0)) ∷
-    marked 4 (Sent 24 1 (messages.Request (tx 1 1) 1 0 (wants.Read (read_of 0 0)))) ∷
-    marked 4 (Sent 25 2 (messages.Request (tx 1 1) 1 0 (wants.Read (read_of 0 0)))) ∷ marked 1 (Got 24) ∷
-    marked 1 (Sent 26 4 (messages.Answer 24 (answers.Granted (grant_with 1 1 (line 1 0 1 1 0 3 ∷ [])))))
+    marked 4 (Sent 24 1 (messages.Request (tx 1 1) 1 0 (wants.Read (first_read 0 0)))) ∷
+    marked 4 (Sent 25 2 (messages.Request (tx 1 1) 1 0 (wants.Read (first_read 0 0)))) ∷ marked 1 (Got 24) ∷
+    marked 1 (Sent 26 4 (messages.Answer 24 (answers.Granted (whole_grant 1 1 (line 1 0 1 1 0 3 ∷ [])))))
     ∷ marked 2 (Got 25) ∷
     marked 2 (Sent 27 4 (messages.Answer 25 (answers.Closed 2))) ∷ marked 4 (Got 26) ∷ marked 4 (Got 27) ∷
     marked 4 (Told (replies.Closed 2 2)) ∷ marked 7 (Phase 4) ∷ marked 7 (Heal 6 1) ∷

@@ -10,7 +10,7 @@ use Rattle.qc_msg.specs.declared.message.Outcome.TheVariants as outcomes
 use Rattle.qc_msg.specs.declared.record.Record.TheVariants as records
 use Rattle.qc_msg.specs.declared.reply.Reply.TheVariants as replies
 use Rattle.qc_msg.specs.declared.message.Want.TheVariants as wants
-use Rattle.qc_msg.specs.Vocabulary.{grant_with, read_of, snapshot_with, start_with}
+use Rattle.qc_msg.specs.Vocabulary.{whole_grant, first_read, snapshot_with, start_with}
 use Rattle.tests_epochs.specs.MovedOnce as moved_once
 use Rattle.tests_epochs.specs.StampsPassReads as stamps_pass_reads
 
@@ -18,25 +18,25 @@ use Rattle.tests_epochs.specs.StampsPassReads as stamps_pass_reads
 abbrev pub granted_in_a_closed_epoch : List Entry
 granted_in_a_closed_epoch =
     take 68 moved_once.history ++
-    marked 1 (Sent 22 4 (messages.Answer 20 (answers.Granted (grant_with 2 1 [])))) ∷ []
+    marked 1 (Sent 22 4 (messages.Answer 20 (answers.Granted (whole_grant 2 1 [])))) ∷ []
 
 -- A grant leaves out the lines that the epoch began with.
 abbrev pub granted_without_installed_lines : List Entry
 granted_without_installed_lines =
     take 85 moved_once.history ++
-    marked 1 (Sent 27 4 (messages.Answer 26 (answers.Granted (grant_with 2 1 [])))) ∷ []
+    marked 1 (Sent 27 4 (messages.Answer 26 (answers.Granted (whole_grant 2 1 [])))) ∷ []
 
 -- A grant's clock doesn't pass the epoch's.
 abbrev pub granted_below_installed_clock : List Entry
 granted_below_installed_clock =
     take 102 stamps_pass_reads.history ++
-    marked 1 (Sent 31 4 (messages.Answer 28 (answers.Granted (grant_with 2 0 [])))) ∷ []
+    marked 1 (Sent 31 4 (messages.Answer 28 (answers.Granted (whole_grant 2 0 [])))) ∷ []
 
 -- A site that has closed grants in its first life.
 abbrev pub granted_in_the_first_life : List Entry
 granted_in_the_first_life =
     take 85 moved_once.history ++
-    marked 1 (Sent 27 4 (messages.Answer 26 (answers.Granted (grant_with 1 1 (line 1 0 1 1 0 3 ∷ []))))) ∷ []
+    marked 1 (Sent 27 4 (messages.Answer 26 (answers.Granted (whole_grant 1 1 (line 1 0 1 1 0 3 ∷ []))))) ∷ []
 
 -- A site refuses a read for what was held in the epoch before.
 abbrev pub refused_for_what_was_dropped : List Entry
@@ -59,8 +59,8 @@ refused_for_what_was_dropped =
     marked 2 (Sent 13 6 (messages.Answer 10 answers.Installed)) ∷ marked 6 (Got 11) ∷ marked 6 (Got 12) ∷
     marked 6 (Got 13) ∷ marked 6 (Told (replies.Moved 3 7)) ∷ marked 7 (Phase 3) ∷ marked 4 (Called commands.Begin) ∷
     marked 4 (Told (replies.Began (tx 1 1))) ∷ marked 4 (Called (commands.Do 0 0)) ∷
-    marked 4 (Sent 14 1 (messages.Request (tx 1 1) 1 0 (wants.Read (read_of 0 0)))) ∷
-    marked 4 (Sent 15 2 (messages.Request (tx 1 1) 1 0 (wants.Read (read_of 0 0)))) ∷ marked 1 (Got 14) ∷
+    marked 4 (Sent 14 1 (messages.Request (tx 1 1) 1 0 (wants.Read (first_read 0 0)))) ∷
+    marked 4 (Sent 15 2 (messages.Request (tx 1 1) 1 0 (wants.Read (first_read 0 0)))) ∷ marked 1 (Got 14) ∷
     marked 1 (Sent 16 4 (messages.Answer 14 (answers.Closed 2))) ∷ marked 2 (Got 15) ∷
     marked 2 (Sent 17 4 (messages.Answer 15 (answers.Closed 2))) ∷ marked 4 (Got 16) ∷ marked 4 (Got 17) ∷
     marked 4 (Told (replies.Closed 2 1)) ∷ marked 4 (Called commands.Abort) ∷
@@ -68,5 +68,5 @@ refused_for_what_was_dropped =
     marked 4 (Sent 19 2 (messages.Decision (tx 1 1) outcomes.Aborted)) ∷ marked 4 (Told replies.Dropped) ∷
     marked 1 (Got 18) ∷ marked 2 (Got 19) ∷ marked 4 (Called commands.Begin) ∷
     marked 4 (Told (replies.Began (tx 1 2))) ∷ marked 4 (Called (commands.Do 0 0)) ∷
-    marked 4 (Sent 20 1 (messages.Request (tx 1 2) 2 0 (wants.Read (read_of 0 0)))) ∷ marked 1 (Got 20) ∷
+    marked 4 (Sent 20 1 (messages.Request (tx 1 2) 2 0 (wants.Read (first_read 0 0)))) ∷ marked 1 (Got 20) ∷
     marked 1 (Sent 21 4 (messages.Answer 20 (answers.Clash (tx 0 1) 0 3))) ∷ []

@@ -7,7 +7,7 @@ use Rattle.tests_epochs.specs.Words.{prepared}
 use Rattle.qc_msg.specs.declared.message.Answer.TheVariants as answers
 use Rattle.qc_msg.specs.declared.message.Message.TheVariants as messages
 use Rattle.qc_msg.specs.declared.record.Record.TheVariants as records
-use Rattle.qc_msg.specs.Vocabulary.{grant_with, snapshot_with}
+use Rattle.qc_msg.specs.Vocabulary.{whole_grant, snapshot_with}
 use Rattle.tests_epochs.specs.ShutRises as shut_rises
 use Rattle.tests_epochs.specs.ToldPromiseStays as told_promise_stays
 use Rattle.tests_epochs.specs.ClosedRises as closed_rises
@@ -16,7 +16,7 @@ use Rattle.tests_epochs.specs.ClosedRises as closed_rises
 abbrev pub a_closed_site_grants : List Entry
 a_closed_site_grants =
     take 24 shut_rises.history ++
-    marked 0 (Sent 6 3 (messages.Answer 4 (answers.Granted (grant_with 3 0 [])))) ∷ []
+    marked 0 (Sent 6 3 (messages.Answer 4 (answers.Granted (whole_grant 3 0 [])))) ∷ []
 
 -- A site rises, and its Shut leaves out a promise that it told before.
 abbrev pub a_told_promise_forgotten : List Entry
@@ -43,10 +43,10 @@ closed_again =
 abbrev pub an_epoch_forgotten : List Entry
 an_epoch_forgotten =
     take 94 closed_rises.history ++
-    marked 1 (Sent 28 4 (messages.Answer 26 (answers.Granted (grant_with 2 1 [])))) ∷ []
+    marked 1 (Sent 28 4 (messages.Answer 26 (answers.Granted (whole_grant 2 1 [])))) ∷ []
 
 -- A site rises, and grants without the lines that it installed.
 abbrev pub installed_lines_forgotten : List Entry
 installed_lines_forgotten =
     take 111 closed_rises.history ++
-    marked 1 (Sent 33 4 (messages.Answer 32 (answers.Granted (grant_with 2 1 [])))) ∷ []
+    marked 1 (Sent 33 4 (messages.Answer 32 (answers.Granted (whole_grant 2 1 [])))) ∷ []

@@ -12,7 +12,7 @@ use Rattle.qc_msg.specs.declared.record.Record.TheVariants as records
 use Rattle.qc_msg.specs.declared.reply.Reply.TheVariants as replies
 use Rattle.qc_msg.specs.declared.message.Want.TheVariants as wants
 use Rattle.qc_msg.specs.declared.step.Fall.TheVariants as falls
-use Rattle.qc_msg.specs.Vocabulary.{grant_with, read_of}
+use Rattle.qc_msg.specs.Vocabulary.{whole_grant, first_read}
 use Rattle.qc_outside.specs.declared.disk.ArmKind.TheVariants as arms
 
 abbrev pub moves : List Move
@@ -29,8 +29,8 @@ history =
     marked 3 (Told (replies.Began (tx 0 1))) ∷ marked 3 (Called (commands.Do 0 2)) ∷
     marked 3 (Sent 0 0 (messages.Request (tx 0 1) 1 0 (wants.Append 0 [] (own_line 1 0 3 ∷ [])))) ∷
     marked 3 (Sent 1 1 (messages.Request (tx 0 1) 1 0 (wants.Append 0 [] (own_line 1 0 3 ∷ [])))) ∷ marked 0 (Got 0) ∷
-    marked 0 (Sent 2 3 (messages.Answer 0 (answers.Granted (grant_with 1 0 [])))) ∷ marked 1 (Got 1) ∷
-    marked 1 (Sent 3 3 (messages.Answer 1 (answers.Granted (grant_with 1 0 [])))) ∷ marked 3 (Got 2) ∷ marked 3 (Got 3)
+    marked 0 (Sent 2 3 (messages.Answer 0 (answers.Granted (whole_grant 1 0 [])))) ∷ marked 1 (Got 1) ∷
+    marked 1 (Sent 3 3 (messages.Answer 1 (answers.Granted (whole_grant 1 0 [])))) ∷ marked 3 (Got 2) ∷ marked 3 (Got 3)
     ∷
     marked 3 (Told (replies.Response 2)) ∷ marked 3 (Called commands.Commit) ∷
     marked 3 (Sent 4 0 (messages.Request (tx 0 1) 1 1 wants.Prepare)) ∷
@@ -44,9 +44,9 @@ history =
     marked 0 (Fell falls.Script None) ∷ marked 0 (Rose ((prepare (tx 0 1) 1 [] (own_line 1 0 3 ∷ []) []) ∷ [])) ∷
     marked 0 (Wrote records.Life) ∷ marked 0 (Sent 8 3 (messages.Inquiry (tx 0 1))) ∷ marked 5 (Called commands.Begin) ∷
     marked 5 (Told (replies.Began (tx 2 1))) ∷ marked 5 (Called (commands.Do 0 0)) ∷
-    marked 5 (Sent 9 2 (messages.Request (tx 2 1) 1 0 (wants.Read (read_of 0 0)))) ∷
-    marked 5 (Sent 10 0 (messages.Request (tx 2 1) 1 0 (wants.Read (read_of 0 0)))) ∷ marked 2 (Got 9) ∷
-    marked 2 (Sent 11 5 (messages.Answer 9 (answers.Granted (grant_with 1 0 [])))) ∷ marked 0 (Got 10) ∷
+    marked 5 (Sent 9 2 (messages.Request (tx 2 1) 1 0 (wants.Read (first_read 0 0)))) ∷
+    marked 5 (Sent 10 0 (messages.Request (tx 2 1) 1 0 (wants.Read (first_read 0 0)))) ∷ marked 2 (Got 9) ∷
+    marked 2 (Sent 11 5 (messages.Answer 9 (answers.Granted (whole_grant 1 0 [])))) ∷ marked 0 (Got 10) ∷
     marked 0 (Sent 12 5 (messages.Answer 10 (answers.Clash (tx 0 1) 0 3))) ∷
     marked 0 (Sent 13 3 (messages.Inquiry (tx 0 1))) ∷ marked 5 (Got 11) ∷ marked 5 (Got 12) ∷
     marked 5 (Told (replies.Conflict (tx 0 1) 0)) ∷ []

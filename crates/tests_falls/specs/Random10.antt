@@ -17,7 +17,7 @@ use Rattle.qc_msg.specs.declared.record.Record.TheVariants as records
 use Rattle.qc_msg.specs.declared.reply.Reply.TheVariants as replies
 use Rattle.qc_msg.specs.declared.message.Want.TheVariants as wants
 use Rattle.qc_msg.specs.declared.step.Fall.TheVariants as falls
-use Rattle.qc_msg.specs.Vocabulary.{grant_with, read_of}
+use Rattle.qc_msg.specs.Vocabulary.{whole_grant, first_read}
 
 abbrev pub decl : Declaration
 decl =
@@ -42,17 +42,18 @@ history =
     marked 6 (Phase 1) ∷ marked 1 (Called commands.Begin) ∷ marked 4 (Called commands.Begin) ∷
     marked 4 (Told (replies.Began (tx 3 1))) ∷ marked 4 (Called commands.Abort) ∷
     marked 1 (Told (replies.Began (tx 0 1))) ∷ marked 1 (Called (commands.Do 1 0)) ∷
-    marked 1 (Sent 0 0 (messages.Request (tx 0 1) 1 0 (wants.Read (read_of 1 0)))) ∷ marked 4 (Told replies.Dropped) ∷
-    marked 0 (Got 0) ∷ marked 0 (Sent 1 1 (messages.Answer 0 (answers.Granted (grant_with 1 0 [])))) ∷ marked 1 (Got 1)
+    marked 1 (Sent 0 0 (messages.Request (tx 0 1) 1 0 (wants.Read (first_read 1 0)))) ∷
+    marked 4 (Told replies.Dropped) ∷
+    marked 0 (Got 0) ∷ marked 0 (Sent 1 1 (messages.Answer 0 (answers.Granted (whole_grant 1 0 [])))) ∷ marked 1 (Got 1)
     ∷
     marked 1 (Sent 2 0 (messages.Request (tx 0 1) 1 1 (wants.Append 1 [] (own_line 1 1 0 ∷ [])))) ∷ marked 0 (Got 2) ∷
-    marked 0 (Sent 3 1 (messages.Answer 2 (answers.Granted (grant_with 1 0 [])))) ∷ marked 1 (Got 3) ∷
+    marked 0 (Sent 3 1 (messages.Answer 2 (answers.Granted (whole_grant 1 0 [])))) ∷ marked 1 (Got 3) ∷
     marked 1 (Told (replies.Response 0)) ∷ marked 1 (Called (commands.Do 1 0)) ∷
-    marked 1 (Sent 4 0 (messages.Request (tx 0 1) 1 1 (wants.Read (read_of 1 0)))) ∷ marked 0 (Got 4) ∷
-    marked 0 (Sent 5 1 (messages.Answer 4 (answers.Granted (grant_with 1 0 [])))) ∷ marked 1 (Got 5) ∷
+    marked 1 (Sent 4 0 (messages.Request (tx 0 1) 1 1 (wants.Read (first_read 1 0)))) ∷ marked 0 (Got 4) ∷
+    marked 0 (Sent 5 1 (messages.Answer 4 (answers.Granted (whole_grant 1 0 [])))) ∷ marked 1 (Got 5) ∷
     marked 1 (Told replies.Absent) ∷ marked 1 (Called (commands.Do 1 0)) ∷
-    marked 1 (Sent 6 0 (messages.Request (tx 0 1) 1 1 (wants.Read (read_of 1 0)))) ∷ marked 0 (Got 6) ∷
-    marked 0 (Sent 7 1 (messages.Answer 6 (answers.Granted (grant_with 1 0 [])))) ∷ marked 1 (Got 7) ∷
+    marked 1 (Sent 6 0 (messages.Request (tx 0 1) 1 1 (wants.Read (first_read 1 0)))) ∷ marked 0 (Got 6) ∷
+    marked 0 (Sent 7 1 (messages.Answer 6 (answers.Granted (whole_grant 1 0 [])))) ∷ marked 1 (Got 7) ∷
     marked 1 (Told replies.Absent) ∷ marked 1 (Called commands.Abort) ∷
     marked 1 (Sent 8 0 (messages.Decision (tx 0 1) outcomes.Aborted)) ∷ marked 1 (Told replies.Dropped) ∷
     marked 0 (Got 8) ∷ marked 1 (Called commands.Begin) ∷ marked 1 (Told (replies.Began (tx 0 2))) ∷
@@ -62,12 +63,13 @@ history =
     marked 0 (Wrote records.Life) ∷ marked 2 (Rose []) ∷ marked 2 (Fell falls.Stop (Some records.Life)) ∷
     marked 2 (Called commands.Begin) ∷ marked 1 (Called commands.Begin) ∷ marked 2 (Told replies.Down) ∷
     marked 2 (Called (commands.Do 1 0)) ∷ marked 1 (Told (replies.Began (tx 0 3))) ∷
-    marked 1 (Called (commands.Do 1 0)) ∷ marked 1 (Sent 9 0 (messages.Request (tx 0 3) 1 0 (wants.Read (read_of 1 0))))
+    marked 1 (Called (commands.Do 1 0)) ∷
+    marked 1 (Sent 9 0 (messages.Request (tx 0 3) 1 0 (wants.Read (first_read 1 0))))
     ∷
     marked 0 (Got 9) ∷ marked 2 (Told replies.Down) ∷ marked 2 (Called (commands.Do 0 0)) ∷
-    marked 2 (Told replies.Down) ∷ marked 0 (Sent 10 1 (messages.Answer 9 (answers.Granted (grant_with 2 0 [])))) ∷
+    marked 2 (Told replies.Down) ∷ marked 0 (Sent 10 1 (messages.Answer 9 (answers.Granted (whole_grant 2 0 [])))) ∷
     marked 1 (Got 10) ∷ marked 1 (Sent 11 0 (messages.Request (tx 0 3) 1 2 (wants.Append 1 [] (own_line 1 1 0 ∷ [])))) ∷
-    marked 0 (Got 11) ∷ marked 0 (Sent 12 1 (messages.Answer 11 (answers.Granted (grant_with 2 0 []))))
+    marked 0 (Got 11) ∷ marked 0 (Sent 12 1 (messages.Answer 11 (answers.Granted (whole_grant 2 0 []))))
     ∷ marked 1 (Got 12) ∷
     marked 1 (Told (replies.Response 0)) ∷ marked 1 (Called commands.Commit) ∷
     marked 1 (Sent 13 0 (messages.Request (tx 0 3) 1 2 wants.Prepare)) ∷ marked 0 (Got 13) ∷

@@ -16,7 +16,7 @@ use Rattle.qc_msg.specs.declared.record.Record.TheVariants as records
 use Rattle.qc_msg.specs.declared.reply.Reply.TheVariants as replies
 use Rattle.qc_msg.specs.declared.message.Want.TheVariants as wants
 use Rattle.qc_msg.specs.declared.step.Fall.TheVariants as falls
-use Rattle.qc_msg.specs.Vocabulary.{grant_with, read_of}
+use Rattle.qc_msg.specs.Vocabulary.{whole_grant, first_read}
 use Rattle.qc_outside.specs.declared.disk.ArmKind.TheVariants as arms
 
 abbrev pub decl : Declaration
@@ -40,18 +40,19 @@ abbrev pub history : List Entry
 history =
     marked 3 (Phase 1) ∷ marked 0 (Fell falls.Script None) ∷ marked 0 (Rose []) ∷ marked 0 (Wrote records.Life) ∷
     marked 3 (Armed 1 arms.Stop 7) ∷ marked 1 (Called commands.Begin) ∷ marked 1 (Told (replies.Began (tx 0 1))) ∷
-    marked 1 (Called (commands.Do 0 0)) ∷ marked 1 (Sent 0 0 (messages.Request (tx 0 1) 1 0 (wants.Read (read_of 0 0))))
+    marked 1 (Called (commands.Do 0 0)) ∷
+    marked 1 (Sent 0 0 (messages.Request (tx 0 1) 1 0 (wants.Read (first_read 0 0))))
     ∷
-    marked 0 (Got 0) ∷ marked 0 (Sent 1 1 (messages.Answer 0 (answers.Granted (grant_with 2 0 [])))) ∷ marked 1 (Got 1)
+    marked 0 (Got 0) ∷ marked 0 (Sent 1 1 (messages.Answer 0 (answers.Granted (whole_grant 2 0 [])))) ∷ marked 1 (Got 1)
     ∷
     marked 1 (Sent 2 0 (messages.Request (tx 0 1) 1 2 (wants.Append 0 [] (own_line 1 0 0 ∷ [])))) ∷ marked 0 (Got 2) ∷
-    marked 0 (Sent 3 1 (messages.Answer 2 (answers.Granted (grant_with 2 0 [])))) ∷ marked 1 (Got 3) ∷
+    marked 0 (Sent 3 1 (messages.Answer 2 (answers.Granted (whole_grant 2 0 [])))) ∷ marked 1 (Got 3) ∷
     marked 1 (Told (replies.Response 0)) ∷ marked 1 (Called (commands.Do 0 0)) ∷
-    marked 1 (Sent 4 0 (messages.Request (tx 0 1) 1 2 (wants.Read (read_of 0 0)))) ∷ marked 0 (Got 4) ∷
-    marked 0 (Sent 5 1 (messages.Answer 4 (answers.Granted (grant_with 2 0 [])))) ∷ marked 1 (Got 5) ∷
+    marked 1 (Sent 4 0 (messages.Request (tx 0 1) 1 2 (wants.Read (first_read 0 0)))) ∷ marked 0 (Got 4) ∷
+    marked 0 (Sent 5 1 (messages.Answer 4 (answers.Granted (whole_grant 2 0 [])))) ∷ marked 1 (Got 5) ∷
     marked 1 (Told (replies.Response 1)) ∷ marked 1 (Called (commands.Do 0 0)) ∷
-    marked 1 (Sent 6 0 (messages.Request (tx 0 1) 1 2 (wants.Read (read_of 0 0)))) ∷ marked 0 (Got 6) ∷
-    marked 0 (Sent 7 1 (messages.Answer 6 (answers.Granted (grant_with 2 0 [])))) ∷ marked 1 (Got 7) ∷
+    marked 1 (Sent 6 0 (messages.Request (tx 0 1) 1 2 (wants.Read (first_read 0 0)))) ∷ marked 0 (Got 6) ∷
+    marked 0 (Sent 7 1 (messages.Answer 6 (answers.Granted (whole_grant 2 0 [])))) ∷ marked 1 (Got 7) ∷
     marked 1 (Told (replies.Response 1)) ∷ marked 1 (Called commands.Commit) ∷
     marked 1 (Sent 8 0 (messages.Request (tx 0 1) 1 2 wants.Prepare)) ∷ marked 0 (Got 8) ∷
     marked 0 (Wrote (prepare (tx 0 1) 1 (read_lock 0 0 ∷ []) (own_line 1 0 0 ∷ []) [])) ∷
@@ -62,21 +63,21 @@ history =
     marked 1 (Told (replies.Committed (stamp 1 0))) ∷ marked 0 (Got 10) ∷ marked 0 (Wrote (records.Done (tx 0 1) 1)) ∷
     marked 3 (Phase 2) ∷ marked 1 (Called commands.Begin) ∷ marked 1 (Told (replies.Began (tx 0 2))) ∷
     marked 1 (Called (commands.Do 0 1))
-    ∷ marked 1 (Sent 11 0 (messages.Request (tx 0 2) 1 0 (wants.Read (read_of 0 1)))) ∷
+    ∷ marked 1 (Sent 11 0 (messages.Request (tx 0 2) 1 0 (wants.Read (first_read 0 1)))) ∷
     marked 0 (Got 11)
-    ∷ marked 0 (Sent 12 1 (messages.Answer 11 (answers.Granted (grant_with 2 1 (line 1 0 1 1 0 0 ∷ []))))) ∷
+    ∷ marked 0 (Sent 12 1 (messages.Answer 11 (answers.Granted (whole_grant 2 1 (line 1 0 1 1 0 0 ∷ []))))) ∷
     marked 1 (Got 12) ∷
     marked 1 (Sent 13 0 (messages.Request (tx 0 2) 1 2 (wants.Append 0 (line 1 0 1 1 0 0 ∷ []) (own_line 1 0 2 ∷ []))))
     ∷
-    marked 0 (Got 13) ∷ marked 0 (Sent 14 1 (messages.Answer 13 (answers.Granted (grant_with 2 1 []))))
+    marked 0 (Got 13) ∷ marked 0 (Sent 14 1 (messages.Answer 13 (answers.Granted (whole_grant 2 1 []))))
     ∷ marked 1 (Got 14) ∷
     marked 1 (Told (replies.Response 2)) ∷ marked 1 (Called (commands.Do 0 0)) ∷
-    marked 1 (Sent 15 0 (messages.Request (tx 0 2) 1 2 (wants.Read (read_of 0 0)))) ∷ marked 0 (Got 15) ∷
-    marked 0 (Sent 16 1 (messages.Answer 15 (answers.Granted (grant_with 2 1 (line 1 0 1 1 0 0 ∷ [])))))
+    marked 1 (Sent 15 0 (messages.Request (tx 0 2) 1 2 (wants.Read (first_read 0 0)))) ∷ marked 0 (Got 15) ∷
+    marked 0 (Sent 16 1 (messages.Answer 15 (answers.Granted (whole_grant 2 1 (line 1 0 1 1 0 0 ∷ [])))))
     ∷ marked 1 (Got 16) ∷
     marked 1 (Sent 17 0 (messages.Request (tx 0 2) 1 2 (wants.Append 0 (line 1 0 1 1 0 0 ∷ []) (own_line 1 0 2 ∷
     own_line 2 0 0 ∷ [])))) ∷
-    marked 0 (Got 17) ∷ marked 0 (Sent 18 1 (messages.Answer 17 (answers.Granted (grant_with 2 1 []))))
+    marked 0 (Got 17) ∷ marked 0 (Sent 18 1 (messages.Answer 17 (answers.Granted (whole_grant 2 1 []))))
     ∷ marked 1 (Got 18) ∷
     marked 1 (Told (replies.Response 0)) ∷ marked 1 (Called commands.Commit) ∷
     marked 1 (Sent 19 0 (messages.Request (tx 0 2) 1 2 wants.Prepare)) ∷ marked 0 (Got 19) ∷

@@ -16,7 +16,7 @@ use Rattle.qc_msg.specs.declared.record.Record.TheVariants as records
 use Rattle.qc_msg.specs.declared.reply.Reply.TheVariants as replies
 use Rattle.qc_msg.specs.declared.message.Want.TheVariants as wants
 use Rattle.qc_msg.specs.declared.step.Fall.TheVariants as falls
-use Rattle.qc_msg.specs.Vocabulary.{grant_with, read_of}
+use Rattle.qc_msg.specs.Vocabulary.{whole_grant, first_read}
 use Rattle.qc_outside.specs.declared.disk.ArmKind.TheVariants as arms
 
 abbrev pub decl : Declaration
@@ -40,9 +40,10 @@ history =
     marked 5 (Phase 1) ∷ marked 5 (Cut 3 2) ∷ marked 3 (Called commands.Begin) ∷
     marked 3 (Told (replies.Began (tx 0 1))) ∷ marked 5 (Phase 2) ∷ marked 5 (Heal 3 2) ∷
     marked 0 (Fell falls.Script None) ∷ marked 0 (Rose []) ∷ marked 0 (Wrote records.Life) ∷
-    marked 3 (Called (commands.Do 0 0)) ∷ marked 3 (Sent 0 1 (messages.Request (tx 0 1) 1 0 (wants.Read (read_of 0 0))))
+    marked 3 (Called (commands.Do 0 0)) ∷
+    marked 3 (Sent 0 1 (messages.Request (tx 0 1) 1 0 (wants.Read (first_read 0 0))))
     ∷
-    marked 1 (Got 0) ∷ marked 1 (Sent 1 3 (messages.Answer 0 (answers.Granted (grant_with 1 0 [])))) ∷ marked 3 (Got 1)
+    marked 1 (Got 0) ∷ marked 1 (Sent 1 3 (messages.Answer 0 (answers.Granted (whole_grant 1 0 [])))) ∷ marked 3 (Got 1)
     ∷
     marked 3 (Told (replies.Response 0)) ∷ marked 3 (Called commands.Commit) ∷
     marked 3 (Sent 2 1 (messages.Request (tx 0 1) 1 1 wants.Prepare)) ∷ marked 1 (Got 2) ∷
@@ -54,8 +55,8 @@ history =
     marked 5 (Phase 3) ∷ marked 3 (Called (commands.Do 0 0)) ∷ marked 3 (Told replies.NoTransaction) ∷
     marked 3 (Called commands.Commit) ∷ marked 3 (Told replies.NoTransaction) ∷ marked 3 (Called commands.Begin) ∷
     marked 3 (Told (replies.Began (tx 0 2))) ∷ marked 3 (Called (commands.Do 0 0)) ∷
-    marked 3 (Sent 5 1 (messages.Request (tx 0 2) 1 0 (wants.Read (read_of 0 0)))) ∷ marked 1 (Got 5) ∷
-    marked 1 (Sent 6 3 (messages.Answer 5 (answers.Granted (grant_with 1 1 [])))) ∷ marked 3 (Got 6) ∷
+    marked 3 (Sent 5 1 (messages.Request (tx 0 2) 1 0 (wants.Read (first_read 0 0)))) ∷ marked 1 (Got 5) ∷
+    marked 1 (Sent 6 3 (messages.Answer 5 (answers.Granted (whole_grant 1 1 [])))) ∷ marked 3 (Got 6) ∷
     marked 3 (Told (replies.Response 0)) ∷ marked 3 (Called (commands.Do 1 0)) ∷ marked 3 (Told (replies.Response 0)) ∷
     marked 3 (Called commands.Commit) ∷ marked 3 (Sent 7 1 (messages.Request (tx 0 2) 1 1 wants.Prepare)) ∷
     marked 1 (Got 7) ∷ marked 1 (Wrote (prepare (tx 0 2) 1 (read_lock 0 0 ∷ []) [] [])) ∷

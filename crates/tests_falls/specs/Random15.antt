@@ -19,7 +19,7 @@ use Rattle.qc_msg.specs.declared.record.Record.TheVariants as records
 use Rattle.qc_msg.specs.declared.reply.Reply.TheVariants as replies
 use Rattle.qc_msg.specs.declared.message.Want.TheVariants as wants
 use Rattle.qc_msg.specs.declared.step.Fall.TheVariants as falls
-use Rattle.qc_msg.specs.Vocabulary.{grant_with, read_of}
+use Rattle.qc_msg.specs.Vocabulary.{whole_grant, first_read}
 use Rattle.qc_outside.specs.declared.disk.ArmKind.TheVariants as arms
 
 abbrev pub decl : Declaration
@@ -48,14 +48,15 @@ history =
     marked 4 (Sent 0 1 (messages.Request (tx 1 1) 1 0 (wants.Append 0 [] (own_line 1 0 0 ∷ [])))) ∷
     marked 4 (Sent 1 2 (messages.Request (tx 1 1) 1 0 (wants.Append 0 [] (own_line 1 0 0 ∷ [])))) ∷ marked 2 (Got 1) ∷
     marked 1 (Got 0) ∷ marked 3 (Told (replies.Began (tx 0 1))) ∷ marked 3 (Called (commands.Do 0 1)) ∷
-    marked 3 (Sent 2 1 (messages.Request (tx 0 1) 1 0 (wants.Read (read_of 0 1)))) ∷
-    marked 3 (Sent 3 2 (messages.Request (tx 0 1) 1 0 (wants.Read (read_of 0 1)))) ∷
-    marked 2 (Sent 4 4 (messages.Answer 1 (answers.Granted (grant_with 1 0 [])))) ∷ marked 2 (Got 3) ∷ marked 4 (Got 4)
+    marked 3 (Sent 2 1 (messages.Request (tx 0 1) 1 0 (wants.Read (first_read 0 1)))) ∷
+    marked 3 (Sent 3 2 (messages.Request (tx 0 1) 1 0 (wants.Read (first_read 0 1)))) ∷
+    marked 2 (Sent 4 4 (messages.Answer 1 (answers.Granted (whole_grant 1 0 [])))) ∷ marked 2 (Got 3) ∷ marked 4 (Got 4)
     ∷
-    marked 1 (Sent 5 4 (messages.Answer 0 (answers.Granted (grant_with 1 0 [])))) ∷ marked 1 (Got 2) ∷
-    marked 2 (Sent 6 3 (messages.Answer 3 (answers.Granted (grant_with 1 0 [])))) ∷ marked 3 (Got 6) ∷ marked 4 (Lost 0)
+    marked 1 (Sent 5 4 (messages.Answer 0 (answers.Granted (whole_grant 1 0 [])))) ∷ marked 1 (Got 2) ∷
+    marked 2 (Sent 6 3 (messages.Answer 3 (answers.Granted (whole_grant 1 0 [])))) ∷ marked 3 (Got 6) ∷
+    marked 4 (Lost 0)
     ∷
-    marked 1 (Sent 7 3 (messages.Answer 2 (answers.Granted (grant_with 1 0 [])))) ∷ marked 3 (Lost 2) ∷
+    marked 1 (Sent 7 3 (messages.Answer 2 (answers.Granted (whole_grant 1 0 [])))) ∷ marked 3 (Lost 2) ∷
     marked 3 (Told (replies.Quorum halves.Read 1 2)) ∷ marked 3 (Called commands.Commit) ∷
     marked 3 (Sent 8 2 (messages.Request (tx 0 1) 1 1 wants.Prepare)) ∷ marked 2 (Got 8) ∷
     marked 2 (Wrote (prepare (tx 0 1) 1 (read_lock 0 1 ∷ []) [] [])) ∷
@@ -75,9 +76,9 @@ history =
     marked 3 (Told (replies.Began (tx 0 3))) ∷ marked 3 (Called (commands.Do 0 2)) ∷
     marked 3 (Sent 14 1 (messages.Request (tx 0 3) 1 0 (wants.Append 0 [] (own_line 1 0 0 ∷ [])))) ∷
     marked 3 (Sent 15 2 (messages.Request (tx 0 3) 1 0 (wants.Append 0 [] (own_line 1 0 0 ∷ [])))) ∷ marked 1 (Got 14) ∷
-    marked 2 (Got 15) ∷ marked 2 (Sent 16 3 (messages.Answer 15 (answers.Granted (grant_with 1 1 []))))
+    marked 2 (Got 15) ∷ marked 2 (Sent 16 3 (messages.Answer 15 (answers.Granted (whole_grant 1 1 []))))
     ∷ marked 3 (Got 16) ∷
-    marked 1 (Sent 17 3 (messages.Answer 14 (answers.Granted (grant_with 1 1 [])))) ∷ marked 3 (Lost 14) ∷
+    marked 1 (Sent 17 3 (messages.Answer 14 (answers.Granted (whole_grant 1 1 [])))) ∷ marked 3 (Lost 14) ∷
     marked 3 (Told (replies.Quorum halves.Append 1 2)) ∷ marked 3 (Called (commands.Do 0 1)) ∷
     marked 3 (Told replies.Doomed) ∷ marked 3 (Called (commands.Do 1 1)) ∷ marked 3 (Told replies.Doomed) ∷
     marked 3 (Called commands.Commit) ∷ marked 3 (Sent 18 1 (messages.Decision (tx 0 3) outcomes.Aborted)) ∷

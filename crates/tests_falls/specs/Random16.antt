@@ -16,7 +16,7 @@ use Rattle.qc_msg.specs.declared.record.Record.TheVariants as records
 use Rattle.qc_msg.specs.declared.reply.Reply.TheVariants as replies
 use Rattle.qc_msg.specs.declared.message.Want.TheVariants as wants
 use Rattle.qc_msg.specs.declared.step.Fall.TheVariants as falls
-use Rattle.qc_msg.specs.Vocabulary.{grant_with, read_of}
+use Rattle.qc_msg.specs.Vocabulary.{whole_grant, first_read}
 use Rattle.qc_outside.specs.declared.disk.ArmKind.TheVariants as arms
 
 abbrev pub decl : Declaration
@@ -39,16 +39,17 @@ moves =
 abbrev pub history : List Entry
 history =
     marked 5 (Phase 1) ∷ marked 3 (Called commands.Begin) ∷ marked 3 (Told (replies.Began (tx 0 1))) ∷
-    marked 3 (Called (commands.Do 0 0)) ∷ marked 3 (Sent 0 0 (messages.Request (tx 0 1) 1 0 (wants.Read (read_of 0 0))))
+    marked 3 (Called (commands.Do 0 0)) ∷
+    marked 3 (Sent 0 0 (messages.Request (tx 0 1) 1 0 (wants.Read (first_read 0 0))))
     ∷
-    marked 3 (Sent 1 1 (messages.Request (tx 0 1) 1 0 (wants.Read (read_of 0 0)))) ∷ marked 0 (Got 0) ∷
-    marked 0 (Sent 2 3 (messages.Answer 0 (answers.Granted (grant_with 1 0 [])))) ∷ marked 1 (Got 1) ∷
-    marked 1 (Sent 3 3 (messages.Answer 1 (answers.Granted (grant_with 1 0 [])))) ∷ marked 3 (Got 2) ∷ marked 3 (Got 3)
+    marked 3 (Sent 1 1 (messages.Request (tx 0 1) 1 0 (wants.Read (first_read 0 0)))) ∷ marked 0 (Got 0) ∷
+    marked 0 (Sent 2 3 (messages.Answer 0 (answers.Granted (whole_grant 1 0 [])))) ∷ marked 1 (Got 1) ∷
+    marked 1 (Sent 3 3 (messages.Answer 1 (answers.Granted (whole_grant 1 0 [])))) ∷ marked 3 (Got 2) ∷ marked 3 (Got 3)
     ∷
     marked 3 (Sent 4 0 (messages.Request (tx 0 1) 1 1 (wants.Append 0 [] (own_line 1 0 0 ∷ [])))) ∷
     marked 3 (Sent 5 1 (messages.Request (tx 0 1) 1 1 (wants.Append 0 [] (own_line 1 0 0 ∷ [])))) ∷ marked 0 (Got 4) ∷
-    marked 0 (Sent 6 3 (messages.Answer 4 (answers.Granted (grant_with 1 0 [])))) ∷ marked 1 (Got 5) ∷
-    marked 1 (Sent 7 3 (messages.Answer 5 (answers.Granted (grant_with 1 0 [])))) ∷ marked 3 (Got 6) ∷ marked 3 (Got 7)
+    marked 0 (Sent 6 3 (messages.Answer 4 (answers.Granted (whole_grant 1 0 [])))) ∷ marked 1 (Got 5) ∷
+    marked 1 (Sent 7 3 (messages.Answer 5 (answers.Granted (whole_grant 1 0 [])))) ∷ marked 3 (Got 6) ∷ marked 3 (Got 7)
     ∷
     marked 3 (Told (replies.Response 0)) ∷ marked 3 (Called commands.Commit) ∷
     marked 3 (Sent 8 0 (messages.Request (tx 0 1) 1 1 wants.Prepare)) ∷
@@ -64,20 +65,20 @@ history =
     marked 1 (Got 13) ∷ marked 1 (Wrote (records.Done (tx 0 1) 1)) ∷ marked 5 (Phase 2) ∷
     marked 5 (Armed 0 arms.Fail 1) ∷ marked 3 (Called commands.Begin) ∷ marked 3 (Told (replies.Began (tx 0 2))) ∷
     marked 3 (Called (commands.Do 0 0))
-    ∷ marked 3 (Sent 14 0 (messages.Request (tx 0 2) 1 0 (wants.Read (read_of 0 0)))) ∷
-    marked 3 (Sent 15 1 (messages.Request (tx 0 2) 1 0 (wants.Read (read_of 0 0)))) ∷ marked 0 (Got 14) ∷
-    marked 0 (Sent 16 3 (messages.Answer 14 (answers.Granted (grant_with 1 1 (line 1 0 1 1 0 0 ∷ [])))))
+    ∷ marked 3 (Sent 14 0 (messages.Request (tx 0 2) 1 0 (wants.Read (first_read 0 0)))) ∷
+    marked 3 (Sent 15 1 (messages.Request (tx 0 2) 1 0 (wants.Read (first_read 0 0)))) ∷ marked 0 (Got 14) ∷
+    marked 0 (Sent 16 3 (messages.Answer 14 (answers.Granted (whole_grant 1 1 (line 1 0 1 1 0 0 ∷ [])))))
     ∷ marked 1 (Got 15) ∷
-    marked 1 (Sent 17 3 (messages.Answer 15 (answers.Granted (grant_with 1 1 (line 1 0 1 1 0 0 ∷ [])))))
+    marked 1 (Sent 17 3 (messages.Answer 15 (answers.Granted (whole_grant 1 1 (line 1 0 1 1 0 0 ∷ [])))))
     ∷ marked 3 (Got 16) ∷
     marked 3 (Got 17) ∷
     marked 3 (Sent 18 0 (messages.Request (tx 0 2) 1 1 (wants.Append 0 (line 1 0 1 1 0 0 ∷ []) (own_line 1 0 1 ∷ []))))
     ∷
     marked 3 (Sent 19 1 (messages.Request (tx 0 2) 1 1 (wants.Append 0 (line 1 0 1 1 0 0 ∷ []) (own_line 1 0 1 ∷ []))))
     ∷
-    marked 0 (Got 18) ∷ marked 0 (Sent 20 3 (messages.Answer 18 (answers.Granted (grant_with 1 1 []))))
+    marked 0 (Got 18) ∷ marked 0 (Sent 20 3 (messages.Answer 18 (answers.Granted (whole_grant 1 1 []))))
     ∷ marked 1 (Got 19) ∷
-    marked 1 (Sent 21 3 (messages.Answer 19 (answers.Granted (grant_with 1 1 [])))) ∷ marked 3 (Got 20)
+    marked 1 (Sent 21 3 (messages.Answer 19 (answers.Granted (whole_grant 1 1 [])))) ∷ marked 3 (Got 20)
     ∷ marked 3 (Got 21) ∷
     marked 3 (Told (replies.Response 1)) ∷ marked 3 (Called commands.Abort) ∷
     marked 3 (Sent 22 0 (messages.Decision (tx 0 2) outcomes.Aborted)) ∷

@@ -16,7 +16,7 @@ use Rattle.qc_msg.specs.declared.record.Record.TheVariants as records
 use Rattle.qc_msg.specs.declared.reply.Reply.TheVariants as replies
 use Rattle.qc_msg.specs.declared.message.Want.TheVariants as wants
 use Rattle.qc_msg.specs.declared.step.Fall.TheVariants as falls
-use Rattle.qc_msg.specs.Vocabulary.{grant_with, read_of}
+use Rattle.qc_msg.specs.Vocabulary.{whole_grant, first_read}
 
 abbrev pub decl : Declaration
 decl =
@@ -48,19 +48,19 @@ history =
     marked 0 (Wrote records.Life) ∷ marked 3 (Called commands.Begin) ∷ marked 3 (Told (replies.Began (tx 0 1))) ∷
     marked 3 (Called commands.Abort) ∷ marked 3 (Told replies.Dropped) ∷ marked 5 (Phase 2) ∷
     marked 3 (Called commands.Begin) ∷ marked 3 (Told (replies.Began (tx 0 2))) ∷ marked 3 (Called (commands.Do 0 2)) ∷
-    marked 3 (Sent 0 0 (messages.Request (tx 0 2) 1 0 (wants.Read (read_of 0 2)))) ∷ marked 0 (Got 0) ∷
-    marked 0 (Sent 1 3 (messages.Answer 0 (answers.Granted (grant_with 2 0 [])))) ∷ marked 3 (Got 1) ∷
+    marked 3 (Sent 0 0 (messages.Request (tx 0 2) 1 0 (wants.Read (first_read 0 2)))) ∷ marked 0 (Got 0) ∷
+    marked 0 (Sent 1 3 (messages.Answer 0 (answers.Granted (whole_grant 2 0 [])))) ∷ marked 3 (Got 1) ∷
     marked 3 (Sent 2 0 (messages.Request (tx 0 2) 1 2 (wants.Append 0 [] (own_line 1 0 2 ∷ [])))) ∷
     marked 3 (Sent 3 1 (messages.Request (tx 0 2) 1 0 (wants.Append 0 [] (own_line 1 0 2 ∷ [])))) ∷ marked 1 (Got 3) ∷
-    marked 1 (Sent 4 3 (messages.Answer 3 (answers.Granted (grant_with 1 0 [])))) ∷ marked 0 (Got 2) ∷ marked 3 (Got 4)
+    marked 1 (Sent 4 3 (messages.Answer 3 (answers.Granted (whole_grant 1 0 [])))) ∷ marked 0 (Got 2) ∷ marked 3 (Got 4)
     ∷
-    marked 0 (Sent 5 3 (messages.Answer 2 (answers.Granted (grant_with 2 0 [])))) ∷ marked 3 (Got 5) ∷
+    marked 0 (Sent 5 3 (messages.Answer 2 (answers.Granted (whole_grant 2 0 [])))) ∷ marked 3 (Got 5) ∷
     marked 3 (Told (replies.Response 2)) ∷ marked 3 (Called (commands.Do 1 1)) ∷
-    marked 3 (Sent 6 0 (messages.Request (tx 0 2) 1 2 (wants.Read (read_of 1 1)))) ∷ marked 0 (Got 6) ∷
-    marked 0 (Sent 7 3 (messages.Answer 6 (answers.Granted (grant_with 2 0 [])))) ∷ marked 3 (Got 7) ∷
+    marked 3 (Sent 6 0 (messages.Request (tx 0 2) 1 2 (wants.Read (first_read 1 1)))) ∷ marked 0 (Got 6) ∷
+    marked 0 (Sent 7 3 (messages.Answer 6 (answers.Granted (whole_grant 2 0 [])))) ∷ marked 3 (Got 7) ∷
     marked 3 (Sent 8 0 (messages.Request (tx 0 2) 1 2 (wants.Append 1 [] (own_line 2 1 1 ∷ [])))) ∷ marked 0 (Got 8) ∷
-    marked 0 (Sent 9 3 (messages.Answer 8 (answers.Granted (grant_with 2 0 [])))) ∷ marked 0 (Got 8) ∷
-    marked 0 (Sent 10 3 (messages.Answer 8 (answers.Granted (grant_with 2 0 [])))) ∷ marked 3 (Got 9) ∷
+    marked 0 (Sent 9 3 (messages.Answer 8 (answers.Granted (whole_grant 2 0 [])))) ∷ marked 0 (Got 8) ∷
+    marked 0 (Sent 10 3 (messages.Answer 8 (answers.Granted (whole_grant 2 0 [])))) ∷ marked 3 (Got 9) ∷
     marked 3 (Told (replies.Response 1)) ∷ marked 3 (Got 10) ∷ marked 3 (Called commands.Commit) ∷
     marked 3 (Sent 11 0 (messages.Request (tx 0 2) 1 2 wants.Prepare)) ∷
     marked 3 (Sent 12 1 (messages.Request (tx 0 2) 1 1 wants.Prepare)) ∷ marked 1 (Got 12) ∷

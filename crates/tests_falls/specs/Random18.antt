@@ -18,7 +18,7 @@ use Rattle.qc_msg.specs.declared.record.Record.TheVariants as records
 use Rattle.qc_msg.specs.declared.reply.Reply.TheVariants as replies
 use Rattle.qc_msg.specs.declared.message.Want.TheVariants as wants
 use Rattle.qc_msg.specs.declared.step.Fall.TheVariants as falls
-use Rattle.qc_msg.specs.Vocabulary.{grant_with, read_of}
+use Rattle.qc_msg.specs.Vocabulary.{whole_grant, first_read}
 use Rattle.qc_outside.specs.declared.disk.ArmKind.TheVariants as arms
 
 abbrev pub decl : Declaration
@@ -47,17 +47,17 @@ history =
     marked 2 (Called commands.Begin) ∷ marked 2 (Told (replies.Began (tx 0 1))) ∷ marked 2 (Called (commands.Do 0 1)) ∷
     marked 2 (Sent 0 0 (messages.Request (tx 0 1) 1 0 (wants.Append 0 [] (own_line 1 0 2 ∷ [])))) ∷
     marked 2 (Sent 1 1 (messages.Request (tx 0 1) 1 0 (wants.Append 0 [] (own_line 1 0 2 ∷ [])))) ∷ marked 1 (Got 1) ∷
-    marked 1 (Sent 2 2 (messages.Answer 1 (answers.Granted (grant_with 1 0 [])))) ∷ marked 2 (Got 2) ∷ marked 0 (Got 0)
+    marked 1 (Sent 2 2 (messages.Answer 1 (answers.Granted (whole_grant 1 0 [])))) ∷ marked 2 (Got 2) ∷ marked 0 (Got 0)
     ∷
-    marked 0 (Sent 3 2 (messages.Answer 0 (answers.Granted (grant_with 1 0 [])))) ∷ marked 2 (Got 3) ∷
+    marked 0 (Sent 3 2 (messages.Answer 0 (answers.Granted (whole_grant 1 0 [])))) ∷ marked 2 (Got 3) ∷
     marked 2 (Told (replies.Response 1)) ∷ marked 5 (Phase 3) ∷ marked 5 (Cut 2 0) ∷ marked 1 (Fell falls.Script None) ∷
     marked 1 (Rose []) ∷ marked 1 (Wrote records.Life) ∷ marked 2 (Called (commands.Do 0 2)) ∷
-    marked 2 (Sent 4 0 (messages.Request (tx 0 1) 1 1 (wants.Read (read_of 0 2)))) ∷
-    marked 2 (Sent 5 1 (messages.Request (tx 0 1) 1 1 (wants.Read (read_of 0 2)))) ∷ marked 1 (Got 5) ∷
+    marked 2 (Sent 4 0 (messages.Request (tx 0 1) 1 1 (wants.Read (first_read 0 2)))) ∷
+    marked 2 (Sent 5 1 (messages.Request (tx 0 1) 1 1 (wants.Read (first_read 0 2)))) ∷ marked 1 (Got 5) ∷
     marked 1 (Sent 6 2 (messages.Answer 5 (answers.Restarted 2))) ∷ marked 2 (Got 6) ∷ marked 2 (Lost 4) ∷
     marked 2 (Told (replies.Quorum halves.Read 0 2)) ∷ marked 2 (Called (commands.Do 0 0)) ∷
-    marked 2 (Sent 7 0 (messages.Request (tx 0 1) 1 1 (wants.Read (read_of 0 0)))) ∷
-    marked 2 (Sent 8 1 (messages.Request (tx 0 1) 1 1 (wants.Read (read_of 0 0)))) ∷ marked 2 (Lost 7)
+    marked 2 (Sent 7 0 (messages.Request (tx 0 1) 1 1 (wants.Read (first_read 0 0)))) ∷
+    marked 2 (Sent 8 1 (messages.Request (tx 0 1) 1 1 (wants.Read (first_read 0 0)))) ∷ marked 2 (Lost 7)
     ∷ marked 1 (Got 8) ∷
     marked 1 (Sent 9 2 (messages.Answer 8 (answers.Restarted 2))) ∷ marked 2 (Got 9) ∷
     marked 2 (Told (replies.Quorum halves.Read 0 2)) ∷ marked 2 (Called (commands.Do 0 1)) ∷
@@ -69,23 +69,23 @@ history =
     marked 3 (Called commands.Commit) ∷ marked 3 (Wrote (commit (stamp 1 1) (tx 1 1) [])) ∷
     marked 3 (Told (replies.Committed (stamp 1 1))) ∷ marked 3 (Called commands.Begin) ∷
     marked 3 (Told (replies.Began (tx 1 2))) ∷ marked 3 (Called (commands.Do 0 0)) ∷
-    marked 3 (Sent 13 1 (messages.Request (tx 1 2) 1 0 (wants.Read (read_of 0 0)))) ∷
-    marked 3 (Sent 14 0 (messages.Request (tx 1 2) 1 0 (wants.Read (read_of 0 0)))) ∷ marked 1 (Got 13) ∷
-    marked 1 (Sent 15 3 (messages.Answer 13 (answers.Granted (grant_with 2 0 [])))) ∷ marked 0 (Got 14) ∷
+    marked 3 (Sent 13 1 (messages.Request (tx 1 2) 1 0 (wants.Read (first_read 0 0)))) ∷
+    marked 3 (Sent 14 0 (messages.Request (tx 1 2) 1 0 (wants.Read (first_read 0 0)))) ∷ marked 1 (Got 13) ∷
+    marked 1 (Sent 15 3 (messages.Answer 13 (answers.Granted (whole_grant 2 0 [])))) ∷ marked 0 (Got 14) ∷
     marked 0 (Sent 16 3 (messages.Answer 14 (answers.Clash (tx 0 1) 0 2))) ∷
     marked 0 (Sent 17 2 (messages.Inquiry (tx 0 1))) ∷ marked 3 (Got 15) ∷ marked 3 (Got 16) ∷
     marked 3 (Told (replies.Conflict (tx 0 1) 0)) ∷ marked 3 (Called (commands.Do 0 2)) ∷
-    marked 3 (Sent 18 1 (messages.Request (tx 1 2) 1 2 (wants.Read (read_of 0 2)))) ∷
-    marked 3 (Sent 19 0 (messages.Request (tx 1 2) 1 0 (wants.Read (read_of 0 2)))) ∷ marked 1 (Got 18) ∷
-    marked 1 (Sent 20 3 (messages.Answer 18 (answers.Granted (grant_with 2 0 [])))) ∷ marked 3 (Got 20)
+    marked 3 (Sent 18 1 (messages.Request (tx 1 2) 1 2 (wants.Read (first_read 0 2)))) ∷
+    marked 3 (Sent 19 0 (messages.Request (tx 1 2) 1 0 (wants.Read (first_read 0 2)))) ∷ marked 1 (Got 18) ∷
+    marked 1 (Sent 20 3 (messages.Answer 18 (answers.Granted (whole_grant 2 0 [])))) ∷ marked 3 (Got 20)
     ∷ marked 0 (Got 19) ∷
     marked 0 (Sent 21 3 (messages.Answer 19 (answers.Clash (tx 0 1) 2 2))) ∷
     marked 0 (Sent 22 2 (messages.Inquiry (tx 0 1))) ∷ marked 3 (Got 21) ∷
     marked 3 (Told (replies.Conflict (tx 0 1) 0)) ∷ marked 5 (Phase 4) ∷ marked 5 (Heal 2 0) ∷ marked 5 (Cut 3 1) ∷
     marked 2 (Fell falls.Script None) ∷ marked 2 (Rose []) ∷ marked 2 (Wrote records.Life) ∷
     marked 5 (Armed 3 arms.Stop 2) ∷ marked 3 (Called (commands.Do 0 0)) ∷
-    marked 3 (Sent 23 1 (messages.Request (tx 1 2) 1 2 (wants.Read (read_of 0 0)))) ∷
-    marked 3 (Sent 24 0 (messages.Request (tx 1 2) 1 0 (wants.Read (read_of 0 0)))) ∷ marked 3 (Lost 23) ∷
+    marked 3 (Sent 23 1 (messages.Request (tx 1 2) 1 2 (wants.Read (first_read 0 0)))) ∷
+    marked 3 (Sent 24 0 (messages.Request (tx 1 2) 1 0 (wants.Read (first_read 0 0)))) ∷ marked 3 (Lost 23) ∷
     marked 2 (Called (commands.Do 0 0)) ∷ marked 2 (Told replies.NoTransaction) ∷ marked 0 (Got 24) ∷
     marked 0 (Sent 25 3 (messages.Answer 24 (answers.Clash (tx 0 1) 0 2))) ∷
     marked 0 (Sent 26 2 (messages.Inquiry (tx 0 1))) ∷ marked 3 (Got 25) ∷

@@ -19,7 +19,7 @@ use Rattle.qc_msg.specs.declared.record.Record.TheVariants as records
 use Rattle.qc_msg.specs.declared.reply.Reply.TheVariants as replies
 use Rattle.qc_msg.specs.declared.message.Want.TheVariants as wants
 use Rattle.qc_msg.specs.declared.step.Fall.TheVariants as falls
-use Rattle.qc_msg.specs.Vocabulary.{grant_with, read_of}
+use Rattle.qc_msg.specs.Vocabulary.{whole_grant, first_read}
 
 abbrev pub decl : Declaration
 decl =
@@ -44,25 +44,26 @@ moves =
 abbrev pub history : List Entry
 history =
     marked 3 (Phase 1) ∷ marked 1 (Called commands.Begin) ∷ marked 1 (Told (replies.Began (tx 0 1))) ∷
-    marked 1 (Called (commands.Do 0 0)) ∷ marked 1 (Sent 0 0 (messages.Request (tx 0 1) 1 0 (wants.Read (read_of 0 0))))
+    marked 1 (Called (commands.Do 0 0)) ∷
+    marked 1 (Sent 0 0 (messages.Request (tx 0 1) 1 0 (wants.Read (first_read 0 0))))
     ∷
-    marked 0 (Got 0) ∷ marked 0 (Sent 1 1 (messages.Answer 0 (answers.Granted (grant_with 1 0 [])))) ∷ marked 1 (Got 1)
+    marked 0 (Got 0) ∷ marked 0 (Sent 1 1 (messages.Answer 0 (answers.Granted (whole_grant 1 0 [])))) ∷ marked 1 (Got 1)
     ∷
     marked 1 (Sent 2 0 (messages.Request (tx 0 1) 1 1 (wants.Append 0 [] (own_line 1 0 0 ∷ [])))) ∷ marked 0 (Got 2) ∷
-    marked 0 (Sent 3 1 (messages.Answer 2 (answers.Granted (grant_with 1 0 [])))) ∷ marked 1 (Got 3) ∷
+    marked 0 (Sent 3 1 (messages.Answer 2 (answers.Granted (whole_grant 1 0 [])))) ∷ marked 1 (Got 3) ∷
     marked 1 (Told (replies.Response 0)) ∷ marked 1 (Called (commands.Do 0 1)) ∷
-    marked 1 (Sent 4 0 (messages.Request (tx 0 1) 1 1 (wants.Read (read_of 0 1)))) ∷ marked 0 (Got 4) ∷
-    marked 0 (Sent 5 1 (messages.Answer 4 (answers.Granted (grant_with 1 0 [])))) ∷ marked 1 (Got 5) ∷
+    marked 1 (Sent 4 0 (messages.Request (tx 0 1) 1 1 (wants.Read (first_read 0 1)))) ∷ marked 0 (Got 4) ∷
+    marked 0 (Sent 5 1 (messages.Answer 4 (answers.Granted (whole_grant 1 0 [])))) ∷ marked 1 (Got 5) ∷
     marked 1 (Told (replies.Response 0)) ∷ marked 1 (Called (commands.Do 0 2)) ∷
     marked 1 (Sent 6 0 (messages.Request (tx 0 1) 1 1 (wants.Append 0 [] (own_line 1 0 0 ∷ own_line 3 0 4 ∷ [])))) ∷
-    marked 0 (Got 6) ∷ marked 0 (Sent 7 1 (messages.Answer 6 (answers.Granted (grant_with 1 0 [])))) ∷ marked 1 (Got 7)
+    marked 0 (Got 6) ∷ marked 0 (Sent 7 1 (messages.Answer 6 (answers.Granted (whole_grant 1 0 [])))) ∷ marked 1 (Got 7)
     ∷
     marked 1 (Told (replies.Response 2)) ∷ marked 1 (Called (commands.Do 0 0)) ∷
-    marked 1 (Sent 8 0 (messages.Request (tx 0 1) 1 1 (wants.Read (read_of 0 0)))) ∷ marked 0 (Got 8) ∷
-    marked 0 (Sent 9 1 (messages.Answer 8 (answers.Granted (grant_with 1 0 [])))) ∷ marked 1 (Got 9) ∷
+    marked 1 (Sent 8 0 (messages.Request (tx 0 1) 1 1 (wants.Read (first_read 0 0)))) ∷ marked 0 (Got 8) ∷
+    marked 0 (Sent 9 1 (messages.Answer 8 (answers.Granted (whole_grant 1 0 [])))) ∷ marked 1 (Got 9) ∷
     marked 1 (Sent 10 0 (messages.Request (tx 0 1) 1 1 (wants.Append 0 [] (own_line 1 0 0 ∷ own_line 3 0 4 ∷ own_line 4
     0 0 ∷ [])))) ∷
-    marked 0 (Got 10) ∷ marked 0 (Sent 11 1 (messages.Answer 10 (answers.Granted (grant_with 1 0 []))))
+    marked 0 (Got 10) ∷ marked 0 (Sent 11 1 (messages.Answer 10 (answers.Granted (whole_grant 1 0 []))))
     ∷ marked 1 (Got 11) ∷
     marked 1 (Told (replies.Response 0)) ∷ marked 1 (Called commands.Commit) ∷
     marked 1 (Sent 12 0 (messages.Request (tx 0 1) 1 1 wants.Prepare)) ∷ marked 0 (Got 12) ∷
@@ -89,7 +90,7 @@ history =
     marked 1 (Called commands.Begin) ∷ marked 1 (Told (replies.Began (tx_in 0 2 2))) ∷
     marked 1 (Called (commands.Do 0 2)) ∷
     marked 1 (Sent 19 0 (messages.Request (tx_in 0 2 2) 1 0 (wants.Append 0 [] (own_line 1 0 4 ∷ [])))) ∷
-    marked 0 (Got 19) ∷ marked 0 (Sent 20 1 (messages.Answer 19 (answers.Granted (grant_with 1 1 []))))
+    marked 0 (Got 19) ∷ marked 0 (Sent 20 1 (messages.Answer 19 (answers.Granted (whole_grant 1 1 []))))
     ∷ marked 1 (Got 20) ∷
     marked 1 (Told (replies.Response 2)) ∷ marked 1 (Called commands.Commit) ∷
     marked 1 (Sent 21 0 (messages.Request (tx_in 0 2 2) 1 1 wants.Prepare)) ∷ marked 0 (Got 21) ∷
@@ -100,15 +101,15 @@ history =
     marked 1 (Told (replies.Committed (stamp 2 0))) ∷ marked 0 (Got 23) ∷ marked 1 (Called commands.Begin) ∷
     marked 1 (Told (replies.Began (tx_in 0 2 3))) ∷ marked 1 (Called (commands.Do 0 1)) ∷
     marked 0 (Wrote (records.Done (tx_in 0 2 2) 2)) ∷
-    marked 1 (Sent 24 0 (messages.Request (tx_in 0 2 3) 1 0 (wants.Read (read_of 0 1)))) ∷ marked 0 (Got 24) ∷
+    marked 1 (Sent 24 0 (messages.Request (tx_in 0 2 3) 1 0 (wants.Read (first_read 0 1)))) ∷ marked 0 (Got 24) ∷
     marked 0
     (Sent 25 1
     (messages.Answer 24
-    (answers.Granted (grant_with 1 2
+    (answers.Granted (whole_grant 1 2
     (line 1 0 1 1 0 0 ∷ line 1 0 1 3 0 4 ∷ line 1 0 1 4 0 0 ∷ line_in 2 0 2 2 1 0 4 ∷ []))))) ∷
     marked 1 (Got 25) ∷ marked 1 (Told replies.Absent) ∷ marked 1 (Called (commands.Do 0 2)) ∷
     marked 1 (Sent 26 0 (messages.Request (tx_in 0 2 3) 1 1 (wants.Append 0 (line 1 0 1 1 0 0 ∷ line 1 0 1 3 0 4 ∷ line
     1 0 1 4 0 0 ∷ line_in 2 0 2 2 1 0 4 ∷ []) (own_line 2 0 4 ∷ [])))) ∷
-    marked 0 (Got 26) ∷ marked 0 (Sent 27 1 (messages.Answer 26 (answers.Granted (grant_with 1 2 []))))
+    marked 0 (Got 26) ∷ marked 0 (Sent 27 1 (messages.Answer 26 (answers.Granted (whole_grant 1 2 []))))
     ∷ marked 1 (Got 27) ∷
     marked 1 (Told (replies.Response 2)) ∷ []

@@ -20,7 +20,7 @@ use Rattle.qc_msg.specs.declared.record.Record.TheVariants as records
 use Rattle.qc_msg.specs.declared.reply.Reply.TheVariants as replies
 use Rattle.qc_msg.specs.declared.message.Want.TheVariants as wants
 use Rattle.qc_msg.specs.declared.step.Fall.TheVariants as falls
-use Rattle.qc_msg.specs.Vocabulary.{grant_with, read_of}
+use Rattle.qc_msg.specs.Vocabulary.{whole_grant, first_read}
 
 abbrev pub decl : Declaration
 decl =
@@ -47,7 +47,7 @@ history =
     marked 5 (Phase 1) ∷ marked 3 (Called commands.Begin) ∷ marked 3 (Told (replies.Began (tx 1 1))) ∷
     marked 3 (Called (commands.Do 0 1)) ∷
     marked 3 (Sent 0 1 (messages.Request (tx 1 1) 1 0 (wants.Append 0 [] (own_line 1 0 2 ∷ [])))) ∷ marked 1 (Got 0) ∷
-    marked 1 (Sent 1 3 (messages.Answer 0 (answers.Granted (grant_with 1 0 [])))) ∷ marked 3 (Got 1) ∷
+    marked 1 (Sent 1 3 (messages.Answer 0 (answers.Granted (whole_grant 1 0 [])))) ∷ marked 3 (Got 1) ∷
     marked 3 (Told (replies.Response 2)) ∷ marked 3 (Called commands.Commit) ∷
     marked 3 (Sent 2 1 (messages.Request (tx 1 1) 1 1 wants.Prepare)) ∷ marked 1 (Got 2) ∷
     marked 1 (Wrote (prepare (tx 1 1) 1 [] (own_line 1 0 2 ∷ []) [])) ∷
@@ -58,11 +58,11 @@ history =
     marked 3 (Called commands.Begin) ∷ marked 3 (Told (replies.Began (tx_in 1 2 1))) ∷
     marked 2 (Called commands.Begin) ∷ marked 2 (Told (replies.Began (tx 0 1))) ∷ marked 2 (Called (commands.Do 0 1)) ∷
     marked 3 (Called (commands.Do 0 0))
-    ∷ marked 3 (Sent 4 1 (messages.Request (tx_in 1 2 1) 1 0 (wants.Read (read_of 0 0)))) ∷
-    marked 3 (Sent 5 0 (messages.Request (tx_in 1 2 1) 1 0 (wants.Read (read_of 0 0)))) ∷ marked 1 (Got 4) ∷
+    ∷ marked 3 (Sent 4 1 (messages.Request (tx_in 1 2 1) 1 0 (wants.Read (first_read 0 0)))) ∷
+    marked 3 (Sent 5 0 (messages.Request (tx_in 1 2 1) 1 0 (wants.Read (first_read 0 0)))) ∷ marked 1 (Got 4) ∷
     marked 1 (Sent 6 3 (messages.Answer 4 (answers.Clash (tx 1 1) 0 2))) ∷
     marked 1 (Sent 7 3 (messages.Inquiry (tx 1 1))) ∷ marked 0 (Got 5) ∷ marked 3 (Got 6) ∷
-    marked 0 (Sent 8 3 (messages.Answer 5 (answers.Granted (grant_with 1 0 [])))) ∷
+    marked 0 (Sent 8 3 (messages.Answer 5 (answers.Granted (whole_grant 1 0 [])))) ∷
     marked 2 (Sent 9 0 (messages.Request (tx 0 1) 1 0 (wants.Append 0 [] (own_line 1 0 2 ∷ [])))) ∷ marked 3 (Got 7) ∷
     marked 3 (Sent 10 1 (messages.Decision (tx 1 1) outcomes.Aborted)) ∷ marked 3 (Got 8) ∷
     marked 3 (Told (replies.Conflict (tx 1 1) 1)) ∷ marked 0 (Got 9) ∷
@@ -75,19 +75,19 @@ history =
     marked 0 (Fell falls.Stop (Some (prepare (tx_in 1 2 1) 1 (read_lock 0 0 ∷ []) [] []))) ∷
     marked 2 (Sent 15 0 (messages.Decision (tx 0 1) outcomes.Aborted)) ∷ marked 2 (Told replies.Dropped) ∷
     marked 2 (Called commands.Begin) ∷ marked 2 (Told (replies.Began (tx 0 2))) ∷ marked 2 (Called (commands.Do 0 0)) ∷
-    marked 2 (Sent 16 0 (messages.Request (tx 0 2) 1 0 (wants.Read (read_of 0 0)))) ∷
-    marked 2 (Sent 17 1 (messages.Request (tx 0 2) 1 0 (wants.Read (read_of 0 0)))) ∷ marked 1 (Got 17)
+    marked 2 (Sent 16 0 (messages.Request (tx 0 2) 1 0 (wants.Read (first_read 0 0)))) ∷
+    marked 2 (Sent 17 1 (messages.Request (tx 0 2) 1 0 (wants.Read (first_read 0 0)))) ∷ marked 1 (Got 17)
     ∷ marked 2 (Lost 16) ∷
-    marked 1 (Sent 18 2 (messages.Answer 17 (answers.Granted (grant_with 1 0 [])))) ∷ marked 3 (Lost 14) ∷
+    marked 1 (Sent 18 2 (messages.Answer 17 (answers.Granted (whole_grant 1 0 [])))) ∷ marked 3 (Lost 14) ∷
     marked 3 (Sent 19 0 (messages.Decision (tx_in 1 2 1) outcomes.Aborted)) ∷
     marked 3 (Sent 20 1 (messages.Decision (tx_in 1 2 1) outcomes.Aborted)) ∷
     marked 3 (Told (replies.Aborted (causes.NoAnswer 0))) ∷ marked 3 (Called commands.Begin) ∷
     marked 3 (Told (replies.Began (tx_in 1 2 2))) ∷ marked 3 (Called (commands.Do 0 0)) ∷ marked 1 (Got 20) ∷
-    marked 3 (Sent 21 1 (messages.Request (tx_in 1 2 2) 1 0 (wants.Read (read_of 0 0)))) ∷
-    marked 3 (Sent 22 0 (messages.Request (tx_in 1 2 2) 1 0 (wants.Read (read_of 0 0)))) ∷ marked 2 (Got 18) ∷
+    marked 3 (Sent 21 1 (messages.Request (tx_in 1 2 2) 1 0 (wants.Read (first_read 0 0)))) ∷
+    marked 3 (Sent 22 0 (messages.Request (tx_in 1 2 2) 1 0 (wants.Read (first_read 0 0)))) ∷ marked 2 (Got 18) ∷
     marked 2 (Told (replies.Quorum halves.Read 1 2)) ∷ marked 2 (Called commands.Commit) ∷
     marked 2 (Sent 23 1 (messages.Request (tx 0 2) 1 1 wants.Prepare)) ∷ marked 3 (Lost 22) ∷ marked 1 (Got 21) ∷
-    marked 1 (Sent 24 3 (messages.Answer 21 (answers.Granted (grant_with 1 0 [])))) ∷ marked 3 (Got 24) ∷
+    marked 1 (Sent 24 3 (messages.Answer 21 (answers.Granted (whole_grant 1 0 [])))) ∷ marked 3 (Got 24) ∷
     marked 3 (Told (replies.Quorum halves.Read 1 2)) ∷ marked 3 (Called commands.Commit) ∷
     marked 3 (Sent 25 1 (messages.Request (tx_in 1 2 2) 1 1 wants.Prepare)) ∷ marked 1 (Got 23) ∷
     marked 1 (Wrote (prepare (tx 0 2) 1 (read_lock 0 0 ∷ []) [] [])) ∷

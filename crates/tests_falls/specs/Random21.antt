@@ -18,7 +18,7 @@ use Rattle.qc_msg.specs.declared.record.Record.TheVariants as records
 use Rattle.qc_msg.specs.declared.reply.Reply.TheVariants as replies
 use Rattle.qc_msg.specs.declared.message.Want.TheVariants as wants
 use Rattle.qc_msg.specs.declared.step.Fall.TheVariants as falls
-use Rattle.qc_msg.specs.Vocabulary.{grant_with, read_of}
+use Rattle.qc_msg.specs.Vocabulary.{whole_grant, first_read}
 use Rattle.qc_outside.specs.declared.disk.ArmKind.TheVariants as arms
 
 abbrev pub decl : Declaration
@@ -47,25 +47,25 @@ abbrev pub history : List Entry
 history =
     marked 4 (Phase 1) ∷ marked 4 (Cut 0 1) ∷ marked 4 (Armed 1 arms.Fail 9) ∷ marked 4 (Armed 2 arms.Fail 9) ∷
     marked 2 (Called commands.Begin) ∷ marked 2 (Told (replies.Began (tx 0 1))) ∷ marked 2 (Called (commands.Do 0 0)) ∷
-    marked 2 (Sent 0 0 (messages.Request (tx 0 1) 1 0 (wants.Read (read_of 0 0)))) ∷ marked 0 (Got 0) ∷
-    marked 0 (Sent 1 2 (messages.Answer 0 (answers.Granted (grant_with 1 0 [])))) ∷ marked 2 (Got 1) ∷
+    marked 2 (Sent 0 0 (messages.Request (tx 0 1) 1 0 (wants.Read (first_read 0 0)))) ∷ marked 0 (Got 0) ∷
+    marked 0 (Sent 1 2 (messages.Answer 0 (answers.Granted (whole_grant 1 0 [])))) ∷ marked 2 (Got 1) ∷
     marked 2 (Sent 2 0 (messages.Request (tx 0 1) 1 1 (wants.Append 0 [] (own_line 1 0 0 ∷ [])))) ∷ marked 0 (Got 2) ∷
-    marked 0 (Sent 3 2 (messages.Answer 2 (answers.Granted (grant_with 1 0 [])))) ∷ marked 2 (Got 3) ∷
+    marked 0 (Sent 3 2 (messages.Answer 2 (answers.Granted (whole_grant 1 0 [])))) ∷ marked 2 (Got 3) ∷
     marked 2 (Told (replies.Response 0)) ∷ marked 2 (Called (commands.Do 0 0)) ∷
-    marked 2 (Sent 4 0 (messages.Request (tx 0 1) 1 1 (wants.Read (read_of 0 0)))) ∷ marked 0 (Got 4) ∷
-    marked 0 (Sent 5 2 (messages.Answer 4 (answers.Granted (grant_with 1 0 [])))) ∷ marked 2 (Got 5) ∷
+    marked 2 (Sent 4 0 (messages.Request (tx 0 1) 1 1 (wants.Read (first_read 0 0)))) ∷ marked 0 (Got 4) ∷
+    marked 0 (Sent 5 2 (messages.Answer 4 (answers.Granted (whole_grant 1 0 [])))) ∷ marked 2 (Got 5) ∷
     marked 2 (Sent 6 0 (messages.Request (tx 0 1) 1 1 (wants.Append 0 [] (own_line 1 0 0 ∷ own_line 2 0 1 ∷ [])))) ∷
-    marked 0 (Got 6) ∷ marked 0 (Sent 7 2 (messages.Answer 6 (answers.Granted (grant_with 1 0 [])))) ∷ marked 2 (Got 7)
+    marked 0 (Got 6) ∷ marked 0 (Sent 7 2 (messages.Answer 6 (answers.Granted (whole_grant 1 0 [])))) ∷ marked 2 (Got 7)
     ∷
     marked 2 (Told (replies.Response 1)) ∷ marked 2 (Called (commands.Do 0 1)) ∷
-    marked 2 (Sent 8 0 (messages.Request (tx 0 1) 1 1 (wants.Read (read_of 0 1)))) ∷
-    marked 2 (Sent 9 1 (messages.Request (tx 0 1) 1 0 (wants.Read (read_of 0 1)))) ∷ marked 1 (Got 9) ∷
-    marked 1 (Sent 10 2 (messages.Answer 9 (answers.Granted (grant_with 1 0 [])))) ∷ marked 2 (Got 10)
+    marked 2 (Sent 8 0 (messages.Request (tx 0 1) 1 1 (wants.Read (first_read 0 1)))) ∷
+    marked 2 (Sent 9 1 (messages.Request (tx 0 1) 1 0 (wants.Read (first_read 0 1)))) ∷ marked 1 (Got 9) ∷
+    marked 1 (Sent 10 2 (messages.Answer 9 (answers.Granted (whole_grant 1 0 [])))) ∷ marked 2 (Got 10)
     ∷ marked 0 (Got 8) ∷
-    marked 0 (Sent 11 2 (messages.Answer 8 (answers.Granted (grant_with 1 0 [])))) ∷ marked 2 (Got 11) ∷
+    marked 0 (Sent 11 2 (messages.Answer 8 (answers.Granted (whole_grant 1 0 [])))) ∷ marked 2 (Got 11) ∷
     marked 2 (Sent 12 0 (messages.Request (tx 0 1) 1 1 (wants.Append 0 [] (own_line 1 0 0 ∷ own_line 2 0 1 ∷ own_line 3
     0 2 ∷ [])))) ∷
-    marked 0 (Got 12) ∷ marked 0 (Sent 13 2 (messages.Answer 12 (answers.Granted (grant_with 1 0 []))))
+    marked 0 (Got 12) ∷ marked 0 (Sent 13 2 (messages.Answer 12 (answers.Granted (whole_grant 1 0 []))))
     ∷ marked 2 (Got 13) ∷
     marked 2 (Told (replies.Response 2)) ∷ marked 2 (Called commands.Commit) ∷
     marked 2 (Sent 14 0 (messages.Request (tx 0 1) 1 1 wants.Prepare)) ∷
@@ -92,40 +92,40 @@ history =
     marked 2 (Called commands.Abort) ∷ marked 2 (Told replies.NoTransaction) ∷ marked 4 (Phase 3) ∷
     marked 4 (Heal 0 2) ∷ marked 2 (Called commands.Begin) ∷ marked 2 (Told (replies.Began (tx_in 0 2 1))) ∷
     marked 2 (Called (commands.Do 0 0))
-    ∷ marked 2 (Sent 20 0 (messages.Request (tx_in 0 2 1) 1 0 (wants.Read (read_of 0 0)))) ∷
+    ∷ marked 2 (Sent 20 0 (messages.Request (tx_in 0 2 1) 1 0 (wants.Read (first_read 0 0)))) ∷
     marked 0 (Got 20) ∷
     marked 0
     (Sent 21 2
     (messages.Answer 20
-    (answers.Granted (grant_with 2 1 (line 1 0 1 1 0 0 ∷ line 1 0 1 2 0 1 ∷ line 1 0 1 3 0 2 ∷ []))))) ∷
+    (answers.Granted (whole_grant 2 1 (line 1 0 1 1 0 0 ∷ line 1 0 1 2 0 1 ∷ line 1 0 1 3 0 2 ∷ []))))) ∷
     marked 2 (Got 21) ∷
     marked 2 (Sent 22 0 (messages.Request (tx_in 0 2 1) 1 2 (wants.Append 0 (line 1 0 1 1 0 0 ∷ line 1 0 1 2 0 1 ∷ line
     1 0 1 3 0 2 ∷ []) (own_line 1 0 0 ∷ [])))) ∷
-    marked 0 (Got 22) ∷ marked 0 (Sent 23 2 (messages.Answer 22 (answers.Granted (grant_with 2 1 []))))
+    marked 0 (Got 22) ∷ marked 0 (Sent 23 2 (messages.Answer 22 (answers.Granted (whole_grant 2 1 []))))
     ∷ marked 2 (Got 23) ∷
     marked 2 (Told (replies.Response 0)) ∷ marked 2 (Called (commands.Do 0 1)) ∷
-    marked 2 (Sent 24 0 (messages.Request (tx_in 0 2 1) 1 2 (wants.Read (read_of 0 1)))) ∷
-    marked 2 (Sent 25 1 (messages.Request (tx_in 0 2 1) 1 0 (wants.Read (read_of 0 1)))) ∷ marked 1 (Got 25)
+    marked 2 (Sent 24 0 (messages.Request (tx_in 0 2 1) 1 2 (wants.Read (first_read 0 1)))) ∷
+    marked 2 (Sent 25 1 (messages.Request (tx_in 0 2 1) 1 0 (wants.Read (first_read 0 1)))) ∷ marked 1 (Got 25)
     ∷ marked 0 (Got 24) ∷
     marked 0
     (Sent 26 2
     (messages.Answer 24
-    (answers.Granted (grant_with 2 1 (line 1 0 1 1 0 0 ∷ line 1 0 1 2 0 1 ∷ line 1 0 1 3 0 2 ∷ []))))) ∷
-    marked 1 (Sent 27 2 (messages.Answer 25 (answers.Granted (grant_with 1 1 [])))) ∷ marked 2 (Got 26)
+    (answers.Granted (whole_grant 2 1 (line 1 0 1 1 0 0 ∷ line 1 0 1 2 0 1 ∷ line 1 0 1 3 0 2 ∷ []))))) ∷
+    marked 1 (Sent 27 2 (messages.Answer 25 (answers.Granted (whole_grant 1 1 [])))) ∷ marked 2 (Got 26)
     ∷ marked 2 (Got 27) ∷
     marked 2 (Sent 28 0 (messages.Request (tx_in 0 2 1) 1 2 (wants.Append 0 (line 1 0 1 1 0 0 ∷ line 1 0 1 2 0 1 ∷ line
     1 0 1 3 0 2 ∷ []) (own_line 1 0 0 ∷ own_line 2 0 2 ∷ [])))) ∷
-    marked 0 (Got 28) ∷ marked 0 (Sent 29 2 (messages.Answer 28 (answers.Granted (grant_with 2 1 []))))
+    marked 0 (Got 28) ∷ marked 0 (Sent 29 2 (messages.Answer 28 (answers.Granted (whole_grant 2 1 []))))
     ∷ marked 2 (Got 29) ∷
     marked 2 (Told (replies.Response 2)) ∷ marked 2 (Called (commands.Do 0 0)) ∷
-    marked 2 (Sent 30 0 (messages.Request (tx_in 0 2 1) 1 2 (wants.Read (read_of 0 0)))) ∷ marked 0 (Got 30) ∷
+    marked 2 (Sent 30 0 (messages.Request (tx_in 0 2 1) 1 2 (wants.Read (first_read 0 0)))) ∷ marked 0 (Got 30) ∷
     marked 0
     (Sent 31 2
     (messages.Answer 30
-    (answers.Granted (grant_with 2 1 (line 1 0 1 1 0 0 ∷ line 1 0 1 2 0 1 ∷ line 1 0 1 3 0 2 ∷ []))))) ∷
+    (answers.Granted (whole_grant 2 1 (line 1 0 1 1 0 0 ∷ line 1 0 1 2 0 1 ∷ line 1 0 1 3 0 2 ∷ []))))) ∷
     marked 2 (Got 31) ∷
     marked 2 (Sent 32 0 (messages.Request (tx_in 0 2 1) 1 2 (wants.Append 0 (line 1 0 1 1 0 0 ∷ line 1 0 1 2 0 1 ∷ line
     1 0 1 3 0 2 ∷ []) (own_line 1 0 0 ∷ own_line 2 0 2 ∷ own_line 3 0 0 ∷ [])))) ∷
-    marked 0 (Got 32) ∷ marked 0 (Sent 33 2 (messages.Answer 32 (answers.Granted (grant_with 2 1 []))))
+    marked 0 (Got 32) ∷ marked 0 (Sent 33 2 (messages.Answer 32 (answers.Granted (whole_grant 2 1 []))))
     ∷ marked 2 (Got 33) ∷
     marked 2 (Told (replies.Response 0)) ∷ []

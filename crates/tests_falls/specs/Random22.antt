@@ -17,7 +17,7 @@ use Rattle.qc_msg.specs.declared.record.Record.TheVariants as records
 use Rattle.qc_msg.specs.declared.reply.Reply.TheVariants as replies
 use Rattle.qc_msg.specs.declared.message.Want.TheVariants as wants
 use Rattle.qc_msg.specs.declared.step.Fall.TheVariants as falls
-use Rattle.qc_msg.specs.Vocabulary.{grant_with, read_of}
+use Rattle.qc_msg.specs.Vocabulary.{whole_grant, first_read}
 use Rattle.qc_outside.specs.declared.disk.ArmKind.TheVariants as arms
 
 abbrev pub decl : Declaration
@@ -48,21 +48,24 @@ history =
     marked 8 (Phase 1) ∷ marked 0 (Fell falls.Script None) ∷ marked 0 (Rose []) ∷ marked 0 (Wrote records.Life) ∷
     marked 8 (Armed 2 arms.Stop 7) ∷ marked 8 (Armed 4 arms.Stop 4) ∷ marked 5 (Called commands.Begin) ∷
     marked 5 (Told (replies.Began (tx 0 1))) ∷ marked 5 (Called (commands.Do 0 1)) ∷
-    marked 5 (Sent 0 0 (messages.Request (tx 0 1) 1 0 (wants.Read (read_of 0 1)))) ∷
-    marked 5 (Sent 1 1 (messages.Request (tx 0 1) 1 0 (wants.Read (read_of 0 1)))) ∷
-    marked 5 (Sent 2 2 (messages.Request (tx 0 1) 1 0 (wants.Read (read_of 0 1)))) ∷ marked 2 (Got 2) ∷ marked 0 (Got 0)
+    marked 5 (Sent 0 0 (messages.Request (tx 0 1) 1 0 (wants.Read (first_read 0 1)))) ∷
+    marked 5 (Sent 1 1 (messages.Request (tx 0 1) 1 0 (wants.Read (first_read 0 1)))) ∷
+    marked 5 (Sent 2 2 (messages.Request (tx 0 1) 1 0 (wants.Read (first_read 0 1)))) ∷ marked 2 (Got 2) ∷
+    marked 0 (Got 0)
     ∷
-    marked 1 (Got 1) ∷ marked 0 (Sent 3 5 (messages.Answer 0 (answers.Granted (grant_with 2 0 [])))) ∷
-    marked 2 (Sent 4 5 (messages.Answer 2 (answers.Granted (grant_with 1 0 [])))) ∷
-    marked 1 (Sent 5 5 (messages.Answer 1 (answers.Granted (grant_with 1 0 [])))) ∷ marked 6 (Called commands.Begin) ∷
+    marked 1 (Got 1) ∷ marked 0 (Sent 3 5 (messages.Answer 0 (answers.Granted (whole_grant 2 0 [])))) ∷
+    marked 2 (Sent 4 5 (messages.Answer 2 (answers.Granted (whole_grant 1 0 [])))) ∷
+    marked 1 (Sent 5 5 (messages.Answer 1 (answers.Granted (whole_grant 1 0 [])))) ∷ marked 6 (Called commands.Begin) ∷
     marked 6 (Told (replies.Began (tx 1 1))) ∷ marked 5 (Got 3) ∷ marked 6 (Called (commands.Do 0 0)) ∷
-    marked 6 (Sent 6 1 (messages.Request (tx 1 1) 1 0 (wants.Read (read_of 0 0)))) ∷
-    marked 6 (Sent 7 2 (messages.Request (tx 1 1) 1 0 (wants.Read (read_of 0 0)))) ∷
-    marked 6 (Sent 8 3 (messages.Request (tx 1 1) 1 0 (wants.Read (read_of 0 0)))) ∷ marked 3 (Got 8) ∷ marked 1 (Got 6)
+    marked 6 (Sent 6 1 (messages.Request (tx 1 1) 1 0 (wants.Read (first_read 0 0)))) ∷
+    marked 6 (Sent 7 2 (messages.Request (tx 1 1) 1 0 (wants.Read (first_read 0 0)))) ∷
+    marked 6 (Sent 8 3 (messages.Request (tx 1 1) 1 0 (wants.Read (first_read 0 0)))) ∷ marked 3 (Got 8) ∷
+    marked 1 (Got 6)
     ∷
-    marked 1 (Sent 9 6 (messages.Answer 6 (answers.Granted (grant_with 1 0 [])))) ∷ marked 2 (Got 7) ∷
-    marked 2 (Sent 10 6 (messages.Answer 7 (answers.Granted (grant_with 1 0 [])))) ∷
-    marked 3 (Sent 11 6 (messages.Answer 8 (answers.Granted (grant_with 1 0 [])))) ∷ marked 5 (Got 4) ∷ marked 5 (Got 5)
+    marked 1 (Sent 9 6 (messages.Answer 6 (answers.Granted (whole_grant 1 0 [])))) ∷ marked 2 (Got 7) ∷
+    marked 2 (Sent 10 6 (messages.Answer 7 (answers.Granted (whole_grant 1 0 [])))) ∷
+    marked 3 (Sent 11 6 (messages.Answer 8 (answers.Granted (whole_grant 1 0 [])))) ∷ marked 5 (Got 4) ∷
+    marked 5 (Got 5)
     ∷
     marked 5 (Told (replies.Response 1)) ∷ marked 6 (Got 9) ∷ marked 6 (Got 10) ∷ marked 6 (Got 11) ∷
     marked 6 (Sent 12 1 (messages.Request (tx 1 1) 1 1 (wants.Append 0 [] (own_line 1 0 0 ∷ [])))) ∷
@@ -73,7 +76,7 @@ history =
     marked 5 (Sent 17 1 (messages.Decision (tx 0 1) outcomes.Active)) ∷
     marked 2 (Sent 18 6 (messages.Answer 13 (answers.Clash (tx 0 1) 1 0))) ∷
     marked 2 (Sent 19 5 (messages.Inquiry (tx 0 1))) ∷ marked 1 (Got 17) ∷ marked 3 (Got 14) ∷
-    marked 3 (Sent 20 6 (messages.Answer 14 (answers.Granted (grant_with 1 0 [])))) ∷ marked 5 (Got 19) ∷
+    marked 3 (Sent 20 6 (messages.Answer 14 (answers.Granted (whole_grant 1 0 [])))) ∷ marked 5 (Got 19) ∷
     marked 5 (Sent 21 2 (messages.Decision (tx 0 1) outcomes.Active)) ∷ marked 2 (Got 21) ∷ marked 6 (Got 15) ∷
     marked 6 (Got 18) ∷ marked 6 (Got 20) ∷ marked 6 (Told (replies.Conflict (tx 0 1) 1)) ∷
     marked 6 (Called (commands.Do 0 0)) ∷ marked 6 (Told replies.Doomed) ∷ marked 6 (Called (commands.Do 0 1)) ∷
@@ -83,14 +86,14 @@ history =
     marked 6 (Sent 24 3 (messages.Decision (tx 1 1) outcomes.Aborted)) ∷
     marked 6 (Told (replies.Aborted causes.Doomed)) ∷ marked 2 (Got 23) ∷ marked 1 (Got 22) ∷ marked 3 (Got 24) ∷
     marked 8 (Phase 2) ∷ marked 5 (Called (commands.Do 0 1)) ∷
-    marked 5 (Sent 25 0 (messages.Request (tx 0 1) 1 2 (wants.Read (read_of 0 1)))) ∷
-    marked 5 (Sent 26 1 (messages.Request (tx 0 1) 1 1 (wants.Read (read_of 0 1)))) ∷
-    marked 5 (Sent 27 2 (messages.Request (tx 0 1) 1 1 (wants.Read (read_of 0 1)))) ∷ marked 2 (Got 27)
+    marked 5 (Sent 25 0 (messages.Request (tx 0 1) 1 2 (wants.Read (first_read 0 1)))) ∷
+    marked 5 (Sent 26 1 (messages.Request (tx 0 1) 1 1 (wants.Read (first_read 0 1)))) ∷
+    marked 5 (Sent 27 2 (messages.Request (tx 0 1) 1 1 (wants.Read (first_read 0 1)))) ∷ marked 2 (Got 27)
     ∷ marked 1 (Got 26) ∷
-    marked 2 (Sent 28 5 (messages.Answer 27 (answers.Granted (grant_with 1 0 [])))) ∷
-    marked 1 (Sent 29 5 (messages.Answer 26 (answers.Granted (grant_with 1 0 [])))) ∷ marked 0 (Got 25)
+    marked 2 (Sent 28 5 (messages.Answer 27 (answers.Granted (whole_grant 1 0 [])))) ∷
+    marked 1 (Sent 29 5 (messages.Answer 26 (answers.Granted (whole_grant 1 0 [])))) ∷ marked 0 (Got 25)
     ∷ marked 5 (Got 28) ∷
-    marked 5 (Got 29) ∷ marked 0 (Sent 30 5 (messages.Answer 25 (answers.Granted (grant_with 2 0 []))))
+    marked 5 (Got 29) ∷ marked 0 (Sent 30 5 (messages.Answer 25 (answers.Granted (whole_grant 2 0 []))))
     ∷ marked 5 (Got 30) ∷
     marked 5 (Told (replies.Response 1)) ∷ marked 5 (Called commands.Commit) ∷
     marked 5 (Sent 31 0 (messages.Request (tx 0 1) 1 2 wants.Prepare)) ∷

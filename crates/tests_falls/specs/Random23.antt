@@ -21,7 +21,7 @@ use Rattle.qc_msg.specs.declared.record.Record.TheVariants as records
 use Rattle.qc_msg.specs.declared.reply.Reply.TheVariants as replies
 use Rattle.qc_msg.specs.declared.message.Want.TheVariants as wants
 use Rattle.qc_msg.specs.declared.step.Fall.TheVariants as falls
-use Rattle.qc_msg.specs.Vocabulary.{grant_with, read_of}
+use Rattle.qc_msg.specs.Vocabulary.{whole_grant, first_read}
 use Rattle.qc_outside.specs.declared.disk.ArmKind.TheVariants as arms
 
 abbrev pub decl : Declaration
@@ -67,21 +67,21 @@ history =
     marked 3 (Called (commands.Do 0 1)) ∷ marked 4 (Called commands.Begin) ∷ marked 4 (Told (replies.Began (tx 1 2))) ∷
     marked 4 (Called (commands.Do 0 1)) ∷ marked 4 (Told replies.Absent) ∷ marked 3 (Told replies.Absent) ∷
     marked 3 (Called (commands.Do 0 0))
-    ∷ marked 3 (Sent 0 0 (messages.Request (tx_in 0 2 1) 1 0 (wants.Read (read_of 0 0)))) ∷
-    marked 3 (Sent 1 1 (messages.Request (tx_in 0 2 1) 1 0 (wants.Read (read_of 0 0)))) ∷ marked 0 (Got 0) ∷
-    marked 0 (Sent 2 3 (messages.Answer 0 (answers.Granted (grant_with 2 0 [])))) ∷ marked 3 (Got 2) ∷ marked 1 (Got 1)
+    ∷ marked 3 (Sent 0 0 (messages.Request (tx_in 0 2 1) 1 0 (wants.Read (first_read 0 0)))) ∷
+    marked 3 (Sent 1 1 (messages.Request (tx_in 0 2 1) 1 0 (wants.Read (first_read 0 0)))) ∷ marked 0 (Got 0) ∷
+    marked 0 (Sent 2 3 (messages.Answer 0 (answers.Granted (whole_grant 2 0 [])))) ∷ marked 3 (Got 2) ∷ marked 1 (Got 1)
     ∷
-    marked 1 (Sent 3 3 (messages.Answer 1 (answers.Granted (grant_with 1 0 [])))) ∷ marked 3 (Got 3) ∷
+    marked 1 (Sent 3 3 (messages.Answer 1 (answers.Granted (whole_grant 1 0 [])))) ∷ marked 3 (Got 3) ∷
     marked 3 (Sent 4 0 (messages.Request (tx_in 0 2 1) 1 2 (wants.Append 0 [] (own_line 2 0 1 ∷ [])))) ∷
-    marked 0 (Got 4) ∷ marked 0 (Sent 5 3 (messages.Answer 4 (answers.Granted (grant_with 2 0 [])))) ∷ marked 3 (Got 5)
+    marked 0 (Got 4) ∷ marked 0 (Sent 5 3 (messages.Answer 4 (answers.Granted (whole_grant 2 0 [])))) ∷ marked 3 (Got 5)
     ∷
     marked 3 (Told (replies.Response 0)) ∷ marked 3 (Called (commands.Do 0 1)) ∷ marked 3 (Told replies.Absent) ∷
     marked 6 (Phase 3) ∷ marked 6 (Armed 3 arms.Fail 5) ∷ marked 0 (Fell falls.Script None) ∷
     marked 3 (Called (commands.Do 0 0))
-    ∷ marked 3 (Sent 6 0 (messages.Request (tx_in 0 2 1) 1 2 (wants.Read (read_of 0 0)))) ∷
-    marked 3 (Sent 7 1 (messages.Request (tx_in 0 2 1) 1 1 (wants.Read (read_of 0 0)))) ∷ marked 3 (Lost 6)
+    ∷ marked 3 (Sent 6 0 (messages.Request (tx_in 0 2 1) 1 2 (wants.Read (first_read 0 0)))) ∷
+    marked 3 (Sent 7 1 (messages.Request (tx_in 0 2 1) 1 1 (wants.Read (first_read 0 0)))) ∷ marked 3 (Lost 6)
     ∷ marked 1 (Got 7) ∷
-    marked 4 (Called commands.Commit) ∷ marked 1 (Sent 8 3 (messages.Answer 7 (answers.Granted (grant_with 1 0 [])))) ∷
+    marked 4 (Called commands.Commit) ∷ marked 1 (Sent 8 3 (messages.Answer 7 (answers.Granted (whole_grant 1 0 [])))) ∷
     marked 3 (Got 8) ∷ marked 3 (Told (replies.Quorum halves.Read 1 2)) ∷
     marked 4 (Wrote (commit (stamp 2 1) (tx 1 2) (operation 0 1 None ∷ []))) ∷
     marked 4 (Told (replies.Committed (stamp 2 1))) ∷ marked 3 (Called commands.Commit) ∷
@@ -96,9 +96,9 @@ history =
     marked 6 (Phase 5) ∷ marked 0 (Rose (records.Life ∷ [])) ∷ marked 0 (Wrote records.Life) ∷ marked 6 (Phase 6) ∷
     marked 0 (Fell falls.Script None) ∷ marked 3 (Called (commands.Do 0 1)) ∷ marked 3 (Told replies.Absent) ∷
     marked 3 (Called (commands.Do 0 0))
-    ∷ marked 3 (Sent 14 0 (messages.Request (tx_in 0 2 2) 1 0 (wants.Read (read_of 0 0)))) ∷
-    marked 3 (Sent 15 1 (messages.Request (tx_in 0 2 2) 1 0 (wants.Read (read_of 0 0)))) ∷ marked 1 (Got 15) ∷
-    marked 3 (Lost 14) ∷ marked 1 (Sent 16 3 (messages.Answer 15 (answers.Granted (grant_with 1 0 []))))
+    ∷ marked 3 (Sent 14 0 (messages.Request (tx_in 0 2 2) 1 0 (wants.Read (first_read 0 0)))) ∷
+    marked 3 (Sent 15 1 (messages.Request (tx_in 0 2 2) 1 0 (wants.Read (first_read 0 0)))) ∷ marked 1 (Got 15) ∷
+    marked 3 (Lost 14) ∷ marked 1 (Sent 16 3 (messages.Answer 15 (answers.Granted (whole_grant 1 0 []))))
     ∷ marked 3 (Got 16) ∷
     marked 3 (Told (replies.Quorum halves.Read 1 2)) ∷ marked 3 (Called commands.Abort) ∷
     marked 3 (Sent 17 0 (messages.Decision (tx_in 0 2 2) outcomes.Aborted)) ∷

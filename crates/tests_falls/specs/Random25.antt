@@ -20,7 +20,7 @@ use Rattle.qc_msg.specs.declared.record.Record.TheVariants as records
 use Rattle.qc_msg.specs.declared.reply.Reply.TheVariants as replies
 use Rattle.qc_msg.specs.declared.message.Want.TheVariants as wants
 use Rattle.qc_msg.specs.declared.step.Fall.TheVariants as falls
-use Rattle.qc_msg.specs.Vocabulary.{grant_with}
+use Rattle.qc_msg.specs.Vocabulary.{whole_grant}
 use Rattle.qc_outside.specs.declared.disk.ArmKind.TheVariants as arms
 
 abbrev pub decl : Declaration
@@ -64,13 +64,13 @@ history =
     marked 1 (Sent 0 0 (messages.Request (tx 0 2) 1 0 (wants.Append 0 [] (own_line 1 0 0 ∷ [])))) ∷
     marked 3 (Called (commands.Do 0 0)) ∷
     marked 3 (Sent 1 0 (messages.Request (tx 2 2) 1 0 (wants.Append 0 [] (own_line 1 0 0 ∷ [])))) ∷ marked 0 (Got 0) ∷
-    marked 0 (Sent 2 1 (messages.Answer 0 (answers.Granted (grant_with 1 0 [])))) ∷ marked 1 (Got 2) ∷
+    marked 0 (Sent 2 1 (messages.Answer 0 (answers.Granted (whole_grant 1 0 [])))) ∷ marked 1 (Got 2) ∷
     marked 1 (Told (replies.Response 0)) ∷ marked 0 (Got 1) ∷
-    marked 0 (Sent 3 3 (messages.Answer 1 (answers.Granted (grant_with 1 0 [])))) ∷ marked 3 (Got 3) ∷
+    marked 0 (Sent 3 3 (messages.Answer 1 (answers.Granted (whole_grant 1 0 [])))) ∷ marked 3 (Got 3) ∷
     marked 3 (Told (replies.Response 0)) ∷ marked 3 (Called (commands.Do 1 0)) ∷ marked 3 (Told (replies.Response 0)) ∷
     marked 3 (Called (commands.Do 0 0)) ∷
     marked 3 (Sent 4 0 (messages.Request (tx 2 2) 1 1 (wants.Append 0 [] (own_line 1 0 0 ∷ own_line 3 0 0 ∷ [])))) ∷
-    marked 0 (Got 4) ∷ marked 0 (Sent 5 3 (messages.Answer 4 (answers.Granted (grant_with 1 0 [])))) ∷ marked 3 (Got 5)
+    marked 0 (Got 4) ∷ marked 0 (Sent 5 3 (messages.Answer 4 (answers.Granted (whole_grant 1 0 [])))) ∷ marked 3 (Got 5)
     ∷
     marked 3 (Told (replies.Response 0)) ∷ marked 5 (Phase 2) ∷ marked 5 (Cut 1 0) ∷ marked 2 (Rose []) ∷
     marked 2 (Wrote records.Life) ∷ marked 5 (Phase 3) ∷ marked 5 (Heal 1 0) ∷ marked 0 (Fell falls.Script None) ∷
@@ -97,7 +97,7 @@ history =
     marked 3 (Called commands.Begin) ∷ marked 3 (Told (replies.Began (tx_in 2 2 1))) ∷
     marked 3 (Called (commands.Do 1 0)) ∷ marked 3 (Told (replies.Response 0)) ∷ marked 3 (Called (commands.Do 0 0)) ∷
     marked 3 (Sent 11 0 (messages.Request (tx_in 2 2 1) 1 0 (wants.Append 0 [] (own_line 2 0 0 ∷ [])))) ∷
-    marked 0 (Got 11) ∷ marked 0 (Sent 12 3 (messages.Answer 11 (answers.Granted (grant_with 2 0 []))))
+    marked 0 (Got 11) ∷ marked 0 (Sent 12 3 (messages.Answer 11 (answers.Granted (whole_grant 2 0 []))))
     ∷ marked 3 (Got 12) ∷
     marked 3 (Told (replies.Response 0)) ∷ marked 3 (Called (commands.Do 1 0)) ∷ marked 3 (Told (replies.Response 0)) ∷
     marked 3 (Called commands.Commit) ∷ marked 3 (Sent 13 0 (messages.Request (tx_in 2 2 1) 1 2 wants.Prepare)) ∷

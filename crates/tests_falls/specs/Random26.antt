@@ -20,7 +20,7 @@ use Rattle.qc_msg.specs.declared.record.Record.TheVariants as records
 use Rattle.qc_msg.specs.declared.reply.Reply.TheVariants as replies
 use Rattle.qc_msg.specs.declared.message.Want.TheVariants as wants
 use Rattle.qc_msg.specs.declared.step.Fall.TheVariants as falls
-use Rattle.qc_msg.specs.Vocabulary.{grant_with, read_of}
+use Rattle.qc_msg.specs.Vocabulary.{whole_grant, first_read}
 use Rattle.qc_outside.specs.declared.disk.ArmKind.TheVariants as arms
 
 abbrev pub decl : Declaration
@@ -52,39 +52,39 @@ history =
     marked 4 (Phase 1) ∷ marked 4 (Cut 0 1) ∷ marked 1 (Fell falls.Script None) ∷ marked 1 (Rose []) ∷
     marked 1 (Wrote records.Life) ∷ marked 1 (Called commands.Begin) ∷ marked 1 (Told (replies.Began (tx_in 0 2 1))) ∷
     marked 1 (Called (commands.Do 0 2))
-    ∷ marked 1 (Sent 0 0 (messages.Request (tx_in 0 2 1) 1 0 (wants.Read (read_of 0 2)))) ∷
+    ∷ marked 1 (Sent 0 0 (messages.Request (tx_in 0 2 1) 1 0 (wants.Read (first_read 0 2)))) ∷
     marked 1 (Lost 0) ∷ marked 1 (Told (replies.Quorum halves.Read 0 1)) ∷ marked 1 (Called (commands.Do 0 1)) ∷
-    marked 1 (Sent 1 0 (messages.Request (tx_in 0 2 1) 1 0 (wants.Read (read_of 0 1)))) ∷ marked 1 (Lost 1) ∷
+    marked 1 (Sent 1 0 (messages.Request (tx_in 0 2 1) 1 0 (wants.Read (first_read 0 1)))) ∷ marked 1 (Lost 1) ∷
     marked 1 (Told (replies.Quorum halves.Read 0 1)) ∷ marked 4 (Phase 2) ∷ marked 4 (Heal 0 1) ∷
     marked 4 (Armed 2 arms.Fail 5) ∷ marked 4 (Phase 3) ∷ marked 2 (Fell falls.Script None) ∷ marked 4 (Phase 4) ∷
     marked 2 (Called commands.Begin) ∷ marked 1 (Called (commands.Do 0 1)) ∷ marked 2 (Told replies.Down) ∷
-    marked 1 (Sent 2 0 (messages.Request (tx_in 0 2 1) 1 0 (wants.Read (read_of 0 1)))) ∷ marked 1 (Lost 2) ∷
+    marked 1 (Sent 2 0 (messages.Request (tx_in 0 2 1) 1 0 (wants.Read (first_read 0 1)))) ∷ marked 1 (Lost 2) ∷
     marked 2 (Called (commands.Do 0 1)) ∷ marked 1 (Told (replies.Quorum halves.Read 0 1)) ∷
     marked 1 (Called (commands.Do 0 1)) ∷ marked 2 (Told replies.Down) ∷
-    marked 1 (Sent 3 0 (messages.Request (tx_in 0 2 1) 1 0 (wants.Read (read_of 0 1)))) ∷ marked 0 (Got 3) ∷
-    marked 0 (Sent 4 1 (messages.Answer 3 (answers.Granted (grant_with 1 0 [])))) ∷ marked 1 (Got 4) ∷
+    marked 1 (Sent 3 0 (messages.Request (tx_in 0 2 1) 1 0 (wants.Read (first_read 0 1)))) ∷ marked 0 (Got 3) ∷
+    marked 0 (Sent 4 1 (messages.Answer 3 (answers.Granted (whole_grant 1 0 [])))) ∷ marked 1 (Got 4) ∷
     marked 1 (Sent 5 0 (messages.Request (tx_in 0 2 1) 1 1 (wants.Append 0 [] (own_line 1 0 1 ∷ [])))) ∷
-    marked 0 (Got 5) ∷ marked 0 (Sent 6 1 (messages.Answer 5 (answers.Granted (grant_with 1 0 [])))) ∷ marked 1 (Got 6)
+    marked 0 (Got 5) ∷ marked 0 (Sent 6 1 (messages.Answer 5 (answers.Granted (whole_grant 1 0 [])))) ∷ marked 1 (Got 6)
     ∷
     marked 1 (Told (replies.Response 0)) ∷ marked 1 (Called (commands.Do 0 1)) ∷
-    marked 1 (Sent 7 0 (messages.Request (tx_in 0 2 1) 1 1 (wants.Read (read_of 0 1)))) ∷ marked 0 (Got 7) ∷
-    marked 0 (Sent 8 1 (messages.Answer 7 (answers.Granted (grant_with 1 0 [])))) ∷ marked 1 (Lost 7) ∷
+    marked 1 (Sent 7 0 (messages.Request (tx_in 0 2 1) 1 1 (wants.Read (first_read 0 1)))) ∷ marked 0 (Got 7) ∷
+    marked 0 (Sent 8 1 (messages.Answer 7 (answers.Granted (whole_grant 1 0 [])))) ∷ marked 1 (Lost 7) ∷
     marked 1 (Told (replies.Quorum halves.Read 0 1)) ∷ marked 1 (Called commands.Commit) ∷
     marked 1 (Sent 9 0 (messages.Request (tx_in 0 2 1) 1 1 wants.Prepare)) ∷ marked 1 (Lost 9) ∷
     marked 1 (Sent 10 0 (messages.Decision (tx_in 0 2 1) outcomes.Aborted)) ∷
     marked 1 (Told (replies.Aborted (causes.NoAnswer 0))) ∷ marked 0 (Got 10) ∷ marked 1 (Called commands.Begin) ∷
     marked 1 (Told (replies.Began (tx_in 0 2 2))) ∷ marked 1 (Called (commands.Do 0 0)) ∷
-    marked 1 (Sent 11 0 (messages.Request (tx_in 0 2 2) 1 0 (wants.Read (read_of 0 0)))) ∷ marked 0 (Got 11) ∷
-    marked 0 (Sent 12 1 (messages.Answer 11 (answers.Granted (grant_with 1 0 [])))) ∷ marked 1 (Got 12) ∷
+    marked 1 (Sent 11 0 (messages.Request (tx_in 0 2 2) 1 0 (wants.Read (first_read 0 0)))) ∷ marked 0 (Got 11) ∷
+    marked 0 (Sent 12 1 (messages.Answer 11 (answers.Granted (whole_grant 1 0 [])))) ∷ marked 1 (Got 12) ∷
     marked 1 (Sent 13 0 (messages.Request (tx_in 0 2 2) 1 1 (wants.Append 0 [] (own_line 1 0 0 ∷ [])))) ∷
-    marked 0 (Got 13) ∷ marked 0 (Sent 14 1 (messages.Answer 13 (answers.Granted (grant_with 1 0 []))))
+    marked 0 (Got 13) ∷ marked 0 (Sent 14 1 (messages.Answer 13 (answers.Granted (whole_grant 1 0 []))))
     ∷ marked 1 (Got 14) ∷
     marked 1 (Told (replies.Response 0)) ∷ marked 1 (Called (commands.Do 0 0)) ∷
-    marked 1 (Sent 15 0 (messages.Request (tx_in 0 2 2) 1 1 (wants.Read (read_of 0 0)))) ∷ marked 0 (Got 15) ∷
-    marked 0 (Sent 16 1 (messages.Answer 15 (answers.Granted (grant_with 1 0 [])))) ∷ marked 1 (Got 16) ∷
+    marked 1 (Sent 15 0 (messages.Request (tx_in 0 2 2) 1 1 (wants.Read (first_read 0 0)))) ∷ marked 0 (Got 15) ∷
+    marked 0 (Sent 16 1 (messages.Answer 15 (answers.Granted (whole_grant 1 0 [])))) ∷ marked 1 (Got 16) ∷
     marked 1 (Sent 17 0 (messages.Request (tx_in 0 2 2) 1 1 (wants.Append 0 [] (own_line 1 0 0 ∷ own_line 2 0 0 ∷ []))))
     ∷
-    marked 0 (Got 17) ∷ marked 0 (Sent 18 1 (messages.Answer 17 (answers.Granted (grant_with 1 0 []))))
+    marked 0 (Got 17) ∷ marked 0 (Sent 18 1 (messages.Answer 17 (answers.Granted (whole_grant 1 0 []))))
     ∷ marked 1 (Lost 17) ∷
     marked 1 (Told (replies.Quorum halves.Append 0 1)) ∷ marked 1 (Called commands.Commit) ∷
     marked 1 (Sent 19 0 (messages.Decision (tx_in 0 2 2) outcomes.Aborted)) ∷
@@ -100,11 +100,11 @@ history =
     marked 2 (Called commands.Begin) ∷ marked 1 (Called commands.Begin) ∷
     marked 1 (Told (replies.Began (tx_in 0 3 1))) ∷ marked 2 (Told (replies.Began (tx_in 1 2 1))) ∷
     marked 1 (Called (commands.Do 0 1))
-    ∷ marked 1 (Sent 21 0 (messages.Request (tx_in 0 3 1) 1 0 (wants.Read (read_of 0 1)))) ∷
-    marked 0 (Got 21) ∷ marked 0 (Sent 22 1 (messages.Answer 21 (answers.Granted (grant_with 1 0 []))))
+    ∷ marked 1 (Sent 21 0 (messages.Request (tx_in 0 3 1) 1 0 (wants.Read (first_read 0 1)))) ∷
+    marked 0 (Got 21) ∷ marked 0 (Sent 22 1 (messages.Answer 21 (answers.Granted (whole_grant 1 0 []))))
     ∷ marked 1 (Got 22) ∷
     marked 1 (Sent 23 0 (messages.Request (tx_in 0 3 1) 1 1 (wants.Append 0 [] (own_line 1 0 1 ∷ [])))) ∷
-    marked 0 (Got 23) ∷ marked 0 (Sent 24 1 (messages.Answer 23 (answers.Granted (grant_with 1 0 []))))
+    marked 0 (Got 23) ∷ marked 0 (Sent 24 1 (messages.Answer 23 (answers.Granted (whole_grant 1 0 []))))
     ∷ marked 1 (Got 24) ∷
     marked 1 (Told (replies.Response 0)) ∷ marked 1 (Called commands.Commit) ∷
     marked 1 (Sent 25 0 (messages.Request (tx_in 0 3 1) 1 1 wants.Prepare)) ∷ marked 0 (Got 25) ∷

@@ -19,7 +19,7 @@ use Rattle.qc_msg.specs.declared.record.Record.TheVariants as records
 use Rattle.qc_msg.specs.declared.reply.Reply.TheVariants as replies
 use Rattle.qc_msg.specs.declared.message.Want.TheVariants as wants
 use Rattle.qc_msg.specs.declared.step.Fall.TheVariants as falls
-use Rattle.qc_msg.specs.Vocabulary.{grant_with, read_of}
+use Rattle.qc_msg.specs.Vocabulary.{whole_grant, first_read}
 use Rattle.qc_outside.specs.declared.disk.ArmKind.TheVariants as arms
 
 abbrev pub decl : Declaration
@@ -52,14 +52,16 @@ history =
     marked 5 (Phase 1) ∷ marked 5 (Armed 1 arms.Stop 5) ∷ marked 3 (Called commands.Begin) ∷
     marked 3 (Told (replies.Began (tx 0 1))) ∷ marked 3 (Called (commands.Do 0 0)) ∷ marked 3 (Told replies.Absent) ∷
     marked 5 (Phase 2) ∷ marked 5 (Armed 0 arms.Fail 3) ∷ marked 2 (Fell falls.Script None) ∷
-    marked 3 (Called (commands.Do 1 0)) ∷ marked 3 (Sent 0 0 (messages.Request (tx 0 1) 1 0 (wants.Read (read_of 1 0))))
+    marked 3 (Called (commands.Do 1 0)) ∷
+    marked 3 (Sent 0 0 (messages.Request (tx 0 1) 1 0 (wants.Read (first_read 1 0))))
     ∷
-    marked 3 (Sent 1 1 (messages.Request (tx 0 1) 1 0 (wants.Read (read_of 1 0)))) ∷ marked 1 (Got 1) ∷ marked 0 (Got 0)
+    marked 3 (Sent 1 1 (messages.Request (tx 0 1) 1 0 (wants.Read (first_read 1 0)))) ∷ marked 1 (Got 1) ∷
+    marked 0 (Got 0)
     ∷
-    marked 0 (Sent 2 3 (messages.Answer 0 (answers.Granted (grant_with 1 0 [])))) ∷ marked 3 (Got 2) ∷
-    marked 1 (Sent 3 3 (messages.Answer 1 (answers.Granted (grant_with 1 0 [])))) ∷ marked 3 (Got 3) ∷
+    marked 0 (Sent 2 3 (messages.Answer 0 (answers.Granted (whole_grant 1 0 [])))) ∷ marked 3 (Got 2) ∷
+    marked 1 (Sent 3 3 (messages.Answer 1 (answers.Granted (whole_grant 1 0 [])))) ∷ marked 3 (Got 3) ∷
     marked 3 (Sent 4 0 (messages.Request (tx 0 1) 1 1 (wants.Append 1 [] (own_line 2 1 0 ∷ [])))) ∷ marked 0 (Got 4) ∷
-    marked 0 (Sent 5 3 (messages.Answer 4 (answers.Granted (grant_with 1 0 [])))) ∷ marked 3 (Got 5) ∷
+    marked 0 (Sent 5 3 (messages.Answer 4 (answers.Granted (whole_grant 1 0 [])))) ∷ marked 3 (Got 5) ∷
     marked 3 (Told (replies.Response 0)) ∷ marked 3 (Called commands.Commit) ∷
     marked 3 (Sent 6 0 (messages.Request (tx 0 1) 1 1 wants.Prepare)) ∷
     marked 3 (Sent 7 1 (messages.Request (tx 0 1) 1 1 wants.Prepare)) ∷ marked 1 (Got 7) ∷
@@ -88,13 +90,13 @@ history =
     marked 3 (Rose ((commit (stamp 1 0) (tx 0 1) (operation 0 0 None ∷ operation 1 0 (Some 0) ∷ [])) ∷ [])) ∷
     marked 3 (Wrote records.Life) ∷ marked 3 (Called commands.Begin) ∷ marked 3 (Told (replies.Began (tx_in 0 2 1))) ∷
     marked 3 (Called (commands.Do 1 0))
-    ∷ marked 3 (Sent 12 0 (messages.Request (tx_in 0 2 1) 1 0 (wants.Read (read_of 1 0)))) ∷
-    marked 3 (Sent 13 1 (messages.Request (tx_in 0 2 1) 1 0 (wants.Read (read_of 1 0)))) ∷ marked 3 (Lost 13) ∷
+    ∷ marked 3 (Sent 12 0 (messages.Request (tx_in 0 2 1) 1 0 (wants.Read (first_read 1 0)))) ∷
+    marked 3 (Sent 13 1 (messages.Request (tx_in 0 2 1) 1 0 (wants.Read (first_read 1 0)))) ∷ marked 3 (Lost 13) ∷
     marked 0 (Got 12)
-    ∷ marked 0 (Sent 14 3 (messages.Answer 12 (answers.Granted (grant_with 1 1 (line 1 0 1 2 1 0 ∷ []))))) ∷
-    marked 3 (Got 14) ∷ marked 3 (Sent 15 2 (messages.Request (tx_in 0 2 1) 1 0 (wants.Read (read_of 1 0))))
+    ∷ marked 0 (Sent 14 3 (messages.Answer 12 (answers.Granted (whole_grant 1 1 (line 1 0 1 2 1 0 ∷ []))))) ∷
+    marked 3 (Got 14) ∷ marked 3 (Sent 15 2 (messages.Request (tx_in 0 2 1) 1 0 (wants.Read (first_read 1 0))))
     ∷ marked 2 (Got 15) ∷
-    marked 2 (Sent 16 3 (messages.Answer 15 (answers.Granted (grant_with 2 0 [])))) ∷ marked 3 (Got 16) ∷
+    marked 2 (Sent 16 3 (messages.Answer 15 (answers.Granted (whole_grant 2 0 [])))) ∷ marked 3 (Got 16) ∷
     marked 3 (Told replies.Absent) ∷ marked 3 (Called commands.Commit) ∷
     marked 3 (Sent 17 0 (messages.Request (tx_in 0 2 1) 1 1 wants.Prepare)) ∷
     marked 3 (Sent 18 2 (messages.Request (tx_in 0 2 1) 1 2 wants.Prepare)) ∷ marked 0 (Got 17) ∷ marked 2 (Got 18) ∷

@@ -17,7 +17,7 @@ use Rattle.qc_msg.specs.declared.record.Record.TheVariants as records
 use Rattle.qc_msg.specs.declared.reply.Reply.TheVariants as replies
 use Rattle.qc_msg.specs.declared.message.Want.TheVariants as wants
 use Rattle.qc_msg.specs.declared.step.Fall.TheVariants as falls
-use Rattle.qc_msg.specs.Vocabulary.{grant_with, read_of}
+use Rattle.qc_msg.specs.Vocabulary.{whole_grant, first_read}
 use Rattle.qc_outside.specs.declared.disk.ArmKind.TheVariants as arms
 
 abbrev pub decl : Declaration
@@ -55,24 +55,24 @@ history =
     marked 3 (Told (replies.Began (tx 2 1))) ∷ marked 2 (Told (replies.Already (tx_in 1 2 1))) ∷
     marked 3 (Called (commands.Do 0 1)) ∷ marked 2 (Called (commands.Do 0 2)) ∷
     marked 2 (Sent 1 0 (messages.Request (tx_in 1 2 1) 1 0 (wants.Append 0 [] (own_line 1 0 1 ∷ [])))) ∷
-    marked 0 (Sent 2 1 (messages.Answer 0 (answers.Granted (grant_with 1 0 [])))) ∷ marked 1 (Got 2) ∷ marked 0 (Got 1)
+    marked 0 (Sent 2 1 (messages.Answer 0 (answers.Granted (whole_grant 1 0 [])))) ∷ marked 1 (Got 2) ∷ marked 0 (Got 1)
     ∷
-    marked 0 (Sent 3 2 (messages.Answer 1 (answers.Granted (grant_with 1 0 [])))) ∷ marked 2 (Got 3) ∷
-    marked 3 (Sent 4 0 (messages.Request (tx 2 1) 1 0 (wants.Read (read_of 0 1))))
+    marked 0 (Sent 3 2 (messages.Answer 1 (answers.Granted (whole_grant 1 0 [])))) ∷ marked 2 (Got 3) ∷
+    marked 3 (Sent 4 0 (messages.Request (tx 2 1) 1 0 (wants.Read (first_read 0 1))))
     ∷ marked 1 (Told (replies.Response 0)) ∷
     marked 1 (Called (commands.Do 0 0)) ∷ marked 0 (Got 4) ∷
-    marked 1 (Sent 5 0 (messages.Request (tx 0 2) 1 1 (wants.Read (read_of 0 0)))) ∷
-    marked 0 (Sent 6 3 (messages.Answer 4 (answers.Granted (grant_with 1 0 [])))) ∷ marked 0 (Got 5) ∷ marked 3 (Got 6)
+    marked 1 (Sent 5 0 (messages.Request (tx 0 2) 1 1 (wants.Read (first_read 0 0)))) ∷
+    marked 0 (Sent 6 3 (messages.Answer 4 (answers.Granted (whole_grant 1 0 [])))) ∷ marked 0 (Got 5) ∷ marked 3 (Got 6)
     ∷
     marked 3 (Sent 7 0 (messages.Request (tx 2 1) 1 1 (wants.Append 0 [] (own_line 1 0 0 ∷ [])))) ∷
     marked 0 (Sent 8 1 (messages.Answer 5 (answers.Clash (tx_in 1 2 1) 0 1))) ∷
     marked 0 (Sent 9 2 (messages.Inquiry (tx_in 1 2 1))) ∷ marked 0 (Got 7) ∷ marked 1 (Got 8) ∷
     marked 2 (Told (replies.Response 0))
-    ∷ marked 0 (Sent 10 3 (messages.Answer 7 (answers.Granted (grant_with 1 0 [])))) ∷
+    ∷ marked 0 (Sent 10 3 (messages.Answer 7 (answers.Granted (whole_grant 1 0 [])))) ∷
     marked 2 (Got 9) ∷ marked 3 (Got 10) ∷ marked 3 (Told (replies.Response 0)) ∷ marked 3 (Called commands.Commit) ∷
     marked 2 (Sent 11 0 (messages.Decision (tx_in 1 2 1) outcomes.Active)) ∷ marked 0 (Got 11) ∷
     marked 2 (Called (commands.Do 0 0)) ∷ marked 3 (Sent 12 0 (messages.Request (tx 2 1) 1 1 wants.Prepare)) ∷
-    marked 2 (Sent 13 0 (messages.Request (tx_in 1 2 1) 1 1 (wants.Read (read_of 0 0)))) ∷ marked 0 (Got 12) ∷
+    marked 2 (Sent 13 0 (messages.Request (tx_in 1 2 1) 1 1 (wants.Read (first_read 0 0)))) ∷ marked 0 (Got 12) ∷
     marked 0 (Wrote (prepare (tx 2 1) 1 (read_lock 0 1 ∷ []) (own_line 1 0 0 ∷ []) [])) ∷
     marked 0 (Sent 14 3 (messages.Answer 12 (answers.Yes 0))) ∷ marked 3 (Got 14) ∷ marked 0 (Got 13) ∷
     marked 0 (Sent 15 2 (messages.Answer 13 (answers.Clash (tx 2 1) 0 0))) ∷
@@ -101,12 +101,12 @@ history =
     marked 4 (Called commands.Begin) ∷ marked 4 (Told (replies.Began (tx 3 1))) ∷ marked 4 (Called (commands.Do 1 0)) ∷
     marked 2 (Told (replies.Began (tx_in 1 2 2))) ∷ marked 2 (Called commands.Commit) ∷
     marked 2 (Wrote (commit (stamp 3 1) (tx_in 1 2 2) [])) ∷ marked 2 (Told (replies.Committed (stamp 3 1))) ∷
-    marked 4 (Sent 25 0 (messages.Request (tx 3 1) 1 0 (wants.Read (read_of 1 0)))) ∷ marked 0 (Got 25) ∷
-    marked 0 (Sent 26 4 (messages.Answer 25 (answers.Granted (grant_with 1 2 (line 2 0 2 1 1 0 ∷ [])))))
+    marked 4 (Sent 25 0 (messages.Request (tx 3 1) 1 0 (wants.Read (first_read 1 0)))) ∷ marked 0 (Got 25) ∷
+    marked 0 (Sent 26 4 (messages.Answer 25 (answers.Granted (whole_grant 1 2 (line 2 0 2 1 1 0 ∷ [])))))
     ∷ marked 4 (Got 26) ∷
     marked 4 (Sent 27 0 (messages.Request (tx 3 1) 1 1 (wants.Append 1 (line 2 0 2 1 1 0 ∷ []) (own_line 1 1 2 ∷ []))))
     ∷
-    marked 0 (Got 27) ∷ marked 0 (Sent 28 4 (messages.Answer 27 (answers.Granted (grant_with 1 2 []))))
+    marked 0 (Got 27) ∷ marked 0 (Sent 28 4 (messages.Answer 27 (answers.Granted (whole_grant 1 2 []))))
     ∷ marked 4 (Got 28) ∷
     marked 4 (Told (replies.Response 0)) ∷ marked 4 (Called commands.Commit) ∷
     marked 4 (Sent 29 0 (messages.Request (tx 3 1) 1 1 wants.Prepare)) ∷ marked 0 (Got 29) ∷

@@ -17,7 +17,7 @@ use Rattle.qc_msg.specs.declared.record.Record.TheVariants as records
 use Rattle.qc_msg.specs.declared.reply.Reply.TheVariants as replies
 use Rattle.qc_msg.specs.declared.message.Want.TheVariants as wants
 use Rattle.qc_msg.specs.declared.step.Fall.TheVariants as falls
-use Rattle.qc_msg.specs.Vocabulary.{grant_with, read_of}
+use Rattle.qc_msg.specs.Vocabulary.{whole_grant, first_read}
 use Rattle.qc_outside.specs.declared.disk.ArmKind.TheVariants as arms
 
 abbrev pub decl : Declaration
@@ -51,12 +51,13 @@ history =
     marked 5 (Told replies.Absent) ∷ marked 5 (Called (commands.Do 1 2)) ∷
     marked 4 (Wrote (commit (stamp 1 0) (tx 0 1) [])) ∷ marked 4 (Told (replies.Committed (stamp 1 0))) ∷
     marked 5 (Told (replies.Response 0)) ∷ marked 5 (Called (commands.Do 1 1)) ∷
-    marked 5 (Sent 0 1 (messages.Request (tx 1 1) 1 0 (wants.Read (read_of 1 1)))) ∷
-    marked 5 (Sent 1 2 (messages.Request (tx 1 1) 1 0 (wants.Read (read_of 1 1)))) ∷
-    marked 5 (Sent 2 0 (messages.Request (tx 1 1) 1 0 (wants.Read (read_of 1 1)))) ∷ marked 2 (Got 1) ∷ marked 0 (Got 2)
+    marked 5 (Sent 0 1 (messages.Request (tx 1 1) 1 0 (wants.Read (first_read 1 1)))) ∷
+    marked 5 (Sent 1 2 (messages.Request (tx 1 1) 1 0 (wants.Read (first_read 1 1)))) ∷
+    marked 5 (Sent 2 0 (messages.Request (tx 1 1) 1 0 (wants.Read (first_read 1 1)))) ∷ marked 2 (Got 1) ∷
+    marked 0 (Got 2)
     ∷
-    marked 5 (Lost 0) ∷ marked 2 (Sent 3 5 (messages.Answer 1 (answers.Granted (grant_with 1 0 [])))) ∷
-    marked 0 (Sent 4 5 (messages.Answer 2 (answers.Granted (grant_with 1 0 [])))) ∷ marked 5 (Got 3) ∷ marked 5 (Got 4)
+    marked 5 (Lost 0) ∷ marked 2 (Sent 3 5 (messages.Answer 1 (answers.Granted (whole_grant 1 0 [])))) ∷
+    marked 0 (Sent 4 5 (messages.Answer 2 (answers.Granted (whole_grant 1 0 [])))) ∷ marked 5 (Got 3) ∷ marked 5 (Got 4)
     ∷
     marked 5 (Told (replies.Quorum halves.Read 4 7)) ∷ marked 5 (Called commands.Commit) ∷
     marked 5 (Sent 5 2 (messages.Request (tx 1 1) 1 1 wants.Prepare)) ∷
@@ -77,10 +78,10 @@ history =
     marked 5 (Sent 12 1 (messages.Request (tx 1 2) 1 0 (wants.Append 0 [] (own_line 1 0 0 ∷ [])))) ∷
     marked 5 (Sent 13 2 (messages.Request (tx 1 2) 1 0 (wants.Append 0 [] (own_line 1 0 0 ∷ [])))) ∷
     marked 5 (Sent 14 0 (messages.Request (tx 1 2) 1 0 (wants.Append 0 [] (own_line 1 0 0 ∷ [])))) ∷ marked 1 (Got 12) ∷
-    marked 1 (Sent 15 5 (messages.Answer 12 (answers.Granted (grant_with 2 0 [])))) ∷ marked 0 (Got 14) ∷
-    marked 0 (Sent 16 5 (messages.Answer 14 (answers.Granted (grant_with 1 1 [])))) ∷ marked 5 (Got 15)
+    marked 1 (Sent 15 5 (messages.Answer 12 (answers.Granted (whole_grant 2 0 [])))) ∷ marked 0 (Got 14) ∷
+    marked 0 (Sent 16 5 (messages.Answer 14 (answers.Granted (whole_grant 1 1 [])))) ∷ marked 5 (Got 15)
     ∷ marked 2 (Got 13) ∷
-    marked 2 (Sent 17 5 (messages.Answer 13 (answers.Granted (grant_with 1 1 [])))) ∷ marked 5 (Got 16)
+    marked 2 (Sent 17 5 (messages.Answer 13 (answers.Granted (whole_grant 1 1 [])))) ∷ marked 5 (Got 16)
     ∷ marked 5 (Got 17) ∷
     marked 5 (Told (replies.Response 0)) ∷ marked 5 (Called (commands.Do 1 0)) ∷ marked 5 (Told replies.Absent) ∷
     marked 5 (Called (commands.Do 1 0)) ∷ marked 5 (Told replies.Absent) ∷ marked 5 (Called commands.Commit) ∷
@@ -112,12 +113,12 @@ history =
     marked 4 (Told (replies.Began (tx 0 2))) ∷ marked 4 (Called (commands.Do 1 0)) ∷ marked 4 (Told replies.Absent) ∷
     marked 4 (Called commands.Begin) ∷ marked 4 (Told (replies.Already (tx 0 2))) ∷
     marked 4 (Called (commands.Do 1 1))
-    ∷ marked 4 (Sent 27 0 (messages.Request (tx 0 2) 1 0 (wants.Read (read_of 1 1)))) ∷
-    marked 4 (Sent 28 1 (messages.Request (tx 0 2) 1 0 (wants.Read (read_of 1 1)))) ∷
-    marked 4 (Sent 29 2 (messages.Request (tx 0 2) 1 0 (wants.Read (read_of 1 1)))) ∷ marked 2 (Got 29) ∷
-    marked 2 (Sent 30 4 (messages.Answer 29 (answers.Granted (grant_with 2 2 [])))) ∷ marked 4 (Got 30)
+    ∷ marked 4 (Sent 27 0 (messages.Request (tx 0 2) 1 0 (wants.Read (first_read 1 1)))) ∷
+    marked 4 (Sent 28 1 (messages.Request (tx 0 2) 1 0 (wants.Read (first_read 1 1)))) ∷
+    marked 4 (Sent 29 2 (messages.Request (tx 0 2) 1 0 (wants.Read (first_read 1 1)))) ∷ marked 2 (Got 29) ∷
+    marked 2 (Sent 30 4 (messages.Answer 29 (answers.Granted (whole_grant 2 2 [])))) ∷ marked 4 (Got 30)
     ∷ marked 0 (Got 27) ∷
-    marked 0 (Sent 31 4 (messages.Answer 27 (answers.Granted (grant_with 1 2 [])))) ∷ marked 4 (Got 31)
+    marked 0 (Sent 31 4 (messages.Answer 27 (answers.Granted (whole_grant 1 2 [])))) ∷ marked 4 (Got 31)
     ∷ marked 4 (Lost 28) ∷
     marked 4 (Told (replies.Quorum halves.Read 4 7)) ∷ marked 7 (Phase 6) ∷ marked 4 (Fell falls.Script None) ∷
     marked 4 (Rose ((commit (stamp 1 0) (tx 0 1) []) ∷ [])) ∷ marked 4 (Wrote records.Life) ∷

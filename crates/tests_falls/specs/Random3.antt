@@ -16,7 +16,7 @@ use Rattle.qc_msg.specs.declared.record.Record.TheVariants as records
 use Rattle.qc_msg.specs.declared.reply.Reply.TheVariants as replies
 use Rattle.qc_msg.specs.declared.message.Want.TheVariants as wants
 use Rattle.qc_msg.specs.declared.step.Fall.TheVariants as falls
-use Rattle.qc_msg.specs.Vocabulary.{grant_with, read_of}
+use Rattle.qc_msg.specs.Vocabulary.{whole_grant, first_read}
 use Rattle.qc_outside.specs.declared.disk.ArmKind.TheVariants as arms
 
 abbrev pub decl : Declaration
@@ -42,12 +42,13 @@ abbrev pub history : List Entry
 history =
     marked 4 (Phase 1) ∷ marked 0 (Fell falls.Script None) ∷ marked 0 (Rose []) ∷ marked 0 (Wrote records.Life) ∷
     marked 4 (Armed 2 arms.Fail 1) ∷ marked 2 (Called commands.Begin) ∷ marked 2 (Told (replies.Began (tx 0 1))) ∷
-    marked 2 (Called (commands.Do 1 0)) ∷ marked 2 (Sent 0 0 (messages.Request (tx 0 1) 1 0 (wants.Read (read_of 1 0))))
+    marked 2 (Called (commands.Do 1 0)) ∷
+    marked 2 (Sent 0 0 (messages.Request (tx 0 1) 1 0 (wants.Read (first_read 1 0))))
     ∷
-    marked 0 (Got 0) ∷ marked 0 (Sent 1 2 (messages.Answer 0 (answers.Granted (grant_with 2 0 [])))) ∷ marked 2 (Got 1)
+    marked 0 (Got 0) ∷ marked 0 (Sent 1 2 (messages.Answer 0 (answers.Granted (whole_grant 2 0 [])))) ∷ marked 2 (Got 1)
     ∷
     marked 2 (Sent 2 0 (messages.Request (tx 0 1) 1 2 (wants.Append 1 [] (own_line 1 1 0 ∷ [])))) ∷ marked 0 (Got 2) ∷
-    marked 0 (Sent 3 2 (messages.Answer 2 (answers.Granted (grant_with 2 0 [])))) ∷ marked 2 (Got 1) ∷ marked 2 (Got 3)
+    marked 0 (Sent 3 2 (messages.Answer 2 (answers.Granted (whole_grant 2 0 [])))) ∷ marked 2 (Got 1) ∷ marked 2 (Got 3)
     ∷
     marked 2 (Told (replies.Response 0)) ∷ marked 2 (Got 3) ∷ marked 2 (Called commands.Commit) ∷
     marked 2 (Sent 4 0 (messages.Request (tx 0 1) 1 2 wants.Prepare)) ∷ marked 0 (Got 4) ∷

@@ -19,7 +19,7 @@ use Rattle.qc_msg.specs.declared.record.Record.TheVariants as records
 use Rattle.qc_msg.specs.declared.reply.Reply.TheVariants as replies
 use Rattle.qc_msg.specs.declared.message.Want.TheVariants as wants
 use Rattle.qc_msg.specs.declared.step.Fall.TheVariants as falls
-use Rattle.qc_msg.specs.Vocabulary.{grant_with, read_of}
+use Rattle.qc_msg.specs.Vocabulary.{whole_grant, first_read}
 
 abbrev pub decl : Declaration
 decl =
@@ -54,58 +54,60 @@ history =
     marked 9 (Phase 1) ∷ marked 9 (Cut 1 3) ∷ marked 6 (Fell falls.Script None) ∷ marked 6 (Rose []) ∷
     marked 6 (Wrote records.Life) ∷ marked 5 (Called commands.Begin) ∷ marked 6 (Called commands.Begin) ∷
     marked 7 (Called commands.Begin) ∷ marked 5 (Told (replies.Began (tx 1 1))) ∷ marked 5 (Called (commands.Do 0 2)) ∷
-    marked 5 (Sent 0 1 (messages.Request (tx 1 1) 1 0 (wants.Read (read_of 0 2)))) ∷
-    marked 5 (Sent 1 2 (messages.Request (tx 1 1) 1 0 (wants.Read (read_of 0 2)))) ∷
-    marked 5 (Sent 2 3 (messages.Request (tx 1 1) 1 0 (wants.Read (read_of 0 2)))) ∷ marked 2 (Got 1) ∷ marked 1 (Got 0)
+    marked 5 (Sent 0 1 (messages.Request (tx 1 1) 1 0 (wants.Read (first_read 0 2)))) ∷
+    marked 5 (Sent 1 2 (messages.Request (tx 1 1) 1 0 (wants.Read (first_read 0 2)))) ∷
+    marked 5 (Sent 2 3 (messages.Request (tx 1 1) 1 0 (wants.Read (first_read 0 2)))) ∷ marked 2 (Got 1) ∷
+    marked 1 (Got 0)
     ∷
     marked 7 (Told (replies.Began (tx 3 1))) ∷ marked 3 (Got 2) ∷ marked 7 (Called (commands.Do 0 2)) ∷
-    marked 1 (Sent 3 5 (messages.Answer 0 (answers.Granted (grant_with 1 0 [])))) ∷ marked 5 (Got 3) ∷
-    marked 7 (Sent 4 3 (messages.Request (tx 3 1) 1 0 (wants.Read (read_of 0 2)))) ∷
-    marked 7 (Sent 5 0 (messages.Request (tx 3 1) 1 0 (wants.Read (read_of 0 2)))) ∷
-    marked 7 (Sent 6 1 (messages.Request (tx 3 1) 1 0 (wants.Read (read_of 0 2)))) ∷ marked 0 (Got 5) ∷ marked 1 (Got 6)
+    marked 1 (Sent 3 5 (messages.Answer 0 (answers.Granted (whole_grant 1 0 [])))) ∷ marked 5 (Got 3) ∷
+    marked 7 (Sent 4 3 (messages.Request (tx 3 1) 1 0 (wants.Read (first_read 0 2)))) ∷
+    marked 7 (Sent 5 0 (messages.Request (tx 3 1) 1 0 (wants.Read (first_read 0 2)))) ∷
+    marked 7 (Sent 6 1 (messages.Request (tx 3 1) 1 0 (wants.Read (first_read 0 2)))) ∷ marked 0 (Got 5) ∷
+    marked 1 (Got 6)
     ∷
-    marked 0 (Sent 7 7 (messages.Answer 5 (answers.Granted (grant_with 1 0 [])))) ∷ marked 7 (Got 7) ∷
-    marked 1 (Sent 8 7 (messages.Answer 6 (answers.Granted (grant_with 1 0 []))))
+    marked 0 (Sent 7 7 (messages.Answer 5 (answers.Granted (whole_grant 1 0 [])))) ∷ marked 7 (Got 7) ∷
+    marked 1 (Sent 8 7 (messages.Answer 6 (answers.Granted (whole_grant 1 0 []))))
     ∷ marked 6 (Told (replies.Began (tx_in 2 2 1))) ∷
-    marked 6 (Called (commands.Do 0 1)) ∷ marked 2 (Sent 9 5 (messages.Answer 1 (answers.Granted (grant_with 1 0 []))))
+    marked 6 (Called (commands.Do 0 1)) ∷ marked 2 (Sent 9 5 (messages.Answer 1 (answers.Granted (whole_grant 1 0 []))))
     ∷
-    marked 5 (Got 9) ∷ marked 6 (Sent 10 2 (messages.Request (tx_in 2 2 1) 1 0 (wants.Read (read_of 0 1)))) ∷
-    marked 6 (Sent 11 3 (messages.Request (tx_in 2 2 1) 1 0 (wants.Read (read_of 0 1)))) ∷
-    marked 6 (Sent 12 0 (messages.Request (tx_in 2 2 1) 1 0 (wants.Read (read_of 0 1)))) ∷ marked 0 (Got 12)
+    marked 5 (Got 9) ∷ marked 6 (Sent 10 2 (messages.Request (tx_in 2 2 1) 1 0 (wants.Read (first_read 0 1)))) ∷
+    marked 6 (Sent 11 3 (messages.Request (tx_in 2 2 1) 1 0 (wants.Read (first_read 0 1)))) ∷
+    marked 6 (Sent 12 0 (messages.Request (tx_in 2 2 1) 1 0 (wants.Read (first_read 0 1)))) ∷ marked 0 (Got 12)
     ∷ marked 2 (Got 10) ∷
-    marked 7 (Got 8) ∷ marked 2 (Sent 13 6 (messages.Answer 10 (answers.Granted (grant_with 1 0 []))))
+    marked 7 (Got 8) ∷ marked 2 (Sent 13 6 (messages.Answer 10 (answers.Granted (whole_grant 1 0 []))))
     ∷ marked 6 (Got 13) ∷
-    marked 3 (Sent 14 5 (messages.Answer 2 (answers.Granted (grant_with 1 0 [])))) ∷ marked 5 (Got 14)
+    marked 3 (Sent 14 5 (messages.Answer 2 (answers.Granted (whole_grant 1 0 [])))) ∷ marked 5 (Got 14)
     ∷ marked 3 (Got 4) ∷
-    marked 3 (Sent 15 7 (messages.Answer 4 (answers.Granted (grant_with 1 0 [])))) ∷ marked 3 (Got 11) ∷
+    marked 3 (Sent 15 7 (messages.Answer 4 (answers.Granted (whole_grant 1 0 [])))) ∷ marked 3 (Got 11) ∷
     marked 5 (Told (replies.Response 3)) ∷ marked 5 (Called commands.Commit) ∷ marked 7 (Got 15) ∷
     marked 5 (Sent 16 1 (messages.Request (tx 1 1) 1 1 wants.Prepare)) ∷
     marked 5 (Sent 17 2 (messages.Request (tx 1 1) 1 1 wants.Prepare)) ∷
     marked 5 (Sent 18 3 (messages.Request (tx 1 1) 1 1 wants.Prepare)) ∷ marked 1 (Got 16) ∷ marked 2 (Got 17) ∷
     marked 1 (Wrote (prepare (tx 1 1) 1 (read_lock 0 2 ∷ []) [] [])) ∷
     marked 1 (Sent 19 5 (messages.Answer 16 (answers.Yes 0))) ∷ marked 5 (Got 19) ∷
-    marked 0 (Sent 20 6 (messages.Answer 12 (answers.Granted (grant_with 1 0 [])))) ∷ marked 6 (Got 20) ∷
+    marked 0 (Sent 20 6 (messages.Answer 12 (answers.Granted (whole_grant 1 0 [])))) ∷ marked 6 (Got 20) ∷
     marked 2 (Wrote (prepare (tx 1 1) 1 (read_lock 0 2 ∷ []) [] [])) ∷
     marked 2 (Sent 21 5 (messages.Answer 17 (answers.Yes 0))) ∷
-    marked 3 (Sent 22 6 (messages.Answer 11 (answers.Granted (grant_with 1 0 [])))) ∷ marked 3 (Got 18) ∷
+    marked 3 (Sent 22 6 (messages.Answer 11 (answers.Granted (whole_grant 1 0 [])))) ∷ marked 3 (Got 18) ∷
     marked 3 (Wrote (prepare (tx 1 1) 1 (read_lock 0 2 ∷ []) [] [])) ∷
     marked 3 (Sent 23 5 (messages.Answer 18 (answers.Yes 0))) ∷ marked 5 (Got 21) ∷
     marked 7 (Told (replies.Response 3)) ∷ marked 7 (Called (commands.Do 0 1)) ∷ marked 5 (Got 23) ∷
-    marked 7 (Sent 24 3 (messages.Request (tx 3 1) 1 1 (wants.Read (read_of 0 1)))) ∷
-    marked 7 (Sent 25 0 (messages.Request (tx 3 1) 1 1 (wants.Read (read_of 0 1)))) ∷
-    marked 7 (Sent 26 1 (messages.Request (tx 3 1) 1 1 (wants.Read (read_of 0 1)))) ∷ marked 1 (Got 26)
+    marked 7 (Sent 24 3 (messages.Request (tx 3 1) 1 1 (wants.Read (first_read 0 1)))) ∷
+    marked 7 (Sent 25 0 (messages.Request (tx 3 1) 1 1 (wants.Read (first_read 0 1)))) ∷
+    marked 7 (Sent 26 1 (messages.Request (tx 3 1) 1 1 (wants.Read (first_read 0 1)))) ∷ marked 1 (Got 26)
     ∷ marked 3 (Got 24) ∷
-    marked 1 (Sent 27 7 (messages.Answer 26 (answers.Granted (grant_with 1 0 [])))) ∷ marked 0 (Got 25)
+    marked 1 (Sent 27 7 (messages.Answer 26 (answers.Granted (whole_grant 1 0 [])))) ∷ marked 0 (Got 25)
     ∷ marked 7 (Got 27) ∷
     marked 6 (Got 22) ∷ marked 5 (Told replies.Unknown) ∷
     marked 5 (Fell falls.Disk (Some (commit (stamp 1 1) (tx 1 1) (operation 0 2 (Some 3) ∷ [])))) ∷
     marked 6 (Sent 28 2 (messages.Request (tx_in 2 2 1) 1 1 (wants.Append 0 [] (own_line 1 0 1 ∷ [])))) ∷
     marked 6 (Sent 29 3 (messages.Request (tx_in 2 2 1) 1 1 (wants.Append 0 [] (own_line 1 0 1 ∷ [])))) ∷
-    marked 2 (Got 28) ∷ marked 0 (Sent 30 7 (messages.Answer 25 (answers.Granted (grant_with 1 0 []))))
+    marked 2 (Got 28) ∷ marked 0 (Sent 30 7 (messages.Answer 25 (answers.Granted (whole_grant 1 0 []))))
     ∷ marked 7 (Got 30) ∷
     marked 2 (Sent 31 6 (messages.Answer 28 (answers.Clash (tx 1 1) 2 1))) ∷
     marked 2 (Sent 32 5 (messages.Inquiry (tx 1 1))) ∷ marked 6 (Got 31) ∷
-    marked 3 (Sent 33 7 (messages.Answer 24 (answers.Granted (grant_with 1 0 [])))) ∷ marked 3 (Got 29) ∷
+    marked 3 (Sent 33 7 (messages.Answer 24 (answers.Granted (whole_grant 1 0 [])))) ∷ marked 3 (Got 29) ∷
     marked 3 (Sent 34 6 (messages.Answer 29 (answers.Clash (tx 1 1) 2 1))) ∷
     marked 3 (Sent 35 5 (messages.Inquiry (tx 1 1))) ∷ marked 6 (Got 34) ∷
     marked 6 (Told (replies.Conflict (tx 1 1) 2)) ∷ marked 7 (Got 33) ∷ marked 6 (Called (commands.Do 0 1)) ∷
@@ -130,17 +132,17 @@ history =
     marked 7 (Told (replies.Aborted causes.Doomed)) ∷ marked 7 (Called commands.Begin) ∷ marked 1 (Got 47) ∷
     marked 0 (Got 46) ∷ marked 3 (Got 48) ∷ marked 7 (Told (replies.Began (tx 3 2))) ∷
     marked 7 (Called (commands.Do 0 0))
-    ∷ marked 7 (Sent 49 3 (messages.Request (tx 3 2) 1 0 (wants.Read (read_of 0 0)))) ∷
-    marked 7 (Sent 50 0 (messages.Request (tx 3 2) 1 0 (wants.Read (read_of 0 0)))) ∷
-    marked 7 (Sent 51 1 (messages.Request (tx 3 2) 1 0 (wants.Read (read_of 0 0)))) ∷ marked 3 (Got 49)
+    ∷ marked 7 (Sent 49 3 (messages.Request (tx 3 2) 1 0 (wants.Read (first_read 0 0)))) ∷
+    marked 7 (Sent 50 0 (messages.Request (tx 3 2) 1 0 (wants.Read (first_read 0 0)))) ∷
+    marked 7 (Sent 51 1 (messages.Request (tx 3 2) 1 0 (wants.Read (first_read 0 0)))) ∷ marked 3 (Got 49)
     ∷ marked 1 (Got 51) ∷
-    marked 0 (Got 50) ∷ marked 1 (Sent 52 7 (messages.Answer 51 (answers.Granted (grant_with 1 0 []))))
+    marked 0 (Got 50) ∷ marked 1 (Sent 52 7 (messages.Answer 51 (answers.Granted (whole_grant 1 0 []))))
     ∷ marked 7 (Got 52) ∷
-    marked 0 (Sent 53 7 (messages.Answer 50 (answers.Granted (grant_with 1 0 [])))) ∷ marked 7 (Got 53) ∷
-    marked 3 (Sent 54 7 (messages.Answer 49 (answers.Granted (grant_with 1 0 [])))) ∷ marked 7 (Got 54) ∷
+    marked 0 (Sent 53 7 (messages.Answer 50 (answers.Granted (whole_grant 1 0 [])))) ∷ marked 7 (Got 53) ∷
+    marked 3 (Sent 54 7 (messages.Answer 49 (answers.Granted (whole_grant 1 0 [])))) ∷ marked 7 (Got 54) ∷
     marked 7 (Sent 55 3 (messages.Request (tx 3 2) 1 1 (wants.Append 0 [] (own_line 1 0 0 ∷ [])))) ∷
     marked 7 (Sent 56 0 (messages.Request (tx 3 2) 1 1 (wants.Append 0 [] (own_line 1 0 0 ∷ [])))) ∷ marked 0 (Got 56) ∷
-    marked 3 (Got 55) ∷ marked 0 (Sent 57 7 (messages.Answer 56 (answers.Granted (grant_with 1 0 []))))
+    marked 3 (Got 55) ∷ marked 0 (Sent 57 7 (messages.Answer 56 (answers.Granted (whole_grant 1 0 []))))
     ∷ marked 7 (Got 57) ∷
     marked 3 (Sent 58 7 (messages.Answer 55 (answers.Clash (tx 1 1) 2 0))) ∷
     marked 3 (Sent 59 5 (messages.Inquiry (tx 1 1))) ∷ marked 7 (Got 58) ∷

@@ -19,7 +19,7 @@ use Rattle.qc_msg.specs.declared.record.Record.TheVariants as records
 use Rattle.qc_msg.specs.declared.reply.Reply.TheVariants as replies
 use Rattle.qc_msg.specs.declared.message.Want.TheVariants as wants
 use Rattle.qc_msg.specs.declared.step.Fall.TheVariants as falls
-use Rattle.qc_msg.specs.Vocabulary.{grant_with, read_of}
+use Rattle.qc_msg.specs.Vocabulary.{whole_grant, first_read}
 use Rattle.qc_outside.specs.declared.disk.ArmKind.TheVariants as arms
 
 abbrev pub decl : Declaration
@@ -58,7 +58,7 @@ history =
     marked 7 (Phase 1) ∷ marked 5 (Called commands.Begin) ∷ marked 5 (Told (replies.Began (tx 0 1))) ∷
     marked 5 (Called (commands.Do 0 0)) ∷
     marked 5 (Sent 0 0 (messages.Request (tx 0 1) 1 0 (wants.Append 0 [] (own_line 1 0 1 ∷ [])))) ∷ marked 0 (Got 0) ∷
-    marked 0 (Sent 1 5 (messages.Answer 0 (answers.Granted (grant_with 1 0 [])))) ∷ marked 5 (Got 1) ∷
+    marked 0 (Sent 1 5 (messages.Answer 0 (answers.Granted (whole_grant 1 0 [])))) ∷ marked 5 (Got 1) ∷
     marked 5 (Told (replies.Response 0)) ∷ marked 5 (Called commands.Commit) ∷
     marked 5 (Sent 2 0 (messages.Request (tx 0 1) 1 1 wants.Prepare)) ∷ marked 0 (Got 2) ∷
     marked 0 (Wrote (prepare (tx 0 1) 1 [] (own_line 1 0 1 ∷ []) [])) ∷
@@ -74,40 +74,41 @@ history =
     marked 5 (Told replies.NoTransaction) ∷ marked 5 (Called commands.Abort) ∷ marked 5 (Told replies.NoTransaction) ∷
     marked 7 (Phase 4) ∷ marked 7 (Armed 4 arms.Stop 9) ∷ marked 5 (Called commands.Begin) ∷
     marked 5 (Told (replies.Began (tx 0 2))) ∷ marked 5 (Called (commands.Do 0 2)) ∷
-    marked 5 (Sent 5 0 (messages.Request (tx 0 2) 1 0 (wants.Read (read_of 0 2)))) ∷
-    marked 5 (Sent 6 1 (messages.Request (tx 0 2) 1 0 (wants.Read (read_of 0 2)))) ∷
-    marked 5 (Sent 7 2 (messages.Request (tx 0 2) 1 0 (wants.Read (read_of 0 2)))) ∷
-    marked 5 (Sent 8 3 (messages.Request (tx 0 2) 1 0 (wants.Read (read_of 0 2)))) ∷
-    marked 5 (Sent 9 4 (messages.Request (tx 0 2) 1 0 (wants.Read (read_of 0 2)))) ∷ marked 1 (Got 6) ∷
-    marked 1 (Sent 10 5 (messages.Answer 6 (answers.Granted (grant_with 1 0 [])))) ∷ marked 3 (Got 8) ∷ marked 0 (Got 5)
+    marked 5 (Sent 5 0 (messages.Request (tx 0 2) 1 0 (wants.Read (first_read 0 2)))) ∷
+    marked 5 (Sent 6 1 (messages.Request (tx 0 2) 1 0 (wants.Read (first_read 0 2)))) ∷
+    marked 5 (Sent 7 2 (messages.Request (tx 0 2) 1 0 (wants.Read (first_read 0 2)))) ∷
+    marked 5 (Sent 8 3 (messages.Request (tx 0 2) 1 0 (wants.Read (first_read 0 2)))) ∷
+    marked 5 (Sent 9 4 (messages.Request (tx 0 2) 1 0 (wants.Read (first_read 0 2)))) ∷ marked 1 (Got 6) ∷
+    marked 1 (Sent 10 5 (messages.Answer 6 (answers.Granted (whole_grant 1 0 [])))) ∷ marked 3 (Got 8) ∷
+    marked 0 (Got 5)
     ∷
     marked 2 (Got 7)
-    ∷ marked 0 (Sent 11 5 (messages.Answer 5 (answers.Granted (grant_with 2 1 (line 1 0 1 1 0 1 ∷ []))))) ∷
-    marked 3 (Sent 12 5 (messages.Answer 8 (answers.Granted (grant_with 1 0 [])))) ∷
-    marked 2 (Sent 13 5 (messages.Answer 7 (answers.Granted (grant_with 1 0 [])))) ∷ marked 5 (Got 10)
+    ∷ marked 0 (Sent 11 5 (messages.Answer 5 (answers.Granted (whole_grant 2 1 (line 1 0 1 1 0 1 ∷ []))))) ∷
+    marked 3 (Sent 12 5 (messages.Answer 8 (answers.Granted (whole_grant 1 0 [])))) ∷
+    marked 2 (Sent 13 5 (messages.Answer 7 (answers.Granted (whole_grant 1 0 [])))) ∷ marked 5 (Got 10)
     ∷ marked 4 (Got 9) ∷
-    marked 4 (Sent 14 5 (messages.Answer 9 (answers.Granted (grant_with 1 0 [])))) ∷ marked 5 (Got 11)
+    marked 4 (Sent 14 5 (messages.Answer 9 (answers.Granted (whole_grant 1 0 [])))) ∷ marked 5 (Got 11)
     ∷ marked 5 (Got 12) ∷
     marked 5 (Got 13) ∷ marked 5 (Got 14) ∷ marked 5 (Told replies.Absent) ∷ marked 5 (Called (commands.Do 1 1)) ∷
-    marked 5 (Sent 15 0 (messages.Request (tx 0 2) 1 2 (wants.Read (read_of 1 1)))) ∷
-    marked 5 (Sent 16 1 (messages.Request (tx 0 2) 1 1 (wants.Read (read_of 1 1)))) ∷
-    marked 5 (Sent 17 2 (messages.Request (tx 0 2) 1 1 (wants.Read (read_of 1 1)))) ∷ marked 0 (Got 15) ∷
-    marked 0 (Sent 18 5 (messages.Answer 15 (answers.Granted (grant_with 2 1 [])))) ∷ marked 2 (Got 17)
+    marked 5 (Sent 15 0 (messages.Request (tx 0 2) 1 2 (wants.Read (first_read 1 1)))) ∷
+    marked 5 (Sent 16 1 (messages.Request (tx 0 2) 1 1 (wants.Read (first_read 1 1)))) ∷
+    marked 5 (Sent 17 2 (messages.Request (tx 0 2) 1 1 (wants.Read (first_read 1 1)))) ∷ marked 0 (Got 15) ∷
+    marked 0 (Sent 18 5 (messages.Answer 15 (answers.Granted (whole_grant 2 1 [])))) ∷ marked 2 (Got 17)
     ∷ marked 1 (Got 16) ∷
-    marked 1 (Sent 19 5 (messages.Answer 16 (answers.Granted (grant_with 1 0 [])))) ∷
-    marked 2 (Sent 20 5 (messages.Answer 17 (answers.Granted (grant_with 1 0 [])))) ∷ marked 5 (Got 18)
+    marked 1 (Sent 19 5 (messages.Answer 16 (answers.Granted (whole_grant 1 0 [])))) ∷
+    marked 2 (Sent 20 5 (messages.Answer 17 (answers.Granted (whole_grant 1 0 [])))) ∷ marked 5 (Got 18)
     ∷ marked 5 (Got 19) ∷
     marked 5 (Got 20) ∷ marked 5 (Sent 21 0 (messages.Request (tx 0 2) 1 2 (wants.Append 1 [] (own_line 2 1 2 ∷ [])))) ∷
     marked 5 (Sent 22 1 (messages.Request (tx 0 2) 1 1 (wants.Append 1 [] (own_line 2 1 2 ∷ [])))) ∷
     marked 5 (Sent 23 2 (messages.Request (tx 0 2) 1 1 (wants.Append 1 [] (own_line 2 1 2 ∷ [])))) ∷ marked 1 (Got 22) ∷
-    marked 2 (Got 23) ∷ marked 1 (Sent 24 5 (messages.Answer 22 (answers.Granted (grant_with 1 0 []))))
+    marked 2 (Got 23) ∷ marked 1 (Sent 24 5 (messages.Answer 22 (answers.Granted (whole_grant 1 0 []))))
     ∷ marked 5 (Got 24) ∷
-    marked 5 (Lost 21) ∷ marked 2 (Sent 25 5 (messages.Answer 23 (answers.Granted (grant_with 1 0 []))))
+    marked 5 (Lost 21) ∷ marked 2 (Sent 25 5 (messages.Answer 23 (answers.Granted (whole_grant 1 0 []))))
     ∷ marked 5 (Got 25) ∷
     marked 5 (Told (replies.Response 2)) ∷ marked 5 (Called (commands.Do 0 0)) ∷
     marked 5 (Sent 26 0 (messages.Request (tx 0 2) 1 2 (wants.Append 0 (line 1 0 1 1 0 1 ∷ []) (own_line 3 0 1 ∷ []))))
     ∷
-    marked 0 (Got 26) ∷ marked 0 (Sent 27 5 (messages.Answer 26 (answers.Granted (grant_with 2 1 []))))
+    marked 0 (Got 26) ∷ marked 0 (Sent 27 5 (messages.Answer 26 (answers.Granted (whole_grant 2 1 []))))
     ∷ marked 5 (Got 27) ∷
     marked 5 (Told (replies.Response 0)) ∷ marked 5 (Called commands.Commit) ∷
     marked 5 (Sent 28 0 (messages.Request (tx 0 2) 1 2 wants.Prepare)) ∷
@@ -134,16 +135,16 @@ history =
     marked 5 (Told (replies.Aborted (causes.NoAnswer 0))) ∷ marked 2 (Got 40) ∷ marked 3 (Got 41) ∷ marked 0 (Got 38) ∷
     marked 1 (Got 39) ∷ marked 4 (Got 42) ∷ marked 5 (Called commands.Begin) ∷
     marked 5 (Told (replies.Began (tx 0 3))) ∷ marked 5 (Called (commands.Do 1 2)) ∷
-    marked 5 (Sent 43 0 (messages.Request (tx 0 3) 1 0 (wants.Read (read_of 1 2)))) ∷
-    marked 5 (Sent 44 1 (messages.Request (tx 0 3) 1 0 (wants.Read (read_of 1 2)))) ∷
-    marked 5 (Sent 45 2 (messages.Request (tx 0 3) 1 0 (wants.Read (read_of 1 2)))) ∷ marked 0 (Got 43) ∷
-    marked 0 (Sent 46 5 (messages.Answer 43 (answers.Granted (grant_with 2 1 [])))) ∷ marked 5 (Got 46)
+    marked 5 (Sent 43 0 (messages.Request (tx 0 3) 1 0 (wants.Read (first_read 1 2)))) ∷
+    marked 5 (Sent 44 1 (messages.Request (tx 0 3) 1 0 (wants.Read (first_read 1 2)))) ∷
+    marked 5 (Sent 45 2 (messages.Request (tx 0 3) 1 0 (wants.Read (first_read 1 2)))) ∷ marked 0 (Got 43) ∷
+    marked 0 (Sent 46 5 (messages.Answer 43 (answers.Granted (whole_grant 2 1 [])))) ∷ marked 5 (Got 46)
     ∷ marked 5 (Lost 44) ∷
-    marked 5 (Lost 45) ∷ marked 5 (Sent 47 3 (messages.Request (tx 0 3) 1 0 (wants.Read (read_of 1 2))))
+    marked 5 (Lost 45) ∷ marked 5 (Sent 47 3 (messages.Request (tx 0 3) 1 0 (wants.Read (first_read 1 2))))
     ∷ marked 3 (Got 47) ∷
-    marked 3 (Sent 48 5 (messages.Answer 47 (answers.Granted (grant_with 1 0 [])))) ∷ marked 5 (Got 48) ∷
-    marked 5 (Sent 49 4 (messages.Request (tx 0 3) 1 0 (wants.Read (read_of 1 2)))) ∷ marked 4 (Got 49) ∷
-    marked 4 (Sent 50 5 (messages.Answer 49 (answers.Granted (grant_with 1 0 [])))) ∷ marked 5 (Got 50) ∷
+    marked 3 (Sent 48 5 (messages.Answer 47 (answers.Granted (whole_grant 1 0 [])))) ∷ marked 5 (Got 48) ∷
+    marked 5 (Sent 49 4 (messages.Request (tx 0 3) 1 0 (wants.Read (first_read 1 2)))) ∷ marked 4 (Got 49) ∷
+    marked 4 (Sent 50 5 (messages.Answer 49 (answers.Granted (whole_grant 1 0 [])))) ∷ marked 5 (Got 50) ∷
     marked 5 (Told (replies.Quorum halves.Read 3 5)) ∷ marked 5 (Called commands.Commit) ∷
     marked 5 (Sent 51 0 (messages.Request (tx 0 3) 1 2 wants.Prepare)) ∷
     marked 5 (Sent 52 3 (messages.Request (tx 0 3) 1 1 wants.Prepare)) ∷

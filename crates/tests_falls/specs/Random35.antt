@@ -20,7 +20,7 @@ use Rattle.qc_msg.specs.declared.record.Record.TheVariants as records
 use Rattle.qc_msg.specs.declared.reply.Reply.TheVariants as replies
 use Rattle.qc_msg.specs.declared.message.Want.TheVariants as wants
 use Rattle.qc_msg.specs.declared.step.Fall.TheVariants as falls
-use Rattle.qc_msg.specs.Vocabulary.{grant_with, read_of}
+use Rattle.qc_msg.specs.Vocabulary.{whole_grant, first_read}
 use Rattle.qc_outside.specs.declared.disk.ArmKind.TheVariants as arms
 
 abbrev pub decl : Declaration
@@ -61,62 +61,62 @@ history =
     marked 7 (Called commands.Begin) ∷ marked 7 (Told (replies.Began (tx 2 1))) ∷ marked 7 (Called (commands.Do 0 0)) ∷
     marked 8 (Called commands.Begin) ∷ marked 5 (Called commands.Begin) ∷ marked 7 (Told replies.Absent) ∷
     marked 5 (Told (replies.Began (tx_in 0 2 1))) ∷ marked 5 (Called (commands.Do 1 0)) ∷
-    marked 5 (Sent 0 0 (messages.Request (tx_in 0 2 1) 1 0 (wants.Read (read_of 1 0)))) ∷
-    marked 5 (Sent 1 1 (messages.Request (tx_in 0 2 1) 1 0 (wants.Read (read_of 1 0)))) ∷
-    marked 5 (Sent 2 2 (messages.Request (tx_in 0 2 1) 1 0 (wants.Read (read_of 1 0)))) ∷ marked 2 (Got 2)
+    marked 5 (Sent 0 0 (messages.Request (tx_in 0 2 1) 1 0 (wants.Read (first_read 1 0)))) ∷
+    marked 5 (Sent 1 1 (messages.Request (tx_in 0 2 1) 1 0 (wants.Read (first_read 1 0)))) ∷
+    marked 5 (Sent 2 2 (messages.Request (tx_in 0 2 1) 1 0 (wants.Read (first_read 1 0)))) ∷ marked 2 (Got 2)
     ∷ marked 1 (Got 1) ∷
-    marked 2 (Sent 3 5 (messages.Answer 2 (answers.Granted (grant_with 1 0 [])))) ∷
-    marked 1 (Sent 4 5 (messages.Answer 1 (answers.Granted (grant_with 2 0 [])))) ∷ marked 5 (Got 3) ∷ marked 5 (Got 4)
+    marked 2 (Sent 3 5 (messages.Answer 2 (answers.Granted (whole_grant 1 0 [])))) ∷
+    marked 1 (Sent 4 5 (messages.Answer 1 (answers.Granted (whole_grant 2 0 [])))) ∷ marked 5 (Got 3) ∷ marked 5 (Got 4)
     ∷
-    marked 5 (Lost 0) ∷ marked 5 (Sent 5 3 (messages.Request (tx_in 0 2 1) 1 0 (wants.Read (read_of 1 0))))
+    marked 5 (Lost 0) ∷ marked 5 (Sent 5 3 (messages.Request (tx_in 0 2 1) 1 0 (wants.Read (first_read 1 0))))
     ∷ marked 5 (Lost 5) ∷
-    marked 5 (Sent 6 4 (messages.Request (tx_in 0 2 1) 1 0 (wants.Read (read_of 1 0)))) ∷ marked 4 (Got 6) ∷
-    marked 4 (Sent 7 5 (messages.Answer 6 (answers.Granted (grant_with 1 0 [])))) ∷ marked 5 (Got 7) ∷
+    marked 5 (Sent 6 4 (messages.Request (tx_in 0 2 1) 1 0 (wants.Read (first_read 1 0)))) ∷ marked 4 (Got 6) ∷
+    marked 4 (Sent 7 5 (messages.Answer 6 (answers.Granted (whole_grant 1 0 [])))) ∷ marked 5 (Got 7) ∷
     marked 5 (Told (replies.Quorum halves.Read 3 4)) ∷ marked 5 (Called (commands.Do 1 2)) ∷
-    marked 5 (Sent 8 0 (messages.Request (tx_in 0 2 1) 1 0 (wants.Read (read_of 1 2)))) ∷
-    marked 5 (Sent 9 1 (messages.Request (tx_in 0 2 1) 1 2 (wants.Read (read_of 1 2)))) ∷
-    marked 5 (Sent 10 2 (messages.Request (tx_in 0 2 1) 1 1 (wants.Read (read_of 1 2)))) ∷ marked 1 (Got 9)
+    marked 5 (Sent 8 0 (messages.Request (tx_in 0 2 1) 1 0 (wants.Read (first_read 1 2)))) ∷
+    marked 5 (Sent 9 1 (messages.Request (tx_in 0 2 1) 1 2 (wants.Read (first_read 1 2)))) ∷
+    marked 5 (Sent 10 2 (messages.Request (tx_in 0 2 1) 1 1 (wants.Read (first_read 1 2)))) ∷ marked 1 (Got 9)
     ∷ marked 2 (Got 10) ∷
-    marked 2 (Sent 11 5 (messages.Answer 10 (answers.Granted (grant_with 1 0 [])))) ∷
-    marked 1 (Sent 12 5 (messages.Answer 9 (answers.Granted (grant_with 2 0 [])))) ∷ marked 5 (Got 11)
+    marked 2 (Sent 11 5 (messages.Answer 10 (answers.Granted (whole_grant 1 0 [])))) ∷
+    marked 1 (Sent 12 5 (messages.Answer 9 (answers.Granted (whole_grant 2 0 [])))) ∷ marked 5 (Got 11)
     ∷ marked 5 (Got 12) ∷
-    marked 5 (Lost 8) ∷ marked 5 (Sent 13 3 (messages.Request (tx_in 0 2 1) 1 0 (wants.Read (read_of 1 2)))) ∷
-    marked 5 (Lost 13) ∷ marked 5 (Sent 14 4 (messages.Request (tx_in 0 2 1) 1 1 (wants.Read (read_of 1 2)))) ∷
+    marked 5 (Lost 8) ∷ marked 5 (Sent 13 3 (messages.Request (tx_in 0 2 1) 1 0 (wants.Read (first_read 1 2)))) ∷
+    marked 5 (Lost 13) ∷ marked 5 (Sent 14 4 (messages.Request (tx_in 0 2 1) 1 1 (wants.Read (first_read 1 2)))) ∷
     marked 4 (Got 14) ∷ marked 8 (Told (replies.Began (tx 3 1))) ∷
-    marked 4 (Sent 15 5 (messages.Answer 14 (answers.Granted (grant_with 1 0 [])))) ∷ marked 5 (Got 15) ∷
+    marked 4 (Sent 15 5 (messages.Answer 14 (answers.Granted (whole_grant 1 0 [])))) ∷ marked 5 (Got 15) ∷
     marked 5 (Told (replies.Quorum halves.Read 3 4)) ∷ marked 8 (Called (commands.Do 1 0)) ∷
-    marked 8 (Sent 16 3 (messages.Request (tx 3 1) 1 0 (wants.Read (read_of 1 0)))) ∷
-    marked 8 (Sent 17 4 (messages.Request (tx 3 1) 1 0 (wants.Read (read_of 1 0)))) ∷
-    marked 8 (Sent 18 0 (messages.Request (tx 3 1) 1 0 (wants.Read (read_of 1 0)))) ∷ marked 4 (Got 17) ∷
-    marked 4 (Sent 19 8 (messages.Answer 17 (answers.Granted (grant_with 1 0 [])))) ∷ marked 8 (Got 19)
+    marked 8 (Sent 16 3 (messages.Request (tx 3 1) 1 0 (wants.Read (first_read 1 0)))) ∷
+    marked 8 (Sent 17 4 (messages.Request (tx 3 1) 1 0 (wants.Read (first_read 1 0)))) ∷
+    marked 8 (Sent 18 0 (messages.Request (tx 3 1) 1 0 (wants.Read (first_read 1 0)))) ∷ marked 4 (Got 17) ∷
+    marked 4 (Sent 19 8 (messages.Answer 17 (answers.Granted (whole_grant 1 0 [])))) ∷ marked 8 (Got 19)
     ∷ marked 8 (Lost 16) ∷
-    marked 8 (Lost 18) ∷ marked 8 (Sent 20 1 (messages.Request (tx 3 1) 1 0 (wants.Read (read_of 1 0))))
+    marked 8 (Lost 18) ∷ marked 8 (Sent 20 1 (messages.Request (tx 3 1) 1 0 (wants.Read (first_read 1 0))))
     ∷ marked 1 (Got 20) ∷
-    marked 1 (Sent 21 8 (messages.Answer 20 (answers.Granted (grant_with 2 0 [])))) ∷ marked 8 (Got 21) ∷
-    marked 8 (Sent 22 2 (messages.Request (tx 3 1) 1 0 (wants.Read (read_of 1 0)))) ∷ marked 2 (Got 22) ∷
-    marked 2 (Sent 23 8 (messages.Answer 22 (answers.Granted (grant_with 1 0 [])))) ∷ marked 8 (Got 23) ∷
+    marked 1 (Sent 21 8 (messages.Answer 20 (answers.Granted (whole_grant 2 0 [])))) ∷ marked 8 (Got 21) ∷
+    marked 8 (Sent 22 2 (messages.Request (tx 3 1) 1 0 (wants.Read (first_read 1 0)))) ∷ marked 2 (Got 22) ∷
+    marked 2 (Sent 23 8 (messages.Answer 22 (answers.Granted (whole_grant 1 0 [])))) ∷ marked 8 (Got 23) ∷
     marked 8 (Told (replies.Quorum halves.Read 3 4)) ∷ marked 8 (Called (commands.Do 1 0)) ∷
-    marked 8 (Sent 24 3 (messages.Request (tx 3 1) 1 0 (wants.Read (read_of 1 0)))) ∷
-    marked 8 (Sent 25 4 (messages.Request (tx 3 1) 1 1 (wants.Read (read_of 1 0)))) ∷
-    marked 8 (Sent 26 0 (messages.Request (tx 3 1) 1 0 (wants.Read (read_of 1 0)))) ∷ marked 4 (Got 25) ∷
-    marked 4 (Sent 27 8 (messages.Answer 25 (answers.Granted (grant_with 1 0 [])))) ∷ marked 8 (Got 27)
+    marked 8 (Sent 24 3 (messages.Request (tx 3 1) 1 0 (wants.Read (first_read 1 0)))) ∷
+    marked 8 (Sent 25 4 (messages.Request (tx 3 1) 1 1 (wants.Read (first_read 1 0)))) ∷
+    marked 8 (Sent 26 0 (messages.Request (tx 3 1) 1 0 (wants.Read (first_read 1 0)))) ∷ marked 4 (Got 25) ∷
+    marked 4 (Sent 27 8 (messages.Answer 25 (answers.Granted (whole_grant 1 0 [])))) ∷ marked 8 (Got 27)
     ∷ marked 8 (Lost 24) ∷
-    marked 8 (Lost 26) ∷ marked 8 (Sent 28 1 (messages.Request (tx 3 1) 1 2 (wants.Read (read_of 1 0))))
+    marked 8 (Lost 26) ∷ marked 8 (Sent 28 1 (messages.Request (tx 3 1) 1 2 (wants.Read (first_read 1 0))))
     ∷ marked 1 (Got 28) ∷
-    marked 1 (Sent 29 8 (messages.Answer 28 (answers.Granted (grant_with 2 0 [])))) ∷ marked 8 (Got 29) ∷
-    marked 8 (Sent 30 2 (messages.Request (tx 3 1) 1 1 (wants.Read (read_of 1 0)))) ∷ marked 2 (Got 30) ∷
-    marked 2 (Sent 31 8 (messages.Answer 30 (answers.Granted (grant_with 1 0 [])))) ∷ marked 8 (Got 31) ∷
+    marked 1 (Sent 29 8 (messages.Answer 28 (answers.Granted (whole_grant 2 0 [])))) ∷ marked 8 (Got 29) ∷
+    marked 8 (Sent 30 2 (messages.Request (tx 3 1) 1 1 (wants.Read (first_read 1 0)))) ∷ marked 2 (Got 30) ∷
+    marked 2 (Sent 31 8 (messages.Answer 30 (answers.Granted (whole_grant 1 0 [])))) ∷ marked 8 (Got 31) ∷
     marked 8 (Told (replies.Quorum halves.Read 3 4)) ∷ marked 8 (Called (commands.Do 1 0)) ∷
-    marked 8 (Sent 32 3 (messages.Request (tx 3 1) 1 0 (wants.Read (read_of 1 0)))) ∷
-    marked 8 (Sent 33 4 (messages.Request (tx 3 1) 1 1 (wants.Read (read_of 1 0)))) ∷
-    marked 8 (Sent 34 0 (messages.Request (tx 3 1) 1 0 (wants.Read (read_of 1 0)))) ∷ marked 4 (Got 33) ∷
-    marked 4 (Sent 35 8 (messages.Answer 33 (answers.Granted (grant_with 1 0 [])))) ∷ marked 8 (Got 35)
+    marked 8 (Sent 32 3 (messages.Request (tx 3 1) 1 0 (wants.Read (first_read 1 0)))) ∷
+    marked 8 (Sent 33 4 (messages.Request (tx 3 1) 1 1 (wants.Read (first_read 1 0)))) ∷
+    marked 8 (Sent 34 0 (messages.Request (tx 3 1) 1 0 (wants.Read (first_read 1 0)))) ∷ marked 4 (Got 33) ∷
+    marked 4 (Sent 35 8 (messages.Answer 33 (answers.Granted (whole_grant 1 0 [])))) ∷ marked 8 (Got 35)
     ∷ marked 8 (Lost 32) ∷
-    marked 8 (Lost 34) ∷ marked 8 (Sent 36 1 (messages.Request (tx 3 1) 1 2 (wants.Read (read_of 1 0))))
+    marked 8 (Lost 34) ∷ marked 8 (Sent 36 1 (messages.Request (tx 3 1) 1 2 (wants.Read (first_read 1 0))))
     ∷ marked 1 (Got 36) ∷
-    marked 1 (Sent 37 8 (messages.Answer 36 (answers.Granted (grant_with 2 0 [])))) ∷ marked 8 (Got 37) ∷
-    marked 8 (Sent 38 2 (messages.Request (tx 3 1) 1 1 (wants.Read (read_of 1 0)))) ∷ marked 2 (Got 38) ∷
-    marked 2 (Sent 39 8 (messages.Answer 38 (answers.Granted (grant_with 1 0 [])))) ∷ marked 8 (Got 39) ∷
+    marked 1 (Sent 37 8 (messages.Answer 36 (answers.Granted (whole_grant 2 0 [])))) ∷ marked 8 (Got 37) ∷
+    marked 8 (Sent 38 2 (messages.Request (tx 3 1) 1 1 (wants.Read (first_read 1 0)))) ∷ marked 2 (Got 38) ∷
+    marked 2 (Sent 39 8 (messages.Answer 38 (answers.Granted (whole_grant 1 0 [])))) ∷ marked 8 (Got 39) ∷
     marked 8 (Told (replies.Quorum halves.Read 3 4)) ∷ marked 8 (Called commands.Commit) ∷
     marked 8 (Sent 40 4 (messages.Request (tx 3 1) 1 1 wants.Prepare)) ∷
     marked 8 (Sent 41 1 (messages.Request (tx 3 1) 1 2 wants.Prepare)) ∷

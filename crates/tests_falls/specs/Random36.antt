@@ -20,7 +20,7 @@ use Rattle.qc_msg.specs.declared.record.Record.TheVariants as records
 use Rattle.qc_msg.specs.declared.reply.Reply.TheVariants as replies
 use Rattle.qc_msg.specs.declared.message.Want.TheVariants as wants
 use Rattle.qc_msg.specs.declared.step.Fall.TheVariants as falls
-use Rattle.qc_msg.specs.Vocabulary.{grant_with, read_of}
+use Rattle.qc_msg.specs.Vocabulary.{whole_grant, first_read}
 use Rattle.qc_outside.specs.declared.disk.ArmKind.TheVariants as arms
 
 abbrev pub decl : Declaration
@@ -55,20 +55,23 @@ moves =
 abbrev pub history : List Entry
 history =
     marked 5 (Phase 1) ∷ marked 2 (Called commands.Begin) ∷ marked 2 (Told (replies.Began (tx 0 1))) ∷
-    marked 2 (Called (commands.Do 1 0)) ∷ marked 2 (Sent 0 0 (messages.Request (tx 0 1) 1 0 (wants.Read (read_of 1 0))))
+    marked 2 (Called (commands.Do 1 0)) ∷
+    marked 2 (Sent 0 0 (messages.Request (tx 0 1) 1 0 (wants.Read (first_read 1 0))))
     ∷
-    marked 2 (Sent 1 1 (messages.Request (tx 0 1) 1 0 (wants.Read (read_of 1 0)))) ∷ marked 1 (Got 1) ∷ marked 0 (Got 0)
+    marked 2 (Sent 1 1 (messages.Request (tx 0 1) 1 0 (wants.Read (first_read 1 0)))) ∷ marked 1 (Got 1) ∷
+    marked 0 (Got 0)
     ∷
-    marked 1 (Sent 2 2 (messages.Answer 1 (answers.Granted (grant_with 1 0 [])))) ∷ marked 2 (Got 2) ∷
-    marked 0 (Sent 3 2 (messages.Answer 0 (answers.Granted (grant_with 1 0 [])))) ∷ marked 2 (Got 3) ∷
+    marked 1 (Sent 2 2 (messages.Answer 1 (answers.Granted (whole_grant 1 0 [])))) ∷ marked 2 (Got 2) ∷
+    marked 0 (Sent 3 2 (messages.Answer 0 (answers.Granted (whole_grant 1 0 [])))) ∷ marked 2 (Got 3) ∷
     marked 2 (Sent 4 0 (messages.Request (tx 0 1) 1 1 (wants.Append 1 [] (own_line 1 1 0 ∷ [])))) ∷ marked 0 (Got 4) ∷
-    marked 0 (Sent 5 2 (messages.Answer 4 (answers.Granted (grant_with 1 0 [])))) ∷ marked 2 (Got 5) ∷
+    marked 0 (Sent 5 2 (messages.Answer 4 (answers.Granted (whole_grant 1 0 [])))) ∷ marked 2 (Got 5) ∷
     marked 2 (Told (replies.Response 0)) ∷ marked 2 (Called (commands.Do 1 0)) ∷
-    marked 2 (Sent 6 0 (messages.Request (tx 0 1) 1 1 (wants.Read (read_of 1 0)))) ∷
-    marked 2 (Sent 7 1 (messages.Request (tx 0 1) 1 1 (wants.Read (read_of 1 0)))) ∷ marked 0 (Got 6) ∷ marked 1 (Got 7)
+    marked 2 (Sent 6 0 (messages.Request (tx 0 1) 1 1 (wants.Read (first_read 1 0)))) ∷
+    marked 2 (Sent 7 1 (messages.Request (tx 0 1) 1 1 (wants.Read (first_read 1 0)))) ∷ marked 0 (Got 6) ∷
+    marked 1 (Got 7)
     ∷
-    marked 1 (Sent 8 2 (messages.Answer 7 (answers.Granted (grant_with 1 0 [])))) ∷ marked 2 (Got 8) ∷
-    marked 0 (Sent 9 2 (messages.Answer 6 (answers.Granted (grant_with 1 0 [])))) ∷ marked 2 (Got 9) ∷
+    marked 1 (Sent 8 2 (messages.Answer 7 (answers.Granted (whole_grant 1 0 [])))) ∷ marked 2 (Got 8) ∷
+    marked 0 (Sent 9 2 (messages.Answer 6 (answers.Granted (whole_grant 1 0 [])))) ∷ marked 2 (Got 9) ∷
     marked 2 (Told (replies.Response 1)) ∷ marked 2 (Called commands.Commit) ∷
     marked 2 (Sent 10 0 (messages.Request (tx 0 1) 1 1 wants.Prepare)) ∷
     marked 2 (Sent 11 1 (messages.Request (tx 0 1) 1 1 wants.Prepare)) ∷ marked 0 (Got 10) ∷
@@ -85,16 +88,16 @@ history =
     marked 2 (Told (replies.Began (tx 0 2))) ∷ marked 2 (Called commands.Commit) ∷
     marked 2 (Wrote (commit (stamp 2 0) (tx 0 2) [])) ∷ marked 2 (Told (replies.Committed (stamp 2 0))) ∷
     marked 3 (Told (replies.Began (tx 1 1))) ∷ marked 3 (Called (commands.Do 1 0)) ∷
-    marked 3 (Sent 16 1 (messages.Request (tx 1 1) 1 0 (wants.Read (read_of 1 0)))) ∷
-    marked 3 (Sent 17 0 (messages.Request (tx 1 1) 1 0 (wants.Read (read_of 1 0)))) ∷ marked 0 (Got 17)
+    marked 3 (Sent 16 1 (messages.Request (tx 1 1) 1 0 (wants.Read (first_read 1 0)))) ∷
+    marked 3 (Sent 17 0 (messages.Request (tx 1 1) 1 0 (wants.Read (first_read 1 0)))) ∷ marked 0 (Got 17)
     ∷ marked 3 (Lost 16) ∷
-    marked 0 (Sent 18 3 (messages.Answer 17 (answers.Granted (grant_with 1 1 (line 1 0 1 1 1 0 ∷ [])))))
+    marked 0 (Sent 18 3 (messages.Answer 17 (answers.Granted (whole_grant 1 1 (line 1 0 1 1 1 0 ∷ [])))))
     ∷ marked 3 (Got 18) ∷
     marked 3 (Told (replies.Quorum halves.Read 1 2)) ∷ marked 3 (Called (commands.Do 0 1)) ∷
     marked 3 (Sent 19 1 (messages.Request (tx 1 1) 1 0 (wants.Append 0 [] (own_line 1 0 2 ∷ [])))) ∷
     marked 3 (Lost 19) ∷
     marked 3 (Sent 20 0 (messages.Request (tx 1 1) 1 1 (wants.Append 0 [] (own_line 1 0 2 ∷ [])))) ∷ marked 0 (Got 20) ∷
-    marked 0 (Sent 21 3 (messages.Answer 20 (answers.Granted (grant_with 1 1 [])))) ∷ marked 3 (Got 21) ∷
+    marked 0 (Sent 21 3 (messages.Answer 20 (answers.Granted (whole_grant 1 1 [])))) ∷ marked 3 (Got 21) ∷
     marked 3 (Told (replies.Response 2)) ∷ marked 3 (Called commands.Commit) ∷
     marked 3 (Sent 22 0 (messages.Request (tx 1 1) 1 1 wants.Prepare)) ∷ marked 0 (Got 22) ∷
     marked 0 (Wrote (prepare (tx 1 1) 1 (read_lock 1 0 ∷ []) (own_line 1 0 2 ∷ []) [])) ∷
@@ -107,15 +110,15 @@ history =
     marked 3 (Rose ((commit (stamp 2 1) (tx 1 1) (operation 0 1 (Some 2) ∷ [])) ∷ [])) ∷ marked 3 (Wrote records.Life) ∷
     marked 2 (Called commands.Begin) ∷ marked 3 (Called commands.Begin) ∷ marked 2 (Told (replies.Began (tx 0 3))) ∷
     marked 2 (Called (commands.Do 0 0))
-    ∷ marked 2 (Sent 26 0 (messages.Request (tx 0 3) 1 0 (wants.Read (read_of 0 0)))) ∷
-    marked 2 (Sent 27 1 (messages.Request (tx 0 3) 1 0 (wants.Read (read_of 0 0)))) ∷ marked 0 (Got 26)
+    ∷ marked 2 (Sent 26 0 (messages.Request (tx 0 3) 1 0 (wants.Read (first_read 0 0)))) ∷
+    marked 2 (Sent 27 1 (messages.Request (tx 0 3) 1 0 (wants.Read (first_read 0 0)))) ∷ marked 0 (Got 26)
     ∷ marked 2 (Lost 27) ∷
     marked 3 (Told (replies.Began (tx_in 1 2 1))) ∷ marked 3 (Called (commands.Do 0 0)) ∷
-    marked 0 (Sent 28 2 (messages.Answer 26 (answers.Granted (grant_with 1 2 (line 2 1 1 1 0 2 ∷ []))))) ∷
-    marked 3 (Sent 29 1 (messages.Request (tx_in 1 2 1) 1 0 (wants.Read (read_of 0 0)))) ∷
-    marked 3 (Sent 30 0 (messages.Request (tx_in 1 2 1) 1 0 (wants.Read (read_of 0 0)))) ∷ marked 3 (Lost 29) ∷
+    marked 0 (Sent 28 2 (messages.Answer 26 (answers.Granted (whole_grant 1 2 (line 2 1 1 1 0 2 ∷ []))))) ∷
+    marked 3 (Sent 29 1 (messages.Request (tx_in 1 2 1) 1 0 (wants.Read (first_read 0 0)))) ∷
+    marked 3 (Sent 30 0 (messages.Request (tx_in 1 2 1) 1 0 (wants.Read (first_read 0 0)))) ∷ marked 3 (Lost 29) ∷
     marked 0 (Got 30)
-    ∷ marked 0 (Sent 31 3 (messages.Answer 30 (answers.Granted (grant_with 1 2 (line 2 1 1 1 0 2 ∷ []))))) ∷
+    ∷ marked 0 (Sent 31 3 (messages.Answer 30 (answers.Granted (whole_grant 1 2 (line 2 1 1 1 0 2 ∷ []))))) ∷
     marked 2 (Got 28) ∷ marked 2 (Told (replies.Quorum halves.Read 1 2)) ∷ marked 2 (Called commands.Commit) ∷
     marked 2 (Sent 32 0 (messages.Request (tx 0 3) 1 1 wants.Prepare)) ∷ marked 0 (Got 32) ∷ marked 3 (Got 31) ∷
     marked 3 (Told (replies.Quorum halves.Read 1 2)) ∷ marked 3 (Called (commands.Do 0 1)) ∷
@@ -145,18 +148,18 @@ history =
     marked 3 (Told (replies.Began (tx_in 1 2 2))) ∷ marked 3 (Called (commands.Do 0 1)) ∷
     marked 1 (Wrote (records.Done (tx 0 1) 1)) ∷
     marked 3 (Sent 45 1 (messages.Request (tx_in 1 2 2) 1 0 (wants.Append 0 [] (own_line 1 0 2 ∷ [])))) ∷
-    marked 1 (Got 45) ∷ marked 1 (Sent 46 3 (messages.Answer 45 (answers.Granted (grant_with 2 1 []))))
+    marked 1 (Got 45) ∷ marked 1 (Sent 46 3 (messages.Answer 45 (answers.Granted (whole_grant 2 1 []))))
     ∷ marked 3 (Got 46) ∷
     marked 3 (Told (replies.Response 2)) ∷ marked 3 (Called (commands.Do 0 0)) ∷
-    marked 3 (Sent 47 1 (messages.Request (tx_in 1 2 2) 1 2 (wants.Read (read_of 0 0)))) ∷
-    marked 3 (Sent 48 0 (messages.Request (tx_in 1 2 2) 1 0 (wants.Read (read_of 0 0)))) ∷ marked 1 (Got 47)
+    marked 3 (Sent 47 1 (messages.Request (tx_in 1 2 2) 1 2 (wants.Read (first_read 0 0)))) ∷
+    marked 3 (Sent 48 0 (messages.Request (tx_in 1 2 2) 1 0 (wants.Read (first_read 0 0)))) ∷ marked 1 (Got 47)
     ∷ marked 0 (Got 48) ∷
-    marked 0 (Sent 49 3 (messages.Answer 48 (answers.Granted (grant_with 1 3 (line 2 1 1 1 0 2 ∷ [])))))
+    marked 0 (Sent 49 3 (messages.Answer 48 (answers.Granted (whole_grant 1 3 (line 2 1 1 1 0 2 ∷ [])))))
     ∷ marked 3 (Got 49) ∷
-    marked 1 (Sent 50 3 (messages.Answer 47 (answers.Granted (grant_with 2 1 [])))) ∷ marked 3 (Got 50) ∷
+    marked 1 (Sent 50 3 (messages.Answer 47 (answers.Granted (whole_grant 2 1 [])))) ∷ marked 3 (Got 50) ∷
     marked 3 (Sent 51 1 (messages.Request (tx_in 1 2 2) 1 2 (wants.Append 0 (line 2 1 1 1 0 2 ∷ []) (own_line 1 0 2 ∷
     own_line 2 0 0 ∷ [])))) ∷
-    marked 1 (Got 51) ∷ marked 1 (Sent 52 3 (messages.Answer 51 (answers.Granted (grant_with 2 2 []))))
+    marked 1 (Got 51) ∷ marked 1 (Sent 52 3 (messages.Answer 51 (answers.Granted (whole_grant 2 2 []))))
     ∷ marked 3 (Got 52) ∷
     marked 3 (Told (replies.Response 0)) ∷ marked 3 (Called commands.Commit) ∷
     marked 3 (Sent 53 1 (messages.Request (tx_in 1 2 2) 1 2 wants.Prepare)) ∷

@@ -20,7 +20,7 @@ use Rattle.qc_msg.specs.declared.record.Record.TheVariants as records
 use Rattle.qc_msg.specs.declared.reply.Reply.TheVariants as replies
 use Rattle.qc_msg.specs.declared.message.Want.TheVariants as wants
 use Rattle.qc_msg.specs.declared.step.Fall.TheVariants as falls
-use Rattle.qc_msg.specs.Vocabulary.{grant_with, read_of}
+use Rattle.qc_msg.specs.Vocabulary.{whole_grant, first_read}
 use Rattle.qc_outside.specs.declared.disk.ArmKind.TheVariants as arms
 
 abbrev pub decl : Declaration
@@ -58,17 +58,17 @@ abbrev pub history : List Entry
 history =
     marked 5 (Phase 1) ∷ marked 5 (Armed 3 arms.Fail 3) ∷ marked 2 (Called commands.Begin) ∷
     marked 2 (Told (replies.Began (tx 0 1))) ∷ marked 2 (Called (commands.Do 0 1)) ∷
-    marked 2 (Sent 0 0 (messages.Request (tx 0 1) 1 0 (wants.Read (read_of 0 1)))) ∷
-    marked 2 (Sent 1 1 (messages.Request (tx 0 1) 1 0 (wants.Read (read_of 0 1)))) ∷ marked 0 (Got 0) ∷
-    marked 0 (Sent 2 2 (messages.Answer 0 (answers.Granted (grant_with 1 0 [])))) ∷ marked 2 (Got 2) ∷ marked 1 (Got 1)
+    marked 2 (Sent 0 0 (messages.Request (tx 0 1) 1 0 (wants.Read (first_read 0 1)))) ∷
+    marked 2 (Sent 1 1 (messages.Request (tx 0 1) 1 0 (wants.Read (first_read 0 1)))) ∷ marked 0 (Got 0) ∷
+    marked 0 (Sent 2 2 (messages.Answer 0 (answers.Granted (whole_grant 1 0 [])))) ∷ marked 2 (Got 2) ∷ marked 1 (Got 1)
     ∷
-    marked 1 (Sent 3 2 (messages.Answer 1 (answers.Granted (grant_with 1 0 [])))) ∷ marked 2 (Got 3) ∷
+    marked 1 (Sent 3 2 (messages.Answer 1 (answers.Granted (whole_grant 1 0 [])))) ∷ marked 2 (Got 3) ∷
     marked 2 (Told replies.Absent) ∷ marked 2 (Called (commands.Do 0 2)) ∷
     marked 2 (Sent 4 0 (messages.Request (tx 0 1) 1 1 (wants.Append 0 [] (own_line 2 0 4 ∷ [])))) ∷
     marked 2 (Sent 5 1 (messages.Request (tx 0 1) 1 1 (wants.Append 0 [] (own_line 2 0 4 ∷ [])))) ∷ marked 0 (Got 4) ∷
-    marked 1 (Got 5) ∷ marked 0 (Sent 6 2 (messages.Answer 4 (answers.Granted (grant_with 1 0 [])))) ∷
-    marked 1 (Sent 7 2 (messages.Answer 5 (answers.Granted (grant_with 1 0 [])))) ∷ marked 1 (Got 5) ∷
-    marked 1 (Sent 8 2 (messages.Answer 5 (answers.Granted (grant_with 1 0 [])))) ∷ marked 2 (Got 6) ∷ marked 2 (Got 7)
+    marked 1 (Got 5) ∷ marked 0 (Sent 6 2 (messages.Answer 4 (answers.Granted (whole_grant 1 0 [])))) ∷
+    marked 1 (Sent 7 2 (messages.Answer 5 (answers.Granted (whole_grant 1 0 [])))) ∷ marked 1 (Got 5) ∷
+    marked 1 (Sent 8 2 (messages.Answer 5 (answers.Granted (whole_grant 1 0 [])))) ∷ marked 2 (Got 6) ∷ marked 2 (Got 7)
     ∷
     marked 2 (Told (replies.Response 2)) ∷ marked 2 (Got 8) ∷ marked 2 (Called commands.Commit) ∷
     marked 2 (Sent 9 0 (messages.Request (tx 0 1) 1 1 wants.Prepare)) ∷
@@ -85,14 +85,14 @@ history =
     marked 5 (Armed 1 arms.Fail 4) ∷ marked 5 (Armed 2 arms.Stop 4) ∷ marked 2 (Fell falls.Script None) ∷
     marked 3 (Called commands.Begin) ∷ marked 3 (Told (replies.Began (tx 1 1))) ∷ marked 3 (Called (commands.Do 0 2)) ∷
     marked 3 (Sent 15 1 (messages.Request (tx 1 1) 1 0 (wants.Append 0 [] (own_line 1 0 4 ∷ [])))) ∷ marked 1 (Got 15) ∷
-    marked 1 (Sent 16 3 (messages.Answer 15 (answers.Granted (grant_with 1 1 [])))) ∷ marked 3 (Got 16) ∷
+    marked 1 (Sent 16 3 (messages.Answer 15 (answers.Granted (whole_grant 1 1 [])))) ∷ marked 3 (Got 16) ∷
     marked 3 (Told (replies.Response 2)) ∷ marked 3 (Called (commands.Do 0 1)) ∷
-    marked 3 (Sent 17 1 (messages.Request (tx 1 1) 1 1 (wants.Read (read_of 0 1)))) ∷ marked 1 (Got 17) ∷
-    marked 1 (Sent 18 3 (messages.Answer 17 (answers.Granted (grant_with 1 1 (line 1 0 1 2 0 4 ∷ [])))))
+    marked 3 (Sent 17 1 (messages.Request (tx 1 1) 1 1 (wants.Read (first_read 0 1)))) ∷ marked 1 (Got 17) ∷
+    marked 1 (Sent 18 3 (messages.Answer 17 (answers.Granted (whole_grant 1 1 (line 1 0 1 2 0 4 ∷ [])))))
     ∷ marked 3 (Got 18) ∷
     marked 3 (Told replies.Absent) ∷ marked 3 (Called (commands.Do 0 1)) ∷
-    marked 3 (Sent 19 1 (messages.Request (tx 1 1) 1 1 (wants.Read (read_of 0 1)))) ∷ marked 1 (Got 19) ∷
-    marked 1 (Sent 20 3 (messages.Answer 19 (answers.Granted (grant_with 1 1 (line 1 0 1 2 0 4 ∷ [])))))
+    marked 3 (Sent 19 1 (messages.Request (tx 1 1) 1 1 (wants.Read (first_read 0 1)))) ∷ marked 1 (Got 19) ∷
+    marked 1 (Sent 20 3 (messages.Answer 19 (answers.Granted (whole_grant 1 1 (line 1 0 1 2 0 4 ∷ [])))))
     ∷ marked 3 (Got 20) ∷
     marked 3 (Told replies.Absent) ∷ marked 5 (Phase 3) ∷ marked 5 (Heal 3 0) ∷ marked 5 (Armed 3 arms.Fail 5) ∷
     marked 2 (Called commands.Begin) ∷ marked 2 (Told replies.Down) ∷ marked 2 (Called (commands.Do 0 1)) ∷
@@ -102,9 +102,9 @@ history =
     marked 2 (Rose ((commit (stamp 1 0) (tx 0 1) (operation 0 1 None ∷ operation 0 2 (Some 2) ∷ [])) ∷ [])) ∷
     marked 2 (Wrote records.Life) ∷ marked 5 (Armed 3 arms.Stop 1) ∷ marked 2 (Called commands.Begin) ∷
     marked 2 (Told (replies.Began (tx_in 0 2 1))) ∷ marked 2 (Called (commands.Do 0 0)) ∷
-    marked 2 (Sent 21 0 (messages.Request (tx_in 0 2 1) 1 0 (wants.Read (read_of 0 0)))) ∷
-    marked 2 (Sent 22 1 (messages.Request (tx_in 0 2 1) 1 0 (wants.Read (read_of 0 0)))) ∷ marked 0 (Got 21) ∷
-    marked 0 (Sent 23 2 (messages.Answer 21 (answers.Granted (grant_with 1 1 (line 1 0 1 2 0 4 ∷ [])))))
+    marked 2 (Sent 21 0 (messages.Request (tx_in 0 2 1) 1 0 (wants.Read (first_read 0 0)))) ∷
+    marked 2 (Sent 22 1 (messages.Request (tx_in 0 2 1) 1 0 (wants.Read (first_read 0 0)))) ∷ marked 0 (Got 21) ∷
+    marked 0 (Sent 23 2 (messages.Answer 21 (answers.Granted (whole_grant 1 1 (line 1 0 1 2 0 4 ∷ [])))))
     ∷ marked 2 (Got 23) ∷
     marked 1 (Got 22) ∷ marked 1 (Sent 24 2 (messages.Answer 22 (answers.Clash (tx 1 1) 0 4))) ∷
     marked 1 (Sent 25 3 (messages.Inquiry (tx 1 1))) ∷ marked 2 (Got 24) ∷
@@ -114,7 +114,7 @@ history =
     [])))) ∷
     marked 2 (Sent 28 1 (messages.Request (tx_in 0 2 1) 1 0 (wants.Append 0 (line 1 0 1 2 0 4 ∷ []) (own_line 1 0 4 ∷
     [])))) ∷
-    marked 0 (Got 27) ∷ marked 0 (Sent 29 2 (messages.Answer 27 (answers.Granted (grant_with 1 1 []))))
+    marked 0 (Got 27) ∷ marked 0 (Sent 29 2 (messages.Answer 27 (answers.Granted (whole_grant 1 1 []))))
     ∷ marked 2 (Got 29) ∷
     marked 1 (Got 26) ∷ marked 1 (Got 28) ∷ marked 1 (Sent 30 2 (messages.Answer 28 (answers.Clash (tx 1 1) 1 4))) ∷
     marked 1 (Sent 31 3 (messages.Inquiry (tx 1 1))) ∷ marked 2 (Got 30) ∷ marked 3 (Got 31) ∷
@@ -125,15 +125,15 @@ history =
     marked 2 (Told (replies.Aborted causes.Doomed)) ∷ marked 0 (Got 33) ∷ marked 1 (Got 34) ∷ marked 5 (Phase 5) ∷
     marked 5 (Armed 3 arms.Fail 8) ∷ marked 3 (Called commands.Commit) ∷ marked 2 (Called commands.Begin) ∷
     marked 2 (Told (replies.Began (tx_in 0 2 2))) ∷ marked 2 (Called (commands.Do 0 0)) ∷
-    marked 2 (Sent 35 0 (messages.Request (tx_in 0 2 2) 1 0 (wants.Read (read_of 0 0)))) ∷
-    marked 2 (Sent 36 1 (messages.Request (tx_in 0 2 2) 1 0 (wants.Read (read_of 0 0)))) ∷ marked 1 (Got 36) ∷
+    marked 2 (Sent 35 0 (messages.Request (tx_in 0 2 2) 1 0 (wants.Read (first_read 0 0)))) ∷
+    marked 2 (Sent 36 1 (messages.Request (tx_in 0 2 2) 1 0 (wants.Read (first_read 0 0)))) ∷ marked 1 (Got 36) ∷
     marked 1 (Sent 37 2 (messages.Answer 36 (answers.Clash (tx 1 1) 0 4))) ∷
     marked 1 (Sent 38 3 (messages.Inquiry (tx 1 1))) ∷ marked 2 (Got 37) ∷ marked 0 (Got 35) ∷
-    marked 0 (Sent 39 2 (messages.Answer 35 (answers.Granted (grant_with 1 1 (line 1 0 1 2 0 4 ∷ [])))))
+    marked 0 (Sent 39 2 (messages.Answer 35 (answers.Granted (whole_grant 1 1 (line 1 0 1 2 0 4 ∷ [])))))
     ∷ marked 2 (Got 39) ∷
     marked 2 (Told (replies.Conflict (tx 1 1) 1)) ∷ marked 2 (Called (commands.Do 0 1)) ∷
-    marked 2 (Sent 40 0 (messages.Request (tx_in 0 2 2) 1 1 (wants.Read (read_of 0 1)))) ∷
-    marked 2 (Sent 41 1 (messages.Request (tx_in 0 2 2) 1 0 (wants.Read (read_of 0 1)))) ∷ marked 1 (Got 41) ∷
+    marked 2 (Sent 40 0 (messages.Request (tx_in 0 2 2) 1 1 (wants.Read (first_read 0 1)))) ∷
+    marked 2 (Sent 41 1 (messages.Request (tx_in 0 2 2) 1 0 (wants.Read (first_read 0 1)))) ∷ marked 1 (Got 41) ∷
     marked 1 (Sent 42 2 (messages.Answer 41 (answers.Clash (tx 1 1) 1 4))) ∷
     marked 1 (Sent 43 3 (messages.Inquiry (tx 1 1))) ∷ marked 2 (Got 42) ∷
     marked 3 (Sent 44 1 (messages.Request (tx 1 1) 1 1 wants.Prepare)) ∷ marked 1 (Got 44) ∷
@@ -141,7 +141,7 @@ history =
     marked 1 (Sent 45 3 (messages.Answer 44 (answers.Yes 1))) ∷ marked 3 (Got 38) ∷
     marked 3 (Sent 46 1 (messages.Decision (tx 1 1) outcomes.Active)) ∷ marked 1 (Got 46) ∷ marked 3 (Got 43) ∷
     marked 3 (Sent 47 1 (messages.Decision (tx 1 1) outcomes.Active)) ∷ marked 1 (Got 47) ∷ marked 0 (Got 40) ∷
-    marked 0 (Sent 48 2 (messages.Answer 40 (answers.Granted (grant_with 1 1 (line 1 0 1 2 0 4 ∷ [])))))
+    marked 0 (Sent 48 2 (messages.Answer 40 (answers.Granted (whole_grant 1 1 (line 1 0 1 2 0 4 ∷ [])))))
     ∷ marked 2 (Got 48) ∷
     marked 3 (Got 45) ∷ marked 2 (Told (replies.Conflict (tx 1 1) 1)) ∷ marked 2 (Called (commands.Do 0 2)) ∷
     marked 2 (Sent 49 0 (messages.Request (tx_in 0 2 2) 1 1 (wants.Append 0 (line 1 0 1 2 0 4 ∷ []) (own_line 1 0 4 ∷
@@ -154,7 +154,7 @@ history =
     []))) ∷
     marked 3 (Sent 53 1 (messages.Decision (tx 1 1) (outcomes.Committed (stamp 2 1)))) ∷
     marked 3 (Told (replies.Committed (stamp 2 1))) ∷ marked 1 (Got 53) ∷ marked 1 (Wrote (records.Done (tx 1 1) 2)) ∷
-    marked 0 (Got 49) ∷ marked 0 (Sent 54 2 (messages.Answer 49 (answers.Granted (grant_with 1 1 []))))
+    marked 0 (Got 49) ∷ marked 0 (Sent 54 2 (messages.Answer 49 (answers.Granted (whole_grant 1 1 []))))
     ∷ marked 2 (Got 54) ∷
     marked 3 (Got 52) ∷ marked 2 (Told (replies.Conflict (tx 1 1) 1)) ∷ marked 2 (Called (commands.Do 0 0)) ∷
     marked 2 (Told replies.Doomed) ∷ marked 2 (Called commands.Commit) ∷

@@ -19,7 +19,7 @@ use Rattle.qc_msg.specs.declared.record.Record.TheVariants as records
 use Rattle.qc_msg.specs.declared.reply.Reply.TheVariants as replies
 use Rattle.qc_msg.specs.declared.message.Want.TheVariants as wants
 use Rattle.qc_msg.specs.declared.step.Fall.TheVariants as falls
-use Rattle.qc_msg.specs.Vocabulary.{grant_with, read_of}
+use Rattle.qc_msg.specs.Vocabulary.{whole_grant, first_read}
 use Rattle.qc_outside.specs.declared.disk.ArmKind.TheVariants as arms
 
 abbrev pub decl : Declaration
@@ -62,41 +62,41 @@ history =
     marked 7 (Phase 2) ∷ marked 7 (Armed 0 arms.Stop 2) ∷ marked 4 (Called commands.Begin) ∷
     marked 4 (Told (replies.Began (tx 0 1))) ∷ marked 5 (Called commands.Begin) ∷
     marked 5 (Told (replies.Began (tx 1 1))) ∷ marked 4 (Called (commands.Do 0 0)) ∷
-    marked 4 (Sent 0 0 (messages.Request (tx 0 1) 1 0 (wants.Read (read_of 0 0)))) ∷
-    marked 4 (Sent 1 1 (messages.Request (tx 0 1) 1 0 (wants.Read (read_of 0 0)))) ∷
-    marked 4 (Sent 2 2 (messages.Request (tx 0 1) 1 0 (wants.Read (read_of 0 0)))) ∷
-    marked 4 (Sent 3 3 (messages.Request (tx 0 1) 1 0 (wants.Read (read_of 0 0)))) ∷ marked 0 (Got 0) ∷
-    marked 0 (Sent 4 4 (messages.Answer 0 (answers.Granted (grant_with 1 0 [])))) ∷ marked 1 (Got 1) ∷
-    marked 1 (Sent 5 4 (messages.Answer 1 (answers.Granted (grant_with 1 0 [])))) ∷ marked 2 (Got 2) ∷
-    marked 2 (Sent 6 4 (messages.Answer 2 (answers.Granted (grant_with 2 0 [])))) ∷ marked 3 (Got 3) ∷
-    marked 3 (Sent 7 4 (messages.Answer 3 (answers.Granted (grant_with 1 0 [])))) ∷ marked 4 (Got 4) ∷ marked 4 (Got 5)
+    marked 4 (Sent 0 0 (messages.Request (tx 0 1) 1 0 (wants.Read (first_read 0 0)))) ∷
+    marked 4 (Sent 1 1 (messages.Request (tx 0 1) 1 0 (wants.Read (first_read 0 0)))) ∷
+    marked 4 (Sent 2 2 (messages.Request (tx 0 1) 1 0 (wants.Read (first_read 0 0)))) ∷
+    marked 4 (Sent 3 3 (messages.Request (tx 0 1) 1 0 (wants.Read (first_read 0 0)))) ∷ marked 0 (Got 0) ∷
+    marked 0 (Sent 4 4 (messages.Answer 0 (answers.Granted (whole_grant 1 0 [])))) ∷ marked 1 (Got 1) ∷
+    marked 1 (Sent 5 4 (messages.Answer 1 (answers.Granted (whole_grant 1 0 [])))) ∷ marked 2 (Got 2) ∷
+    marked 2 (Sent 6 4 (messages.Answer 2 (answers.Granted (whole_grant 2 0 [])))) ∷ marked 3 (Got 3) ∷
+    marked 3 (Sent 7 4 (messages.Answer 3 (answers.Granted (whole_grant 1 0 [])))) ∷ marked 4 (Got 4) ∷ marked 4 (Got 5)
     ∷
     marked 4 (Got 6) ∷ marked 4 (Got 7) ∷
     marked 4 (Sent 8 0 (messages.Request (tx 0 1) 1 1 (wants.Append 0 [] (own_line 1 0 0 ∷ [])))) ∷
     marked 4 (Sent 9 1 (messages.Request (tx 0 1) 1 1 (wants.Append 0 [] (own_line 1 0 0 ∷ [])))) ∷
     marked 4 (Sent 10 2 (messages.Request (tx 0 1) 1 2 (wants.Append 0 [] (own_line 1 0 0 ∷ [])))) ∷
     marked 4 (Sent 11 3 (messages.Request (tx 0 1) 1 1 (wants.Append 0 [] (own_line 1 0 0 ∷ [])))) ∷ marked 0 (Got 8) ∷
-    marked 0 (Sent 12 4 (messages.Answer 8 (answers.Granted (grant_with 1 0 [])))) ∷ marked 2 (Got 10) ∷
-    marked 2 (Sent 13 4 (messages.Answer 10 (answers.Granted (grant_with 2 0 [])))) ∷ marked 3 (Got 11) ∷
-    marked 3 (Sent 14 4 (messages.Answer 11 (answers.Granted (grant_with 1 0 [])))) ∷ marked 4 (Got 12)
+    marked 0 (Sent 12 4 (messages.Answer 8 (answers.Granted (whole_grant 1 0 [])))) ∷ marked 2 (Got 10) ∷
+    marked 2 (Sent 13 4 (messages.Answer 10 (answers.Granted (whole_grant 2 0 [])))) ∷ marked 3 (Got 11) ∷
+    marked 3 (Sent 14 4 (messages.Answer 11 (answers.Granted (whole_grant 1 0 [])))) ∷ marked 4 (Got 12)
     ∷ marked 4 (Got 13) ∷
     marked 4 (Got 14) ∷ marked 4 (Lost 9) ∷ marked 4 (Told (replies.Quorum halves.Append 3 4)) ∷
     marked 5 (Called (commands.Do 1 1))
-    ∷ marked 5 (Sent 15 1 (messages.Request (tx 1 1) 1 0 (wants.Read (read_of 1 1)))) ∷
-    marked 5 (Sent 16 2 (messages.Request (tx 1 1) 1 0 (wants.Read (read_of 1 1)))) ∷ marked 1 (Got 15) ∷
-    marked 1 (Sent 17 5 (messages.Answer 15 (answers.Granted (grant_with 1 0 [])))) ∷ marked 2 (Got 16) ∷
-    marked 2 (Sent 18 5 (messages.Answer 16 (answers.Granted (grant_with 2 0 [])))) ∷ marked 5 (Got 17)
+    ∷ marked 5 (Sent 15 1 (messages.Request (tx 1 1) 1 0 (wants.Read (first_read 1 1)))) ∷
+    marked 5 (Sent 16 2 (messages.Request (tx 1 1) 1 0 (wants.Read (first_read 1 1)))) ∷ marked 1 (Got 15) ∷
+    marked 1 (Sent 17 5 (messages.Answer 15 (answers.Granted (whole_grant 1 0 [])))) ∷ marked 2 (Got 16) ∷
+    marked 2 (Sent 18 5 (messages.Answer 16 (answers.Granted (whole_grant 2 0 [])))) ∷ marked 5 (Got 17)
     ∷ marked 5 (Got 18) ∷
     marked 5 (Sent 19 1 (messages.Request (tx 1 1) 1 1 (wants.Append 1 [] (own_line 1 1 2 ∷ [])))) ∷
     marked 5 (Sent 20 2 (messages.Request (tx 1 1) 1 2 (wants.Append 1 [] (own_line 1 1 2 ∷ [])))) ∷ marked 2 (Got 20) ∷
-    marked 2 (Sent 21 5 (messages.Answer 20 (answers.Granted (grant_with 2 0 [])))) ∷ marked 5 (Got 21)
+    marked 2 (Sent 21 5 (messages.Answer 20 (answers.Granted (whole_grant 2 0 [])))) ∷ marked 5 (Got 21)
     ∷ marked 5 (Lost 19) ∷
     marked 5 (Sent 22 3 (messages.Request (tx 1 1) 1 0 (wants.Append 1 [] (own_line 1 1 2 ∷ [])))) ∷ marked 3 (Got 22) ∷
-    marked 3 (Sent 23 5 (messages.Answer 22 (answers.Granted (grant_with 1 0 [])))) ∷ marked 5 (Got 23) ∷
+    marked 3 (Sent 23 5 (messages.Answer 22 (answers.Granted (whole_grant 1 0 [])))) ∷ marked 5 (Got 23) ∷
     marked 5 (Told (replies.Response 1)) ∷ marked 4 (Called (commands.Do 0 1)) ∷ marked 4 (Told replies.Doomed) ∷
     marked 5 (Called (commands.Do 0 1))
-    ∷ marked 5 (Sent 24 1 (messages.Request (tx 1 1) 1 1 (wants.Read (read_of 0 1)))) ∷
-    marked 1 (Got 24) ∷ marked 1 (Sent 25 5 (messages.Answer 24 (answers.Granted (grant_with 1 0 []))))
+    ∷ marked 5 (Sent 24 1 (messages.Request (tx 1 1) 1 1 (wants.Read (first_read 0 1)))) ∷
+    marked 1 (Got 24) ∷ marked 1 (Sent 25 5 (messages.Answer 24 (answers.Granted (whole_grant 1 0 []))))
     ∷ marked 5 (Got 25) ∷
     marked 5 (Sent 26 1 (messages.Request (tx 1 1) 1 1 (wants.Append 0 [] (own_line 2 0 1 ∷ [])))) ∷
     marked 5 (Sent 27 2 (messages.Request (tx 1 1) 1 2 (wants.Append 0 [] (own_line 2 0 1 ∷ [])))) ∷
@@ -132,17 +132,17 @@ history =
     marked 5 (Called commands.Begin) ∷ marked 5 (Told (replies.Began (tx 1 2))) ∷ marked 4 (Called commands.Commit) ∷
     marked 4 (Wrote (commit (stamp 1 0) (tx 0 2) [])) ∷ marked 4 (Told (replies.Committed (stamp 1 0))) ∷
     marked 5 (Called (commands.Do 0 1))
-    ∷ marked 5 (Sent 50 1 (messages.Request (tx 1 2) 1 0 (wants.Read (read_of 0 1)))) ∷
-    marked 1 (Got 50) ∷ marked 1 (Sent 51 5 (messages.Answer 50 (answers.Granted (grant_with 1 0 []))))
+    ∷ marked 5 (Sent 50 1 (messages.Request (tx 1 2) 1 0 (wants.Read (first_read 0 1)))) ∷
+    marked 1 (Got 50) ∷ marked 1 (Sent 51 5 (messages.Answer 50 (answers.Granted (whole_grant 1 0 []))))
     ∷ marked 5 (Got 51) ∷
     marked 5 (Sent 52 1 (messages.Request (tx 1 2) 1 1 (wants.Append 0 [] (own_line 1 0 1 ∷ [])))) ∷
     marked 5 (Sent 53 2 (messages.Request (tx 1 2) 1 0 (wants.Append 0 [] (own_line 1 0 1 ∷ [])))) ∷
     marked 5 (Sent 54 3 (messages.Request (tx 1 2) 1 0 (wants.Append 0 [] (own_line 1 0 1 ∷ [])))) ∷
     marked 5 (Sent 55 0 (messages.Request (tx 1 2) 1 0 (wants.Append 0 [] (own_line 1 0 1 ∷ [])))) ∷ marked 1 (Got 52) ∷
-    marked 1 (Sent 56 5 (messages.Answer 52 (answers.Granted (grant_with 1 0 [])))) ∷ marked 2 (Got 53) ∷
-    marked 2 (Sent 57 5 (messages.Answer 53 (answers.Granted (grant_with 2 0 [])))) ∷ marked 3 (Got 54) ∷
-    marked 3 (Sent 58 5 (messages.Answer 54 (answers.Granted (grant_with 1 0 [])))) ∷ marked 0 (Got 55) ∷
-    marked 0 (Sent 59 5 (messages.Answer 55 (answers.Granted (grant_with 1 0 [])))) ∷ marked 5 (Got 56)
+    marked 1 (Sent 56 5 (messages.Answer 52 (answers.Granted (whole_grant 1 0 [])))) ∷ marked 2 (Got 53) ∷
+    marked 2 (Sent 57 5 (messages.Answer 53 (answers.Granted (whole_grant 2 0 [])))) ∷ marked 3 (Got 54) ∷
+    marked 3 (Sent 58 5 (messages.Answer 54 (answers.Granted (whole_grant 1 0 [])))) ∷ marked 0 (Got 55) ∷
+    marked 0 (Sent 59 5 (messages.Answer 55 (answers.Granted (whole_grant 1 0 [])))) ∷ marked 5 (Got 56)
     ∷ marked 5 (Got 57) ∷
     marked 5 (Got 58) ∷ marked 5 (Got 59) ∷ marked 5 (Told (replies.Response 0)) ∷ marked 5 (Called commands.Commit) ∷
     marked 5 (Sent 60 1 (messages.Request (tx 1 2) 1 1 wants.Prepare)) ∷

@@ -20,7 +20,7 @@ use Rattle.qc_msg.specs.declared.record.Record.TheVariants as records
 use Rattle.qc_msg.specs.declared.reply.Reply.TheVariants as replies
 use Rattle.qc_msg.specs.declared.message.Want.TheVariants as wants
 use Rattle.qc_msg.specs.declared.step.Fall.TheVariants as falls
-use Rattle.qc_msg.specs.Vocabulary.{grant_with, read_of}
+use Rattle.qc_msg.specs.Vocabulary.{whole_grant, first_read}
 use Rattle.qc_outside.specs.declared.disk.ArmKind.TheVariants as arms
 
 abbrev pub decl : Declaration
@@ -57,18 +57,19 @@ moves =
 abbrev pub history : List Entry
 history =
     marked 6 (Phase 1) ∷ marked 4 (Called commands.Begin) ∷ marked 4 (Told (replies.Began (tx 0 1))) ∷
-    marked 4 (Called (commands.Do 1 2)) ∷ marked 4 (Sent 0 0 (messages.Request (tx 0 1) 1 0 (wants.Read (read_of 1 2))))
+    marked 4 (Called (commands.Do 1 2)) ∷
+    marked 4 (Sent 0 0 (messages.Request (tx 0 1) 1 0 (wants.Read (first_read 1 2))))
     ∷
-    marked 4 (Sent 1 2 (messages.Request (tx 0 1) 1 0 (wants.Read (read_of 1 2)))) ∷ marked 2 (Got 1) ∷
-    marked 2 (Sent 2 4 (messages.Answer 1 (answers.Granted (grant_with 1 0 [])))) ∷ marked 4 (Got 2) ∷ marked 0 (Got 0)
+    marked 4 (Sent 1 2 (messages.Request (tx 0 1) 1 0 (wants.Read (first_read 1 2)))) ∷ marked 2 (Got 1) ∷
+    marked 2 (Sent 2 4 (messages.Answer 1 (answers.Granted (whole_grant 1 0 [])))) ∷ marked 4 (Got 2) ∷ marked 0 (Got 0)
     ∷
-    marked 0 (Sent 3 4 (messages.Answer 0 (answers.Granted (grant_with 1 0 [])))) ∷ marked 4 (Got 3) ∷
+    marked 0 (Sent 3 4 (messages.Answer 0 (answers.Granted (whole_grant 1 0 [])))) ∷ marked 4 (Got 3) ∷
     marked 4 (Told (replies.Response 2)) ∷ marked 4 (Called (commands.Do 0 1)) ∷
-    marked 4 (Sent 4 0 (messages.Request (tx 0 1) 1 1 (wants.Read (read_of 0 1)))) ∷
-    marked 4 (Sent 5 2 (messages.Request (tx 0 1) 1 1 (wants.Read (read_of 0 1)))) ∷ marked 0 (Got 4) ∷
-    marked 0 (Sent 6 4 (messages.Answer 4 (answers.Granted (grant_with 1 0 [])))) ∷ marked 4 (Got 6) ∷ marked 2 (Got 5)
+    marked 4 (Sent 4 0 (messages.Request (tx 0 1) 1 1 (wants.Read (first_read 0 1)))) ∷
+    marked 4 (Sent 5 2 (messages.Request (tx 0 1) 1 1 (wants.Read (first_read 0 1)))) ∷ marked 0 (Got 4) ∷
+    marked 0 (Sent 6 4 (messages.Answer 4 (answers.Granted (whole_grant 1 0 [])))) ∷ marked 4 (Got 6) ∷ marked 2 (Got 5)
     ∷
-    marked 2 (Sent 7 4 (messages.Answer 5 (answers.Granted (grant_with 1 0 [])))) ∷ marked 4 (Got 7) ∷
+    marked 2 (Sent 7 4 (messages.Answer 5 (answers.Granted (whole_grant 1 0 [])))) ∷ marked 4 (Got 7) ∷
     marked 4 (Told (replies.Response 1)) ∷ marked 4 (Called commands.Commit) ∷
     marked 4 (Sent 8 0 (messages.Request (tx 0 1) 1 1 wants.Prepare)) ∷
     marked 4 (Sent 9 2 (messages.Request (tx 0 1) 1 1 wants.Prepare)) ∷ marked 0 (Got 8) ∷
@@ -82,18 +83,18 @@ history =
     marked 4 (Told (replies.Committed (stamp 1 0))) ∷ marked 4 (Called commands.Begin) ∷ marked 2 (Got 13) ∷
     marked 2 (Wrote (records.Done (tx 0 1) 1)) ∷ marked 4 (Told (replies.Began (tx 0 2))) ∷
     marked 4 (Called (commands.Do 0 1))
-    ∷ marked 4 (Sent 14 0 (messages.Request (tx 0 2) 1 0 (wants.Read (read_of 0 1)))) ∷
-    marked 4 (Sent 15 2 (messages.Request (tx 0 2) 1 0 (wants.Read (read_of 0 1)))) ∷ marked 2 (Got 15) ∷
-    marked 2 (Sent 16 4 (messages.Answer 15 (answers.Granted (grant_with 1 1 [])))) ∷ marked 4 (Got 16)
+    ∷ marked 4 (Sent 14 0 (messages.Request (tx 0 2) 1 0 (wants.Read (first_read 0 1)))) ∷
+    marked 4 (Sent 15 2 (messages.Request (tx 0 2) 1 0 (wants.Read (first_read 0 1)))) ∷ marked 2 (Got 15) ∷
+    marked 2 (Sent 16 4 (messages.Answer 15 (answers.Granted (whole_grant 1 1 [])))) ∷ marked 4 (Got 16)
     ∷ marked 0 (Got 12) ∷
     marked 0 (Wrote (records.Done (tx 0 1) 1)) ∷ marked 0 (Got 14) ∷
-    marked 0 (Sent 17 4 (messages.Answer 14 (answers.Granted (grant_with 1 1 [])))) ∷ marked 4 (Got 17) ∷
+    marked 0 (Sent 17 4 (messages.Answer 14 (answers.Granted (whole_grant 1 1 [])))) ∷ marked 4 (Got 17) ∷
     marked 4 (Told (replies.Response 1)) ∷ marked 4 (Called (commands.Do 1 2)) ∷
-    marked 4 (Sent 18 0 (messages.Request (tx 0 2) 1 1 (wants.Read (read_of 1 2)))) ∷
-    marked 4 (Sent 19 2 (messages.Request (tx 0 2) 1 1 (wants.Read (read_of 1 2)))) ∷ marked 2 (Got 19) ∷
-    marked 2 (Sent 20 4 (messages.Answer 19 (answers.Granted (grant_with 1 1 [])))) ∷ marked 4 (Got 20)
+    marked 4 (Sent 18 0 (messages.Request (tx 0 2) 1 1 (wants.Read (first_read 1 2)))) ∷
+    marked 4 (Sent 19 2 (messages.Request (tx 0 2) 1 1 (wants.Read (first_read 1 2)))) ∷ marked 2 (Got 19) ∷
+    marked 2 (Sent 20 4 (messages.Answer 19 (answers.Granted (whole_grant 1 1 [])))) ∷ marked 4 (Got 20)
     ∷ marked 0 (Got 18) ∷
-    marked 0 (Sent 21 4 (messages.Answer 18 (answers.Granted (grant_with 1 1 [])))) ∷ marked 4 (Got 21) ∷
+    marked 0 (Sent 21 4 (messages.Answer 18 (answers.Granted (whole_grant 1 1 [])))) ∷ marked 4 (Got 21) ∷
     marked 4 (Told (replies.Response 2)) ∷ marked 4 (Called commands.Commit) ∷
     marked 4 (Sent 22 0 (messages.Request (tx 0 2) 1 1 wants.Prepare)) ∷
     marked 4 (Sent 23 2 (messages.Request (tx 0 2) 1 1 wants.Prepare)) ∷ marked 2 (Got 23) ∷
@@ -107,11 +108,11 @@ history =
     marked 4 (Told (replies.Committed (stamp 2 0))) ∷ marked 2 (Got 27) ∷ marked 2 (Wrote (records.Done (tx 0 2) 2)) ∷
     marked 0 (Got 26) ∷ marked 0 (Wrote (records.Done (tx 0 2) 2)) ∷ marked 6 (Phase 2) ∷
     marked 4 (Called commands.Begin) ∷ marked 4 (Told (replies.Began (tx 0 3))) ∷ marked 4 (Called (commands.Do 1 1)) ∷
-    marked 4 (Sent 28 0 (messages.Request (tx 0 3) 1 0 (wants.Read (read_of 1 1)))) ∷
-    marked 4 (Sent 29 2 (messages.Request (tx 0 3) 1 0 (wants.Read (read_of 1 1)))) ∷ marked 0 (Got 28)
+    marked 4 (Sent 28 0 (messages.Request (tx 0 3) 1 0 (wants.Read (first_read 1 1)))) ∷
+    marked 4 (Sent 29 2 (messages.Request (tx 0 3) 1 0 (wants.Read (first_read 1 1)))) ∷ marked 0 (Got 28)
     ∷ marked 2 (Got 29) ∷
-    marked 0 (Sent 30 4 (messages.Answer 28 (answers.Granted (grant_with 1 2 [])))) ∷
-    marked 2 (Sent 31 4 (messages.Answer 29 (answers.Granted (grant_with 1 2 [])))) ∷ marked 4 (Got 30)
+    marked 0 (Sent 30 4 (messages.Answer 28 (answers.Granted (whole_grant 1 2 [])))) ∷
+    marked 2 (Sent 31 4 (messages.Answer 29 (answers.Granted (whole_grant 1 2 [])))) ∷ marked 4 (Got 30)
     ∷ marked 4 (Got 31) ∷
     marked 4 (Told (replies.Response 1)) ∷ marked 4 (Called commands.Commit) ∷
     marked 4 (Sent 32 0 (messages.Request (tx 0 3) 1 1 wants.Prepare)) ∷
@@ -131,18 +132,18 @@ history =
     (read_lock 1 1 ∷ []) [] []) ∷ (records.Done (tx 0 3) 3) ∷ [])) ∷
     marked 2 (Wrote records.Life) ∷ marked 6 (Armed 3 arms.Stop 2) ∷ marked 6 (Armed 4 arms.Fail 9) ∷
     marked 4 (Called commands.Begin) ∷ marked 4 (Told (replies.Began (tx 0 4))) ∷ marked 4 (Called (commands.Do 0 0)) ∷
-    marked 4 (Sent 38 0 (messages.Request (tx 0 4) 1 0 (wants.Read (read_of 0 0)))) ∷
-    marked 4 (Sent 39 2 (messages.Request (tx 0 4) 1 0 (wants.Read (read_of 0 0)))) ∷ marked 4 (Lost 38)
+    marked 4 (Sent 38 0 (messages.Request (tx 0 4) 1 0 (wants.Read (first_read 0 0)))) ∷
+    marked 4 (Sent 39 2 (messages.Request (tx 0 4) 1 0 (wants.Read (first_read 0 0)))) ∷ marked 4 (Lost 38)
     ∷ marked 2 (Got 39) ∷
-    marked 2 (Sent 40 4 (messages.Answer 39 (answers.Granted (grant_with 2 3 [])))) ∷ marked 4 (Got 40) ∷
-    marked 4 (Sent 41 3 (messages.Request (tx 0 4) 1 0 (wants.Read (read_of 0 0)))) ∷ marked 3 (Got 41) ∷
-    marked 3 (Sent 42 4 (messages.Answer 41 (answers.Granted (grant_with 1 0 [])))) ∷ marked 4 (Got 42) ∷
+    marked 2 (Sent 40 4 (messages.Answer 39 (answers.Granted (whole_grant 2 3 [])))) ∷ marked 4 (Got 40) ∷
+    marked 4 (Sent 41 3 (messages.Request (tx 0 4) 1 0 (wants.Read (first_read 0 0)))) ∷ marked 3 (Got 41) ∷
+    marked 3 (Sent 42 4 (messages.Answer 41 (answers.Granted (whole_grant 1 0 [])))) ∷ marked 4 (Got 42) ∷
     marked 4 (Sent 43 0 (messages.Request (tx 0 4) 1 0 (wants.Append 0 [] (own_line 1 0 0 ∷ [])))) ∷
     marked 4 (Sent 44 2 (messages.Request (tx 0 4) 1 2 (wants.Append 0 [] (own_line 1 0 0 ∷ [])))) ∷ marked 2 (Got 44) ∷
-    marked 2 (Sent 45 4 (messages.Answer 44 (answers.Granted (grant_with 2 3 [])))) ∷ marked 4 (Got 45)
+    marked 2 (Sent 45 4 (messages.Answer 44 (answers.Granted (whole_grant 2 3 [])))) ∷ marked 4 (Got 45)
     ∷ marked 4 (Lost 43) ∷
     marked 4 (Sent 46 3 (messages.Request (tx 0 4) 1 1 (wants.Append 0 [] (own_line 1 0 0 ∷ [])))) ∷ marked 3 (Got 46) ∷
-    marked 3 (Sent 47 4 (messages.Answer 46 (answers.Granted (grant_with 1 0 [])))) ∷ marked 4 (Lost 46) ∷
+    marked 3 (Sent 47 4 (messages.Answer 46 (answers.Granted (whole_grant 1 0 [])))) ∷ marked 4 (Lost 46) ∷
     marked 4 (Told (replies.Quorum halves.Append 1 2)) ∷ marked 6 (Phase 4) ∷ marked 6 (Armed 2 arms.Fail 1) ∷
     marked 4 (Called (commands.Do 0 2)) ∷ marked 4 (Told replies.Doomed) ∷ marked 4 (Called (commands.Do 0 2)) ∷
     marked 4 (Told replies.Doomed) ∷ marked 4 (Called (commands.Do 1 0)) ∷ marked 4 (Told replies.Doomed) ∷
@@ -159,11 +160,11 @@ history =
     marked 4 (Told (replies.Aborted causes.Doomed)) ∷ marked 3 (Got 52) ∷ marked 2 (Got 51) ∷ marked 0 (Got 50) ∷
     marked 6 (Phase 6) ∷ marked 4 (Called commands.Begin) ∷ marked 4 (Told (replies.Began (tx 0 5))) ∷
     marked 4 (Called (commands.Do 1 2))
-    ∷ marked 4 (Sent 53 0 (messages.Request (tx 0 5) 1 0 (wants.Read (read_of 1 2)))) ∷
-    marked 4 (Sent 54 2 (messages.Request (tx 0 5) 1 0 (wants.Read (read_of 1 2)))) ∷ marked 0 (Got 53) ∷
-    marked 0 (Sent 55 4 (messages.Answer 53 (answers.Granted (grant_with 2 3 [])))) ∷ marked 4 (Got 55)
+    ∷ marked 4 (Sent 53 0 (messages.Request (tx 0 5) 1 0 (wants.Read (first_read 1 2)))) ∷
+    marked 4 (Sent 54 2 (messages.Request (tx 0 5) 1 0 (wants.Read (first_read 1 2)))) ∷ marked 0 (Got 53) ∷
+    marked 0 (Sent 55 4 (messages.Answer 53 (answers.Granted (whole_grant 2 3 [])))) ∷ marked 4 (Got 55)
     ∷ marked 2 (Got 54) ∷
-    marked 2 (Sent 56 4 (messages.Answer 54 (answers.Granted (grant_with 2 3 [])))) ∷ marked 4 (Got 56) ∷
+    marked 2 (Sent 56 4 (messages.Answer 54 (answers.Granted (whole_grant 2 3 [])))) ∷ marked 4 (Got 56) ∷
     marked 4 (Told (replies.Response 2)) ∷ marked 4 (Called commands.Commit) ∷
     marked 4 (Sent 57 0 (messages.Request (tx 0 5) 1 2 wants.Prepare)) ∷
     marked 4 (Sent 58 2 (messages.Request (tx 0 5) 1 2 wants.Prepare)) ∷ marked 0 (Got 57) ∷

@@ -15,7 +15,7 @@ use Rattle.qc_msg.specs.declared.record.Record.TheVariants as records
 use Rattle.qc_msg.specs.declared.reply.Reply.TheVariants as replies
 use Rattle.qc_msg.specs.declared.message.Want.TheVariants as wants
 use Rattle.qc_msg.specs.declared.step.Fall.TheVariants as falls
-use Rattle.qc_msg.specs.Vocabulary.{grant_with}
+use Rattle.qc_msg.specs.Vocabulary.{whole_grant}
 use Rattle.qc_outside.specs.declared.disk.ArmKind.TheVariants as arms
 
 abbrev pub decl : Declaration
@@ -45,7 +45,7 @@ history =
     marked 3 (Wrote records.Life) ∷ marked 5 (Called commands.Begin) ∷ marked 5 (Told (replies.Began (tx 0 2))) ∷
     marked 5 (Called (commands.Do 0 2)) ∷
     marked 5 (Sent 0 0 (messages.Request (tx 0 2) 1 0 (wants.Append 0 [] (own_line 1 0 3 ∷ [])))) ∷ marked 0 (Got 0) ∷
-    marked 0 (Sent 1 5 (messages.Answer 0 (answers.Granted (grant_with 2 0 [])))) ∷ marked 5 (Got 1) ∷
+    marked 0 (Sent 1 5 (messages.Answer 0 (answers.Granted (whole_grant 2 0 [])))) ∷ marked 5 (Got 1) ∷
     marked 5 (Told (replies.Response 2)) ∷ marked 5 (Called commands.Commit) ∷
     marked 5 (Sent 2 0 (messages.Request (tx 0 2) 1 2 wants.Prepare)) ∷ marked 0 (Got 2) ∷
     marked 0 (Wrote (prepare (tx 0 2) 1 [] (own_line 1 0 3 ∷ []) [])) ∷

@@ -17,7 +17,7 @@ use Rattle.qc_msg.specs.declared.record.Record.TheVariants as records
 use Rattle.qc_msg.specs.declared.reply.Reply.TheVariants as replies
 use Rattle.qc_msg.specs.declared.message.Want.TheVariants as wants
 use Rattle.qc_msg.specs.declared.step.Fall.TheVariants as falls
-use Rattle.qc_msg.specs.Vocabulary.{grant_with, read_of}
+use Rattle.qc_msg.specs.Vocabulary.{whole_grant, first_read}
 use Rattle.qc_outside.specs.declared.disk.ArmKind.TheVariants as arms
 
 abbrev pub decl : Declaration
@@ -39,15 +39,18 @@ abbrev pub history : List Entry
 history =
     marked 4 (Phase 1) ∷ marked 2 (Called commands.Begin) ∷ marked 2 (Told (replies.Began (tx 0 1))) ∷
     marked 4 (Phase 2) ∷ marked 4 (Cut 2 1) ∷ marked 4 (Armed 0 arms.Stop 3) ∷ marked 1 (Fell falls.Script None) ∷
-    marked 2 (Called (commands.Do 0 0)) ∷ marked 2 (Sent 0 0 (messages.Request (tx 0 1) 1 0 (wants.Read (read_of 0 0))))
+    marked 2 (Called (commands.Do 0 0)) ∷
+    marked 2 (Sent 0 0 (messages.Request (tx 0 1) 1 0 (wants.Read (first_read 0 0))))
     ∷
-    marked 2 (Sent 1 1 (messages.Request (tx 0 1) 1 0 (wants.Read (read_of 0 0)))) ∷ marked 0 (Got 0) ∷
-    marked 0 (Sent 2 2 (messages.Answer 0 (answers.Granted (grant_with 1 0 [])))) ∷ marked 2 (Got 2) ∷ marked 2 (Lost 1)
+    marked 2 (Sent 1 1 (messages.Request (tx 0 1) 1 0 (wants.Read (first_read 0 0)))) ∷ marked 0 (Got 0) ∷
+    marked 0 (Sent 2 2 (messages.Answer 0 (answers.Granted (whole_grant 1 0 [])))) ∷ marked 2 (Got 2) ∷
+    marked 2 (Lost 1)
     ∷
     marked 2 (Told (replies.Quorum halves.Read 1 2)) ∷ marked 2 (Called (commands.Do 0 0)) ∷
-    marked 2 (Sent 3 0 (messages.Request (tx 0 1) 1 1 (wants.Read (read_of 0 0)))) ∷
-    marked 2 (Sent 4 1 (messages.Request (tx 0 1) 1 0 (wants.Read (read_of 0 0)))) ∷ marked 0 (Got 3) ∷
-    marked 0 (Sent 5 2 (messages.Answer 3 (answers.Granted (grant_with 1 0 [])))) ∷ marked 2 (Got 5) ∷ marked 2 (Lost 4)
+    marked 2 (Sent 3 0 (messages.Request (tx 0 1) 1 1 (wants.Read (first_read 0 0)))) ∷
+    marked 2 (Sent 4 1 (messages.Request (tx 0 1) 1 0 (wants.Read (first_read 0 0)))) ∷ marked 0 (Got 3) ∷
+    marked 0 (Sent 5 2 (messages.Answer 3 (answers.Granted (whole_grant 1 0 [])))) ∷ marked 2 (Got 5) ∷
+    marked 2 (Lost 4)
     ∷
     marked 2 (Told (replies.Quorum halves.Read 1 2)) ∷ marked 2 (Called commands.Abort) ∷
     marked 2 (Sent 6 0 (messages.Decision (tx 0 1) outcomes.Aborted)) ∷

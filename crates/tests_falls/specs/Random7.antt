@@ -17,7 +17,7 @@ use Rattle.qc_msg.specs.declared.record.Record.TheVariants as records
 use Rattle.qc_msg.specs.declared.reply.Reply.TheVariants as replies
 use Rattle.qc_msg.specs.declared.message.Want.TheVariants as wants
 use Rattle.qc_msg.specs.declared.step.Fall.TheVariants as falls
-use Rattle.qc_msg.specs.Vocabulary.{grant_with, read_of}
+use Rattle.qc_msg.specs.Vocabulary.{whole_grant, first_read}
 
 abbrev pub decl : Declaration
 decl =
@@ -42,14 +42,14 @@ history =
     marked 5 (Phase 1) ∷ marked 5 (Cut 4 0) ∷ marked 2 (Fell falls.Script None) ∷ marked 2 (Rose []) ∷
     marked 2 (Wrote records.Life) ∷ marked 1 (Fell falls.Script None) ∷ marked 3 (Called commands.Begin) ∷
     marked 3 (Told (replies.Began (tx 0 1))) ∷ marked 3 (Called (commands.Do 0 0)) ∷
-    marked 3 (Sent 0 0 (messages.Request (tx 0 1) 1 0 (wants.Read (read_of 0 0)))) ∷ marked 0 (Got 0) ∷
-    marked 0 (Sent 1 3 (messages.Answer 0 (answers.Granted (grant_with 1 0 [])))) ∷ marked 3 (Got 1) ∷
+    marked 3 (Sent 0 0 (messages.Request (tx 0 1) 1 0 (wants.Read (first_read 0 0)))) ∷ marked 0 (Got 0) ∷
+    marked 0 (Sent 1 3 (messages.Answer 0 (answers.Granted (whole_grant 1 0 [])))) ∷ marked 3 (Got 1) ∷
     marked 3 (Sent 2 0 (messages.Request (tx 0 1) 1 1 (wants.Append 0 [] (own_line 1 0 0 ∷ [])))) ∷
     marked 3 (Sent 3 1 (messages.Request (tx 0 1) 1 0 (wants.Append 0 [] (own_line 1 0 0 ∷ [])))) ∷
     marked 3 (Sent 4 2 (messages.Request (tx 0 1) 1 0 (wants.Append 0 [] (own_line 1 0 0 ∷ [])))) ∷ marked 3 (Lost 3) ∷
-    marked 2 (Got 4) ∷ marked 2 (Sent 5 3 (messages.Answer 4 (answers.Granted (grant_with 2 0 [])))) ∷ marked 0 (Got 2)
+    marked 2 (Got 4) ∷ marked 2 (Sent 5 3 (messages.Answer 4 (answers.Granted (whole_grant 2 0 [])))) ∷ marked 0 (Got 2)
     ∷
-    marked 3 (Got 5) ∷ marked 0 (Sent 6 3 (messages.Answer 2 (answers.Granted (grant_with 1 0 [])))) ∷ marked 3 (Got 6)
+    marked 3 (Got 5) ∷ marked 0 (Sent 6 3 (messages.Answer 2 (answers.Granted (whole_grant 1 0 [])))) ∷ marked 3 (Got 6)
     ∷
     marked 3 (Told (replies.Quorum halves.Append 2 3)) ∷ marked 3 (Called commands.Abort) ∷
     marked 3 (Sent 7 0 (messages.Decision (tx 0 1) outcomes.Aborted)) ∷
@@ -57,15 +57,15 @@ history =
     marked 3 (Sent 9 2 (messages.Decision (tx 0 1) outcomes.Aborted)) ∷ marked 3 (Told replies.Dropped) ∷
     marked 3 (Called commands.Begin) ∷ marked 2 (Got 9) ∷ marked 0 (Got 7) ∷ marked 3 (Told (replies.Began (tx 0 2))) ∷
     marked 3 (Called (commands.Do 0 0))
-    ∷ marked 3 (Sent 10 0 (messages.Request (tx 0 2) 1 0 (wants.Read (read_of 0 0)))) ∷
-    marked 0 (Got 10) ∷ marked 0 (Sent 11 3 (messages.Answer 10 (answers.Granted (grant_with 1 0 []))))
+    ∷ marked 3 (Sent 10 0 (messages.Request (tx 0 2) 1 0 (wants.Read (first_read 0 0)))) ∷
+    marked 0 (Got 10) ∷ marked 0 (Sent 11 3 (messages.Answer 10 (answers.Granted (whole_grant 1 0 []))))
     ∷ marked 3 (Got 11) ∷
     marked 3 (Sent 12 0 (messages.Request (tx 0 2) 1 1 (wants.Append 0 [] (own_line 1 0 0 ∷ [])))) ∷
     marked 3 (Sent 13 1 (messages.Request (tx 0 2) 1 0 (wants.Append 0 [] (own_line 1 0 0 ∷ [])))) ∷
     marked 3 (Sent 14 2 (messages.Request (tx 0 2) 1 0 (wants.Append 0 [] (own_line 1 0 0 ∷ [])))) ∷ marked 2 (Got 14) ∷
     marked 0 (Got 12) ∷ marked 3 (Lost 13)
-    ∷ marked 2 (Sent 15 3 (messages.Answer 14 (answers.Granted (grant_with 2 0 [])))) ∷
-    marked 3 (Got 15) ∷ marked 0 (Sent 16 3 (messages.Answer 12 (answers.Granted (grant_with 1 0 []))))
+    ∷ marked 2 (Sent 15 3 (messages.Answer 14 (answers.Granted (whole_grant 2 0 [])))) ∷
+    marked 3 (Got 15) ∷ marked 0 (Sent 16 3 (messages.Answer 12 (answers.Granted (whole_grant 1 0 []))))
     ∷ marked 3 (Got 16) ∷
     marked 3 (Told (replies.Quorum halves.Append 2 3)) ∷ marked 3 (Called (commands.Do 0 0)) ∷
     marked 3 (Told replies.Doomed) ∷ marked 3 (Called commands.Commit) ∷

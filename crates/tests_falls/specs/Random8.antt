@@ -17,7 +17,7 @@ use Rattle.qc_msg.specs.declared.record.Record.TheVariants as records
 use Rattle.qc_msg.specs.declared.reply.Reply.TheVariants as replies
 use Rattle.qc_msg.specs.declared.message.Want.TheVariants as wants
 use Rattle.qc_msg.specs.declared.step.Fall.TheVariants as falls
-use Rattle.qc_msg.specs.Vocabulary.{grant_with, read_of}
+use Rattle.qc_msg.specs.Vocabulary.{whole_grant, first_read}
 
 abbrev pub decl : Declaration
 decl =
@@ -47,23 +47,23 @@ history =
     marked 2 (Called commands.Commit) ∷ marked 2 (Told replies.Down) ∷ marked 4 (Phase 2) ∷
     marked 2 (Rose (records.Life ∷ [])) ∷ marked 2 (Wrote records.Life) ∷ marked 2 (Called commands.Begin) ∷
     marked 2 (Told (replies.Began (tx_in 0 3 1))) ∷ marked 2 (Called (commands.Do 0 1)) ∷
-    marked 2 (Sent 0 0 (messages.Request (tx_in 0 3 1) 1 0 (wants.Read (read_of 0 1)))) ∷
-    marked 2 (Sent 1 1 (messages.Request (tx_in 0 3 1) 1 0 (wants.Read (read_of 0 1)))) ∷ marked 0 (Got 0)
+    marked 2 (Sent 0 0 (messages.Request (tx_in 0 3 1) 1 0 (wants.Read (first_read 0 1)))) ∷
+    marked 2 (Sent 1 1 (messages.Request (tx_in 0 3 1) 1 0 (wants.Read (first_read 0 1)))) ∷ marked 0 (Got 0)
     ∷ marked 1 (Got 1) ∷
-    marked 1 (Sent 2 2 (messages.Answer 1 (answers.Granted (grant_with 1 0 [])))) ∷ marked 2 (Got 2) ∷
-    marked 0 (Sent 3 2 (messages.Answer 0 (answers.Granted (grant_with 1 0 [])))) ∷ marked 2 (Got 3) ∷
+    marked 1 (Sent 2 2 (messages.Answer 1 (answers.Granted (whole_grant 1 0 [])))) ∷ marked 2 (Got 2) ∷
+    marked 0 (Sent 3 2 (messages.Answer 0 (answers.Granted (whole_grant 1 0 [])))) ∷ marked 2 (Got 3) ∷
     marked 2 (Sent 4 0 (messages.Request (tx_in 0 3 1) 1 1 (wants.Append 0 [] (own_line 1 0 1 ∷ [])))) ∷
     marked 2 (Sent 5 1 (messages.Request (tx_in 0 3 1) 1 1 (wants.Append 0 [] (own_line 1 0 1 ∷ [])))) ∷
-    marked 0 (Got 4) ∷ marked 1 (Got 5) ∷ marked 0 (Sent 6 2 (messages.Answer 4 (answers.Granted (grant_with 1 0 []))))
+    marked 0 (Got 4) ∷ marked 1 (Got 5) ∷ marked 0 (Sent 6 2 (messages.Answer 4 (answers.Granted (whole_grant 1 0 []))))
     ∷
-    marked 1 (Sent 7 2 (messages.Answer 5 (answers.Granted (grant_with 1 0 [])))) ∷ marked 2 (Got 6) ∷ marked 2 (Got 7)
+    marked 1 (Sent 7 2 (messages.Answer 5 (answers.Granted (whole_grant 1 0 [])))) ∷ marked 2 (Got 6) ∷ marked 2 (Got 7)
     ∷
     marked 2 (Told (replies.Response 0)) ∷ marked 2 (Called (commands.Do 1 2)) ∷
-    marked 2 (Sent 8 0 (messages.Request (tx_in 0 3 1) 1 1 (wants.Read (read_of 1 2)))) ∷
-    marked 2 (Sent 9 1 (messages.Request (tx_in 0 3 1) 1 1 (wants.Read (read_of 1 2)))) ∷ marked 1 (Got 9)
+    marked 2 (Sent 8 0 (messages.Request (tx_in 0 3 1) 1 1 (wants.Read (first_read 1 2)))) ∷
+    marked 2 (Sent 9 1 (messages.Request (tx_in 0 3 1) 1 1 (wants.Read (first_read 1 2)))) ∷ marked 1 (Got 9)
     ∷ marked 0 (Got 8) ∷
-    marked 1 (Sent 10 2 (messages.Answer 9 (answers.Granted (grant_with 1 0 [])))) ∷ marked 2 (Got 10) ∷
-    marked 0 (Sent 11 2 (messages.Answer 8 (answers.Granted (grant_with 1 0 [])))) ∷ marked 2 (Got 11) ∷
+    marked 1 (Sent 10 2 (messages.Answer 9 (answers.Granted (whole_grant 1 0 [])))) ∷ marked 2 (Got 10) ∷
+    marked 0 (Sent 11 2 (messages.Answer 8 (answers.Granted (whole_grant 1 0 [])))) ∷ marked 2 (Got 11) ∷
     marked 2 (Told replies.Absent) ∷ marked 2 (Called commands.Commit) ∷
     marked 2 (Sent 12 0 (messages.Request (tx_in 0 3 1) 1 1 wants.Prepare)) ∷
     marked 2 (Sent 13 1 (messages.Request (tx_in 0 3 1) 1 1 wants.Prepare)) ∷ marked 1 (Got 13) ∷ marked 0 (Got 12) ∷

@@ -16,7 +16,7 @@ use Rattle.qc_msg.specs.declared.record.Record.TheVariants as records
 use Rattle.qc_msg.specs.declared.reply.Reply.TheVariants as replies
 use Rattle.qc_msg.specs.declared.message.Want.TheVariants as wants
 use Rattle.qc_msg.specs.declared.step.Fall.TheVariants as falls
-use Rattle.qc_msg.specs.Vocabulary.{grant_with}
+use Rattle.qc_msg.specs.Vocabulary.{whole_grant}
 use Rattle.qc_outside.specs.declared.disk.ArmKind.TheVariants as arms
 
 abbrev pub decl : Declaration
@@ -48,11 +48,11 @@ history =
     marked 6 (Sent 2 3 (messages.Request (tx 1 1) 1 0 (wants.Append 1 [] (own_line 1 1 2 ∷ [])))) ∷
     marked 6 (Sent 3 4 (messages.Request (tx 1 1) 1 0 (wants.Append 1 [] (own_line 1 1 2 ∷ [])))) ∷
     marked 6 (Sent 4 0 (messages.Request (tx 1 1) 1 0 (wants.Append 1 [] (own_line 1 1 2 ∷ [])))) ∷ marked 4 (Got 3) ∷
-    marked 3 (Got 2) ∷ marked 3 (Sent 5 6 (messages.Answer 2 (answers.Granted (grant_with 1 0 [])))) ∷
-    marked 4 (Sent 6 6 (messages.Answer 3 (answers.Granted (grant_with 1 0 [])))) ∷ marked 1 (Got 0) ∷
-    marked 1 (Sent 7 6 (messages.Answer 0 (answers.Granted (grant_with 2 0 [])))) ∷ marked 2 (Got 1) ∷
-    marked 2 (Sent 8 6 (messages.Answer 1 (answers.Granted (grant_with 1 0 [])))) ∷ marked 0 (Got 4) ∷
-    marked 0 (Sent 9 6 (messages.Answer 4 (answers.Granted (grant_with 1 0 [])))) ∷ marked 6 (Got 5) ∷ marked 6 (Got 6)
+    marked 3 (Got 2) ∷ marked 3 (Sent 5 6 (messages.Answer 2 (answers.Granted (whole_grant 1 0 [])))) ∷
+    marked 4 (Sent 6 6 (messages.Answer 3 (answers.Granted (whole_grant 1 0 [])))) ∷ marked 1 (Got 0) ∷
+    marked 1 (Sent 7 6 (messages.Answer 0 (answers.Granted (whole_grant 2 0 [])))) ∷ marked 2 (Got 1) ∷
+    marked 2 (Sent 8 6 (messages.Answer 1 (answers.Granted (whole_grant 1 0 [])))) ∷ marked 0 (Got 4) ∷
+    marked 0 (Sent 9 6 (messages.Answer 4 (answers.Granted (whole_grant 1 0 [])))) ∷ marked 6 (Got 5) ∷ marked 6 (Got 6)
     ∷
     marked 6 (Got 7) ∷ marked 6 (Got 8) ∷ marked 6 (Got 9) ∷ marked 6 (Told (replies.Response 2)) ∷
     marked 6 (Called commands.Commit) ∷ marked 6 (Sent 10 1 (messages.Request (tx 1 1) 1 2 wants.Prepare)) ∷

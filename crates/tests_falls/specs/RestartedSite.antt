@@ -14,7 +14,7 @@ use Rattle.qc_msg.specs.declared.record.Record.TheVariants as records
 use Rattle.qc_msg.specs.declared.reply.Reply.TheVariants as replies
 use Rattle.qc_msg.specs.declared.message.Want.TheVariants as wants
 use Rattle.qc_msg.specs.declared.step.Fall.TheVariants as falls
-use Rattle.qc_msg.specs.Vocabulary.{grant_with}
+use Rattle.qc_msg.specs.Vocabulary.{whole_grant}
 
 abbrev pub moves : List Move
 moves =
@@ -29,12 +29,12 @@ history =
     marked 3 (Called (commands.Do 0 2)) ∷
     marked 3 (Sent 0 0 (messages.Request (tx 0 1) 1 0 (wants.Append 0 [] (own_line 1 0 3 ∷ [])))) ∷
     marked 3 (Sent 1 1 (messages.Request (tx 0 1) 1 0 (wants.Append 0 [] (own_line 1 0 3 ∷ [])))) ∷ marked 0 (Got 0) ∷
-    marked 0 (Sent 2 3 (messages.Answer 0 (answers.Granted (grant_with 1 0 [])))) ∷ marked 1 (Got 1) ∷
-    marked 1 (Sent 3 3 (messages.Answer 1 (answers.Granted (grant_with 1 0 [])))) ∷ marked 3 (Got 2) ∷ marked 3 (Got 3)
+    marked 0 (Sent 2 3 (messages.Answer 0 (answers.Granted (whole_grant 1 0 [])))) ∷ marked 1 (Got 1) ∷
+    marked 1 (Sent 3 3 (messages.Answer 1 (answers.Granted (whole_grant 1 0 [])))) ∷ marked 3 (Got 2) ∷ marked 3 (Got 3)
     ∷
     marked 3 (Told (replies.Response 2)) ∷ marked 7 (Phase 2) ∷ marked 1 (Fell falls.Script None) ∷ marked 1 (Rose []) ∷
     marked 1 (Wrote records.Life) ∷ marked 1 (Got 1) ∷
-    marked 1 (Sent 4 3 (messages.Answer 1 (answers.Granted (grant_with 2 0 [])))) ∷ marked 3 (Got 4) ∷
+    marked 1 (Sent 4 3 (messages.Answer 1 (answers.Granted (whole_grant 2 0 [])))) ∷ marked 3 (Got 4) ∷
     marked 3 (Called commands.Commit) ∷ marked 3 (Sent 5 0 (messages.Request (tx 0 1) 1 1 wants.Prepare)) ∷
     marked 3 (Sent 6 1 (messages.Request (tx 0 1) 1 1 wants.Prepare)) ∷ marked 0 (Got 5) ∷
     marked 0 (Wrote (prepare (tx 0 1) 1 [] (own_line 1 0 3 ∷ []) [])) ∷

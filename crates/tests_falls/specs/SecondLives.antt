@@ -14,7 +14,7 @@ use Rattle.qc_msg.specs.declared.record.Record.TheVariants as records
 use Rattle.qc_msg.specs.declared.reply.Reply.TheVariants as replies
 use Rattle.qc_msg.specs.declared.message.Want.TheVariants as wants
 use Rattle.qc_msg.specs.declared.step.Fall.TheVariants as falls
-use Rattle.qc_msg.specs.Vocabulary.{grant_with, read_of}
+use Rattle.qc_msg.specs.Vocabulary.{whole_grant, first_read}
 
 abbrev pub moves : List Move
 moves =
@@ -35,8 +35,8 @@ history =
     marked 3 (Called (commands.Do 0 2)) ∷
     marked 3 (Sent 0 0 (messages.Request (tx 0 1) 1 0 (wants.Append 0 [] (own_line 1 0 3 ∷ [])))) ∷
     marked 3 (Sent 1 1 (messages.Request (tx 0 1) 1 0 (wants.Append 0 [] (own_line 1 0 3 ∷ [])))) ∷ marked 0 (Got 0) ∷
-    marked 0 (Sent 2 3 (messages.Answer 0 (answers.Granted (grant_with 1 0 [])))) ∷ marked 1 (Got 1) ∷
-    marked 1 (Sent 3 3 (messages.Answer 1 (answers.Granted (grant_with 1 0 [])))) ∷ marked 3 (Got 2) ∷ marked 3 (Got 3)
+    marked 0 (Sent 2 3 (messages.Answer 0 (answers.Granted (whole_grant 1 0 [])))) ∷ marked 1 (Got 1) ∷
+    marked 1 (Sent 3 3 (messages.Answer 1 (answers.Granted (whole_grant 1 0 [])))) ∷ marked 3 (Got 2) ∷ marked 3 (Got 3)
     ∷
     marked 3 (Told (replies.Response 2)) ∷ marked 3 (Called commands.Commit) ∷
     marked 3 (Sent 4 0 (messages.Request (tx 0 1) 1 1 wants.Prepare)) ∷
@@ -56,9 +56,9 @@ history =
     marked 3 (Called (commands.Do 0 1)) ∷
     marked 3 (Sent 10 0 (messages.Request (tx_in 0 2 1) 1 0 (wants.Append 0 [] (own_line 1 0 2 ∷ [])))) ∷
     marked 3 (Sent 11 1 (messages.Request (tx_in 0 2 1) 1 0 (wants.Append 0 [] (own_line 1 0 2 ∷ [])))) ∷
-    marked 0 (Got 10) ∷ marked 0 (Sent 12 3 (messages.Answer 10 (answers.Granted (grant_with 1 1 []))))
+    marked 0 (Got 10) ∷ marked 0 (Sent 12 3 (messages.Answer 10 (answers.Granted (whole_grant 1 1 []))))
     ∷ marked 1 (Got 11) ∷
-    marked 1 (Sent 13 3 (messages.Answer 11 (answers.Granted (grant_with 1 1 [])))) ∷ marked 3 (Got 12)
+    marked 1 (Sent 13 3 (messages.Answer 11 (answers.Granted (whole_grant 1 1 [])))) ∷ marked 3 (Got 12)
     ∷ marked 3 (Got 13) ∷
     marked 3 (Told (replies.Response 2)) ∷ marked 3 (Called commands.Commit) ∷
     marked 3 (Sent 14 0 (messages.Request (tx_in 0 2 1) 1 1 wants.Prepare)) ∷
@@ -77,15 +77,15 @@ history =
     (tx_in 0 2 1) (operation 0 1 (Some 2) ∷ [])) ∷ [])) ∷
     marked 3 (Wrote records.Life) ∷ marked 3 (Called commands.Begin) ∷ marked 3 (Told (replies.Began (tx_in 0 3 1))) ∷
     marked 3 (Called (commands.Do 0 0))
-    ∷ marked 3 (Sent 20 0 (messages.Request (tx_in 0 3 1) 1 0 (wants.Read (read_of 0 0)))) ∷
-    marked 3 (Sent 21 1 (messages.Request (tx_in 0 3 1) 1 0 (wants.Read (read_of 0 0)))) ∷ marked 0 (Got 20) ∷
+    ∷ marked 3 (Sent 20 0 (messages.Request (tx_in 0 3 1) 1 0 (wants.Read (first_read 0 0)))) ∷
+    marked 3 (Sent 21 1 (messages.Request (tx_in 0 3 1) 1 0 (wants.Read (first_read 0 0)))) ∷ marked 0 (Got 20) ∷
     marked 0
     (Sent 22 3
-    (messages.Answer 20 (answers.Granted (grant_with 1 2 (line 1 0 1 1 0 3 ∷ line_in 2 0 2 1 1 0 2 ∷ []))))) ∷
+    (messages.Answer 20 (answers.Granted (whole_grant 1 2 (line 1 0 1 1 0 3 ∷ line_in 2 0 2 1 1 0 2 ∷ []))))) ∷
     marked 1 (Got 21) ∷
     marked 1
     (Sent 23 3
-    (messages.Answer 21 (answers.Granted (grant_with 1 2 (line 1 0 1 1 0 3 ∷ line_in 2 0 2 1 1 0 2 ∷ []))))) ∷
+    (messages.Answer 21 (answers.Granted (whole_grant 1 2 (line 1 0 1 1 0 3 ∷ line_in 2 0 2 1 1 0 2 ∷ []))))) ∷
     marked 3 (Got 22) ∷ marked 3 (Got 23) ∷ marked 3 (Told (replies.Response 0)) ∷ marked 3 (Called commands.Commit) ∷
     marked 3 (Sent 24 0 (messages.Request (tx_in 0 3 1) 1 1 wants.Prepare)) ∷
     marked 3 (Sent 25 1 (messages.Request (tx_in 0 3 1) 1 1 wants.Prepare)) ∷ marked 0 (Got 24) ∷

@@ -13,7 +13,7 @@ use Rattle.qc_msg.specs.declared.record.Record.TheVariants as records
 use Rattle.qc_msg.specs.declared.reply.Reply.TheVariants as replies
 use Rattle.qc_msg.specs.declared.message.Want.TheVariants as wants
 use Rattle.qc_msg.specs.declared.step.Fall.TheVariants as falls
-use Rattle.qc_msg.specs.Vocabulary.{grant_with, read_of}
+use Rattle.qc_msg.specs.Vocabulary.{whole_grant, first_read}
 use Rattle.qc_outside.specs.declared.disk.ArmKind.TheVariants as arms
 
 abbrev pub moves : List Move
@@ -33,8 +33,8 @@ history =
     marked 3 (Told (replies.Began (tx 0 1))) ∷ marked 3 (Called (commands.Do 0 2)) ∷
     marked 3 (Sent 0 0 (messages.Request (tx 0 1) 1 0 (wants.Append 0 [] (own_line 1 0 3 ∷ [])))) ∷
     marked 3 (Sent 1 1 (messages.Request (tx 0 1) 1 0 (wants.Append 0 [] (own_line 1 0 3 ∷ [])))) ∷ marked 0 (Got 0) ∷
-    marked 0 (Sent 2 3 (messages.Answer 0 (answers.Granted (grant_with 1 0 [])))) ∷ marked 1 (Got 1) ∷
-    marked 1 (Sent 3 3 (messages.Answer 1 (answers.Granted (grant_with 1 0 [])))) ∷ marked 3 (Got 2) ∷ marked 3 (Got 3)
+    marked 0 (Sent 2 3 (messages.Answer 0 (answers.Granted (whole_grant 1 0 [])))) ∷ marked 1 (Got 1) ∷
+    marked 1 (Sent 3 3 (messages.Answer 1 (answers.Granted (whole_grant 1 0 [])))) ∷ marked 3 (Got 2) ∷ marked 3 (Got 3)
     ∷
     marked 3 (Told (replies.Response 2)) ∷ marked 3 (Called commands.Commit) ∷
     marked 3 (Sent 4 0 (messages.Request (tx 0 1) 1 1 wants.Prepare)) ∷
@@ -47,19 +47,19 @@ history =
     marked 3 (Fell falls.Stop (Some (commit (stamp 1 0) (tx 0 1) (operation 0 2 (Some 2) ∷ [])))) ∷ marked 7 (Phase 2) ∷
     marked 3 (Rose []) ∷ marked 3 (Wrote records.Life) ∷ marked 4 (Called commands.Begin) ∷
     marked 4 (Told (replies.Began (tx 1 1))) ∷ marked 4 (Called (commands.Do 0 0)) ∷
-    marked 4 (Sent 8 1 (messages.Request (tx 1 1) 1 0 (wants.Read (read_of 0 0)))) ∷
-    marked 4 (Sent 9 2 (messages.Request (tx 1 1) 1 0 (wants.Read (read_of 0 0)))) ∷ marked 1 (Got 8) ∷
+    marked 4 (Sent 8 1 (messages.Request (tx 1 1) 1 0 (wants.Read (first_read 0 0)))) ∷
+    marked 4 (Sent 9 2 (messages.Request (tx 1 1) 1 0 (wants.Read (first_read 0 0)))) ∷ marked 1 (Got 8) ∷
     marked 1 (Sent 10 4 (messages.Answer 8 (answers.Clash (tx 0 1) 0 3))) ∷
     marked 1 (Sent 11 3 (messages.Inquiry (tx 0 1))) ∷ marked 2 (Got 9) ∷
-    marked 2 (Sent 12 4 (messages.Answer 9 (answers.Granted (grant_with 1 0 [])))) ∷ marked 4 (Got 10)
+    marked 2 (Sent 12 4 (messages.Answer 9 (answers.Granted (whole_grant 1 0 [])))) ∷ marked 4 (Got 10)
     ∷ marked 3 (Got 11) ∷
     marked 3 (Sent 13 1 (messages.Decision (tx 0 1) outcomes.Aborted)) ∷ marked 4 (Got 12) ∷
     marked 4 (Told (replies.Conflict (tx 0 1) 1)) ∷ marked 1 (Got 13) ∷ marked 7 (Phase 3) ∷
     marked 4 (Called (commands.Do 0 0))
-    ∷ marked 4 (Sent 14 1 (messages.Request (tx 1 1) 1 0 (wants.Read (read_of 0 0)))) ∷
-    marked 4 (Sent 15 2 (messages.Request (tx 1 1) 1 1 (wants.Read (read_of 0 0)))) ∷ marked 1 (Got 14) ∷
-    marked 1 (Sent 16 4 (messages.Answer 14 (answers.Granted (grant_with 1 0 [])))) ∷ marked 2 (Got 15) ∷
-    marked 2 (Sent 17 4 (messages.Answer 15 (answers.Granted (grant_with 1 0 [])))) ∷ marked 4 (Got 16)
+    ∷ marked 4 (Sent 14 1 (messages.Request (tx 1 1) 1 0 (wants.Read (first_read 0 0)))) ∷
+    marked 4 (Sent 15 2 (messages.Request (tx 1 1) 1 1 (wants.Read (first_read 0 0)))) ∷ marked 1 (Got 14) ∷
+    marked 1 (Sent 16 4 (messages.Answer 14 (answers.Granted (whole_grant 1 0 [])))) ∷ marked 2 (Got 15) ∷
+    marked 2 (Sent 17 4 (messages.Answer 15 (answers.Granted (whole_grant 1 0 [])))) ∷ marked 4 (Got 16)
     ∷ marked 4 (Got 17) ∷
     marked 4 (Told (replies.Response 0)) ∷ marked 4 (Called commands.Commit) ∷
     marked 4 (Sent 18 1 (messages.Request (tx 1 1) 1 1 wants.Prepare)) ∷

@@ -11,7 +11,7 @@ use Rattle.qc_msg.specs.declared.message.Outcome.TheVariants as outcomes
 use Rattle.qc_msg.specs.declared.record.Record.TheVariants as records
 use Rattle.qc_msg.specs.declared.reply.Reply.TheVariants as replies
 use Rattle.qc_msg.specs.declared.message.Want.TheVariants as wants
-use Rattle.qc_msg.specs.Vocabulary.{grant_with, read_of}
+use Rattle.qc_msg.specs.Vocabulary.{whole_grant, first_read}
 
 abbrev pub moves : List Move
 moves =
@@ -35,15 +35,15 @@ history =
     marked 3 (Called (commands.Do 0 1)) ∷
     marked 3 (Sent 0 0 (messages.Request (tx 0 1) 1 0 (wants.Append 0 [] (own_line 1 0 2 ∷ [])))) ∷
     marked 3 (Sent 1 1 (messages.Request (tx 0 1) 1 0 (wants.Append 0 [] (own_line 1 0 2 ∷ [])))) ∷ marked 0 (Got 0) ∷
-    marked 0 (Sent 2 3 (messages.Answer 0 (answers.Granted (grant_with 1 0 [])))) ∷ marked 1 (Got 1) ∷
-    marked 1 (Sent 3 3 (messages.Answer 1 (answers.Granted (grant_with 1 0 [])))) ∷ marked 3 (Got 2) ∷ marked 3 (Got 3)
+    marked 0 (Sent 2 3 (messages.Answer 0 (answers.Granted (whole_grant 1 0 [])))) ∷ marked 1 (Got 1) ∷
+    marked 1 (Sent 3 3 (messages.Answer 1 (answers.Granted (whole_grant 1 0 [])))) ∷ marked 3 (Got 2) ∷ marked 3 (Got 3)
     ∷
     marked 3 (Told (replies.Response 2)) ∷ marked 7 (Phase 2) ∷ marked 4 (Called commands.Begin) ∷
     marked 4 (Told (replies.Began (tx 1 1))) ∷ marked 4 (Called (commands.Do 0 2)) ∷
     marked 4 (Sent 4 1 (messages.Request (tx 1 1) 1 0 (wants.Append 0 [] (own_line 1 0 3 ∷ [])))) ∷
     marked 4 (Sent 5 2 (messages.Request (tx 1 1) 1 0 (wants.Append 0 [] (own_line 1 0 3 ∷ [])))) ∷ marked 1 (Got 4) ∷
-    marked 1 (Sent 6 4 (messages.Answer 4 (answers.Granted (grant_with 1 0 [])))) ∷ marked 2 (Got 5) ∷
-    marked 2 (Sent 7 4 (messages.Answer 5 (answers.Granted (grant_with 1 0 [])))) ∷ marked 4 (Got 6) ∷ marked 4 (Got 7)
+    marked 1 (Sent 6 4 (messages.Answer 4 (answers.Granted (whole_grant 1 0 [])))) ∷ marked 2 (Got 5) ∷
+    marked 2 (Sent 7 4 (messages.Answer 5 (answers.Granted (whole_grant 1 0 [])))) ∷ marked 4 (Got 6) ∷ marked 4 (Got 7)
     ∷
     marked 4 (Told (replies.Response 2)) ∷ marked 7 (Phase 3) ∷ marked 3 (Called commands.Commit) ∷
     marked 3 (Sent 8 0 (messages.Request (tx 0 1) 1 1 wants.Prepare)) ∷
@@ -69,12 +69,12 @@ history =
     marked 4 (Told (replies.Committed (stamp 2 1))) ∷ marked 1 (Got 18) ∷ marked 1 (Wrote (records.Done (tx 1 1) 2)) ∷
     marked 2 (Got 19) ∷ marked 2 (Wrote (records.Done (tx 1 1) 2)) ∷ marked 7 (Phase 5) ∷
     marked 3 (Called commands.Begin) ∷ marked 3 (Told (replies.Began (tx 0 2))) ∷ marked 3 (Called (commands.Do 0 0)) ∷
-    marked 3 (Sent 20 0 (messages.Request (tx 0 2) 1 0 (wants.Read (read_of 0 0)))) ∷
-    marked 3 (Sent 21 1 (messages.Request (tx 0 2) 1 0 (wants.Read (read_of 0 0)))) ∷ marked 0 (Got 20) ∷
-    marked 0 (Sent 22 3 (messages.Answer 20 (answers.Granted (grant_with 1 1 (line 1 0 1 1 0 2 ∷ [])))))
+    marked 3 (Sent 20 0 (messages.Request (tx 0 2) 1 0 (wants.Read (first_read 0 0)))) ∷
+    marked 3 (Sent 21 1 (messages.Request (tx 0 2) 1 0 (wants.Read (first_read 0 0)))) ∷ marked 0 (Got 20) ∷
+    marked 0 (Sent 22 3 (messages.Answer 20 (answers.Granted (whole_grant 1 1 (line 1 0 1 1 0 2 ∷ [])))))
     ∷ marked 1 (Got 21) ∷
     marked 1
-    (Sent 23 3 (messages.Answer 21 (answers.Granted (grant_with 1 2 (line 1 0 1 1 0 2 ∷ line 2 1 1 1 0 3 ∷ []))))) ∷
+    (Sent 23 3 (messages.Answer 21 (answers.Granted (whole_grant 1 2 (line 1 0 1 1 0 2 ∷ line 2 1 1 1 0 3 ∷ []))))) ∷
     marked 3 (Got 22) ∷ marked 3 (Got 23) ∷ marked 3 (Told (replies.Response 1)) ∷ marked 3 (Called commands.Commit) ∷
     marked 3 (Sent 24 0 (messages.Request (tx 0 2) 1 1 wants.Prepare)) ∷
     marked 3 (Sent 25 1 (messages.Request (tx 0 2) 1 1 wants.Prepare)) ∷ marked 0 (Got 24) ∷

@@ -11,7 +11,7 @@ use Rattle.qc_msg.specs.declared.message.Outcome.TheVariants as outcomes
 use Rattle.qc_msg.specs.declared.record.Record.TheVariants as records
 use Rattle.qc_msg.specs.declared.reply.Reply.TheVariants as replies
 use Rattle.qc_msg.specs.declared.message.Want.TheVariants as wants
-use Rattle.qc_msg.specs.Vocabulary.{grant_with, read_of}
+use Rattle.qc_msg.specs.Vocabulary.{whole_grant, first_read}
 
 abbrev pub moves : List Move
 moves =
@@ -35,19 +35,20 @@ history =
     marked 3 (Called (commands.Do 0 2)) ∷
     marked 3 (Sent 0 0 (messages.Request (tx 0 1) 1 0 (wants.Append 0 [] (own_line 1 0 3 ∷ [])))) ∷
     marked 3 (Sent 1 1 (messages.Request (tx 0 1) 1 0 (wants.Append 0 [] (own_line 1 0 3 ∷ [])))) ∷ marked 0 (Got 0) ∷
-    marked 0 (Sent 2 3 (messages.Answer 0 (answers.Granted (grant_with 1 0 [])))) ∷ marked 0 (Got 0) ∷
-    marked 0 (Sent 3 3 (messages.Answer 0 (answers.Granted (grant_with 1 0 [])))) ∷ marked 1 (Got 1) ∷
-    marked 1 (Sent 4 3 (messages.Answer 1 (answers.Granted (grant_with 1 0 [])))) ∷ marked 1 (Got 1) ∷
-    marked 1 (Sent 5 3 (messages.Answer 1 (answers.Granted (grant_with 1 0 [])))) ∷ marked 3 (Got 2) ∷ marked 3 (Got 2)
+    marked 0 (Sent 2 3 (messages.Answer 0 (answers.Granted (whole_grant 1 0 [])))) ∷ marked 0 (Got 0) ∷
+    marked 0 (Sent 3 3 (messages.Answer 0 (answers.Granted (whole_grant 1 0 [])))) ∷ marked 1 (Got 1) ∷
+    marked 1 (Sent 4 3 (messages.Answer 1 (answers.Granted (whole_grant 1 0 [])))) ∷ marked 1 (Got 1) ∷
+    marked 1 (Sent 5 3 (messages.Answer 1 (answers.Granted (whole_grant 1 0 [])))) ∷ marked 3 (Got 2) ∷ marked 3 (Got 2)
     ∷
     marked 3 (Got 3) ∷ marked 3 (Got 3) ∷ marked 3 (Got 4) ∷ marked 3 (Told (replies.Response 2)) ∷ marked 3 (Got 4) ∷
     marked 3 (Got 5) ∷ marked 3 (Got 5) ∷ marked 3 (Called (commands.Do 0 0)) ∷
-    marked 3 (Sent 6 0 (messages.Request (tx 0 1) 1 1 (wants.Read (read_of 0 0)))) ∷
-    marked 3 (Sent 7 1 (messages.Request (tx 0 1) 1 1 (wants.Read (read_of 0 0)))) ∷ marked 0 (Got 6) ∷
-    marked 0 (Sent 8 3 (messages.Answer 6 (answers.Granted (grant_with 1 0 [])))) ∷ marked 0 (Got 6) ∷
-    marked 0 (Sent 9 3 (messages.Answer 6 (answers.Granted (grant_with 1 0 [])))) ∷ marked 1 (Got 7) ∷
-    marked 1 (Sent 10 3 (messages.Answer 7 (answers.Granted (grant_with 1 0 [])))) ∷ marked 1 (Got 7) ∷
-    marked 1 (Sent 11 3 (messages.Answer 7 (answers.Granted (grant_with 1 0 [])))) ∷ marked 3 (Got 8) ∷ marked 3 (Got 8)
+    marked 3 (Sent 6 0 (messages.Request (tx 0 1) 1 1 (wants.Read (first_read 0 0)))) ∷
+    marked 3 (Sent 7 1 (messages.Request (tx 0 1) 1 1 (wants.Read (first_read 0 0)))) ∷ marked 0 (Got 6) ∷
+    marked 0 (Sent 8 3 (messages.Answer 6 (answers.Granted (whole_grant 1 0 [])))) ∷ marked 0 (Got 6) ∷
+    marked 0 (Sent 9 3 (messages.Answer 6 (answers.Granted (whole_grant 1 0 [])))) ∷ marked 1 (Got 7) ∷
+    marked 1 (Sent 10 3 (messages.Answer 7 (answers.Granted (whole_grant 1 0 [])))) ∷ marked 1 (Got 7) ∷
+    marked 1 (Sent 11 3 (messages.Answer 7 (answers.Granted (whole_grant 1 0 [])))) ∷ marked 3 (Got 8) ∷
+    marked 3 (Got 8)
     ∷
     marked 3 (Got 9) ∷ marked 3 (Got 9) ∷ marked 3 (Got 10) ∷ marked 3 (Told (replies.Response 1)) ∷ marked 3 (Got 10) ∷
     marked 3 (Got 11) ∷ marked 3 (Got 11) ∷ marked 3 (Called commands.Commit) ∷

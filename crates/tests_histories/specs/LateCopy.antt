@@ -11,7 +11,7 @@ use Rattle.qc_msg.specs.declared.message.Outcome.TheVariants as outcomes
 use Rattle.qc_msg.specs.declared.record.Record.TheVariants as records
 use Rattle.qc_msg.specs.declared.reply.Reply.TheVariants as replies
 use Rattle.qc_msg.specs.declared.message.Want.TheVariants as wants
-use Rattle.qc_msg.specs.Vocabulary.{grant_with, read_of}
+use Rattle.qc_msg.specs.Vocabulary.{whole_grant, first_read}
 
 abbrev pub moves : List Move
 moves =
@@ -34,10 +34,11 @@ history =
     marked 3 (Called (commands.Do 0 2)) ∷
     marked 3 (Sent 0 0 (messages.Request (tx 0 1) 1 0 (wants.Append 0 [] (own_line 1 0 3 ∷ [])))) ∷
     marked 3 (Sent 1 1 (messages.Request (tx 0 1) 1 0 (wants.Append 0 [] (own_line 1 0 3 ∷ [])))) ∷ marked 0 (Got 0) ∷
-    marked 0 (Sent 2 3 (messages.Answer 0 (answers.Granted (grant_with 1 0 [])))) ∷ marked 3 (Got 2) ∷ marked 3 (Lost 1)
+    marked 0 (Sent 2 3 (messages.Answer 0 (answers.Granted (whole_grant 1 0 [])))) ∷ marked 3 (Got 2) ∷
+    marked 3 (Lost 1)
     ∷
     marked 3 (Sent 3 2 (messages.Request (tx 0 1) 1 0 (wants.Append 0 [] (own_line 1 0 3 ∷ [])))) ∷ marked 2 (Got 3) ∷
-    marked 2 (Sent 4 3 (messages.Answer 3 (answers.Granted (grant_with 1 0 [])))) ∷ marked 3 (Got 4) ∷
+    marked 2 (Sent 4 3 (messages.Answer 3 (answers.Granted (whole_grant 1 0 [])))) ∷ marked 3 (Got 4) ∷
     marked 3 (Told (replies.Response 2)) ∷ marked 3 (Called commands.Commit) ∷
     marked 3 (Sent 5 0 (messages.Request (tx 0 1) 1 1 wants.Prepare)) ∷
     marked 3 (Sent 6 2 (messages.Request (tx 0 1) 1 1 wants.Prepare)) ∷ marked 0 (Got 5) ∷
@@ -51,22 +52,22 @@ history =
     marked 3 (Sent 11 2 (messages.Decision (tx 0 1) (outcomes.Committed (stamp 1 0)))) ∷
     marked 3 (Told (replies.Committed (stamp 1 0))) ∷ marked 0 (Got 9) ∷ marked 0 (Wrote (records.Done (tx 0 1) 1)) ∷
     marked 1 (Got 10) ∷ marked 2 (Got 11) ∷ marked 2 (Wrote (records.Done (tx 0 1) 1)) ∷ marked 7 (Phase 2) ∷
-    marked 1 (Got 1) ∷ marked 1 (Sent 12 3 (messages.Answer 1 (answers.Granted (grant_with 1 1 []))))
+    marked 1 (Got 1) ∷ marked 1 (Sent 12 3 (messages.Answer 1 (answers.Granted (whole_grant 1 1 []))))
     ∷ marked 3 (Got 12) ∷
     marked 4 (Called commands.Begin) ∷ marked 4 (Told (replies.Began (tx 1 1))) ∷ marked 4 (Called (commands.Do 0 0)) ∷
-    marked 4 (Sent 13 1 (messages.Request (tx 1 1) 1 0 (wants.Read (read_of 0 0)))) ∷
-    marked 4 (Sent 14 2 (messages.Request (tx 1 1) 1 0 (wants.Read (read_of 0 0)))) ∷ marked 1 (Got 13) ∷
+    marked 4 (Sent 13 1 (messages.Request (tx 1 1) 1 0 (wants.Read (first_read 0 0)))) ∷
+    marked 4 (Sent 14 2 (messages.Request (tx 1 1) 1 0 (wants.Read (first_read 0 0)))) ∷ marked 1 (Got 13) ∷
     marked 1 (Sent 15 4 (messages.Answer 13 (answers.Clash (tx 0 1) 0 3))) ∷
     marked 1 (Sent 16 3 (messages.Inquiry (tx 0 1))) ∷ marked 2 (Got 14) ∷
-    marked 2 (Sent 17 4 (messages.Answer 14 (answers.Granted (grant_with 1 1 (line 1 0 1 1 0 3 ∷ [])))))
+    marked 2 (Sent 17 4 (messages.Answer 14 (answers.Granted (whole_grant 1 1 (line 1 0 1 1 0 3 ∷ [])))))
     ∷ marked 4 (Got 15) ∷
     marked 3 (Got 16) ∷ marked 3 (Sent 18 1 (messages.Decision (tx 0 1) (outcomes.Committed (stamp 1 0)))) ∷
     marked 4 (Got 17) ∷ marked 4 (Told (replies.Conflict (tx 0 1) 1)) ∷ marked 1 (Got 18) ∷ marked 7 (Phase 3) ∷
     marked 4 (Called (commands.Do 0 0))
-    ∷ marked 4 (Sent 19 1 (messages.Request (tx 1 1) 1 0 (wants.Read (read_of 0 0)))) ∷
-    marked 4 (Sent 20 2 (messages.Request (tx 1 1) 1 1 (wants.Read (read_of 0 0)))) ∷ marked 1 (Got 19) ∷
-    marked 1 (Sent 21 4 (messages.Answer 19 (answers.Granted (grant_with 1 1 [])))) ∷ marked 2 (Got 20) ∷
-    marked 2 (Sent 22 4 (messages.Answer 20 (answers.Granted (grant_with 1 1 (line 1 0 1 1 0 3 ∷ [])))))
+    ∷ marked 4 (Sent 19 1 (messages.Request (tx 1 1) 1 0 (wants.Read (first_read 0 0)))) ∷
+    marked 4 (Sent 20 2 (messages.Request (tx 1 1) 1 1 (wants.Read (first_read 0 0)))) ∷ marked 1 (Got 19) ∷
+    marked 1 (Sent 21 4 (messages.Answer 19 (answers.Granted (whole_grant 1 1 [])))) ∷ marked 2 (Got 20) ∷
+    marked 2 (Sent 22 4 (messages.Answer 20 (answers.Granted (whole_grant 1 1 (line 1 0 1 1 0 3 ∷ [])))))
     ∷ marked 4 (Got 21) ∷
     marked 4 (Got 22) ∷ marked 4 (Told (replies.Response 1)) ∷ marked 4 (Called commands.Commit) ∷
     marked 4 (Sent 23 1 (messages.Request (tx 1 1) 1 1 wants.Prepare)) ∷

@@ -13,7 +13,7 @@ use Rattle.qc_msg.specs.declared.message.Outcome.TheVariants as outcomes
 use Rattle.qc_msg.specs.declared.record.Record.TheVariants as records
 use Rattle.qc_msg.specs.declared.reply.Reply.TheVariants as replies
 use Rattle.qc_msg.specs.declared.message.Want.TheVariants as wants
-use Rattle.qc_msg.specs.Vocabulary.{grant_with, read_of}
+use Rattle.qc_msg.specs.Vocabulary.{whole_grant, first_read}
 
 abbrev pub decl : Declaration
 decl =
@@ -41,11 +41,12 @@ moves =
 abbrev pub history : List Entry
 history =
     marked 4 (Phase 1) ∷ marked 2 (Called commands.Begin) ∷ marked 2 (Told (replies.Began (tx 0 1))) ∷
-    marked 2 (Called (commands.Do 0 0)) ∷ marked 2 (Sent 0 0 (messages.Request (tx 0 1) 1 0 (wants.Read (read_of 0 0))))
+    marked 2 (Called (commands.Do 0 0)) ∷
+    marked 2 (Sent 0 0 (messages.Request (tx 0 1) 1 0 (wants.Read (first_read 0 0))))
     ∷
-    marked 2 (Sent 1 1 (messages.Request (tx 0 1) 1 0 (wants.Read (read_of 0 0)))) ∷ marked 0 (Got 0) ∷
-    marked 0 (Sent 2 2 (messages.Answer 0 (answers.Granted (grant_with 1 0 [])))) ∷ marked 1 (Got 1) ∷
-    marked 1 (Sent 3 2 (messages.Answer 1 (answers.Granted (grant_with 1 0 [])))) ∷ marked 2 (Got 2) ∷ marked 2 (Got 3)
+    marked 2 (Sent 1 1 (messages.Request (tx 0 1) 1 0 (wants.Read (first_read 0 0)))) ∷ marked 0 (Got 0) ∷
+    marked 0 (Sent 2 2 (messages.Answer 0 (answers.Granted (whole_grant 1 0 [])))) ∷ marked 1 (Got 1) ∷
+    marked 1 (Sent 3 2 (messages.Answer 1 (answers.Granted (whole_grant 1 0 [])))) ∷ marked 2 (Got 2) ∷ marked 2 (Got 3)
     ∷
     marked 2 (Told replies.Absent) ∷ marked 2 (Called commands.Abort) ∷
     marked 2 (Sent 4 0 (messages.Decision (tx 0 1) outcomes.Aborted)) ∷
@@ -53,10 +54,10 @@ history =
     marked 0 (Got 4) ∷ marked 1 (Got 5) ∷ marked 4 (Phase 2) ∷ marked 4 (Cut 1 0) ∷ marked 2 (Called commands.Begin) ∷
     marked 2 (Told (replies.Began (tx 0 2))) ∷ marked 2 (Called (commands.Do 0 1)) ∷
     marked 2 (Sent 6 0 (messages.Request (tx 0 2) 1 0 (wants.Append 0 [] (own_line 1 0 0 ∷ [])))) ∷ marked 0 (Got 6) ∷
-    marked 0 (Sent 7 2 (messages.Answer 6 (answers.Granted (grant_with 1 0 [])))) ∷ marked 2 (Got 7) ∷
+    marked 0 (Sent 7 2 (messages.Answer 6 (answers.Granted (whole_grant 1 0 [])))) ∷ marked 2 (Got 7) ∷
     marked 2 (Told (replies.Response 0)) ∷ marked 2 (Called (commands.Do 0 1)) ∷
     marked 2 (Sent 8 0 (messages.Request (tx 0 2) 1 1 (wants.Append 0 [] (own_line 1 0 0 ∷ own_line 2 0 0 ∷ [])))) ∷
-    marked 0 (Got 8) ∷ marked 0 (Sent 9 2 (messages.Answer 8 (answers.Granted (grant_with 1 0 [])))) ∷ marked 2 (Got 9)
+    marked 0 (Got 8) ∷ marked 0 (Sent 9 2 (messages.Answer 8 (answers.Granted (whole_grant 1 0 [])))) ∷ marked 2 (Got 9)
     ∷
     marked 2 (Told (replies.Response 0)) ∷ marked 2 (Called commands.Commit) ∷
     marked 2 (Sent 10 0 (messages.Request (tx 0 2) 1 1 wants.Prepare)) ∷ marked 0 (Got 10) ∷
@@ -74,9 +75,9 @@ history =
     marked 2 (Told replies.NoTransaction) ∷ marked 2 (Called commands.Commit) ∷ marked 2 (Told replies.NoTransaction) ∷
     marked 2 (Called commands.Begin) ∷ marked 2 (Told (replies.Began (tx 0 4))) ∷ marked 2 (Called (commands.Do 0 1)) ∷
     marked 2 (Sent 13 0 (messages.Request (tx 0 4) 1 0 (wants.Append 0 [] (own_line 1 0 0 ∷ [])))) ∷ marked 0 (Got 13) ∷
-    marked 0 (Sent 14 2 (messages.Answer 13 (answers.Granted (grant_with 1 1 [])))) ∷ marked 2 (Got 14) ∷
+    marked 0 (Sent 14 2 (messages.Answer 13 (answers.Granted (whole_grant 1 1 [])))) ∷ marked 2 (Got 14) ∷
     marked 2 (Told (replies.Response 0)) ∷ marked 2 (Called (commands.Do 0 1)) ∷
     marked 2 (Sent 15 0 (messages.Request (tx 0 4) 1 1 (wants.Append 0 [] (own_line 1 0 0 ∷ own_line 2 0 0 ∷ [])))) ∷
-    marked 0 (Got 15) ∷ marked 0 (Sent 16 2 (messages.Answer 15 (answers.Granted (grant_with 1 1 []))))
+    marked 0 (Got 15) ∷ marked 0 (Sent 16 2 (messages.Answer 15 (answers.Granted (whole_grant 1 1 []))))
     ∷ marked 2 (Got 16) ∷
     marked 2 (Told (replies.Response 0)) ∷ []

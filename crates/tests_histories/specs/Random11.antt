@@ -13,7 +13,7 @@ use Rattle.qc_msg.specs.declared.message.Message.TheVariants as messages
 use Rattle.qc_msg.specs.declared.message.Outcome.TheVariants as outcomes
 use Rattle.qc_msg.specs.declared.reply.Reply.TheVariants as replies
 use Rattle.qc_msg.specs.declared.message.Want.TheVariants as wants
-use Rattle.qc_msg.specs.Vocabulary.{grant_with, read_of}
+use Rattle.qc_msg.specs.Vocabulary.{whole_grant, first_read}
 
 abbrev pub decl : Declaration
 decl =
@@ -46,24 +46,24 @@ history =
     marked 3 (Called commands.Commit) ∷ marked 3 (Wrote (commit (stamp 1 0) (tx 0 1) [])) ∷
     marked 3 (Told (replies.Committed (stamp 1 0))) ∷ marked 4 (Called (commands.Do 1 1)) ∷
     marked 5 (Called commands.Begin) ∷ marked 5 (Told (replies.Began (tx 2 1))) ∷ marked 5 (Called (commands.Do 0 2)) ∷
-    marked 5 (Sent 0 2 (messages.Request (tx 2 1) 1 0 (wants.Read (read_of 0 2)))) ∷
-    marked 5 (Sent 1 0 (messages.Request (tx 2 1) 1 0 (wants.Read (read_of 0 2)))) ∷ marked 0 (Got 1) ∷
-    marked 0 (Sent 2 5 (messages.Answer 1 (answers.Granted (grant_with 1 0 [])))) ∷ marked 5 (Got 2) ∷ marked 2 (Got 0)
+    marked 5 (Sent 0 2 (messages.Request (tx 2 1) 1 0 (wants.Read (first_read 0 2)))) ∷
+    marked 5 (Sent 1 0 (messages.Request (tx 2 1) 1 0 (wants.Read (first_read 0 2)))) ∷ marked 0 (Got 1) ∷
+    marked 0 (Sent 2 5 (messages.Answer 1 (answers.Granted (whole_grant 1 0 [])))) ∷ marked 5 (Got 2) ∷ marked 2 (Got 0)
     ∷
-    marked 2 (Sent 3 5 (messages.Answer 0 (answers.Granted (grant_with 1 0 [])))) ∷
-    marked 4 (Sent 4 2 (messages.Request (tx 1 1) 1 0 (wants.Read (read_of 1 1)))) ∷ marked 5 (Got 3) ∷
+    marked 2 (Sent 3 5 (messages.Answer 0 (answers.Granted (whole_grant 1 0 [])))) ∷
+    marked 4 (Sent 4 2 (messages.Request (tx 1 1) 1 0 (wants.Read (first_read 1 1)))) ∷ marked 5 (Got 3) ∷
     marked 5 (Told (replies.Response 3)) ∷ marked 2 (Got 4) ∷ marked 5 (Called (commands.Do 1 1)) ∷
-    marked 5 (Sent 5 2 (messages.Request (tx 2 1) 1 1 (wants.Read (read_of 1 1)))) ∷
-    marked 2 (Sent 6 4 (messages.Answer 4 (answers.Granted (grant_with 1 0 [])))) ∷ marked 4 (Got 6) ∷ marked 2 (Got 5)
+    marked 5 (Sent 5 2 (messages.Request (tx 2 1) 1 1 (wants.Read (first_read 1 1)))) ∷
+    marked 2 (Sent 6 4 (messages.Answer 4 (answers.Granted (whole_grant 1 0 [])))) ∷ marked 4 (Got 6) ∷ marked 2 (Got 5)
     ∷
     marked 4 (Sent 7 2 (messages.Request (tx 1 1) 1 1 (wants.Append 1 [] (own_line 1 1 1 ∷ [])))) ∷
     marked 4 (Sent 8 0 (messages.Request (tx 1 1) 1 0 (wants.Append 1 [] (own_line 1 1 1 ∷ [])))) ∷ marked 0 (Got 8) ∷
-    marked 0 (Sent 9 4 (messages.Answer 8 (answers.Granted (grant_with 1 0 [])))) ∷
-    marked 2 (Sent 10 5 (messages.Answer 5 (answers.Granted (grant_with 1 0 [])))) ∷ marked 4 (Got 9)
+    marked 0 (Sent 9 4 (messages.Answer 8 (answers.Granted (whole_grant 1 0 [])))) ∷
+    marked 2 (Sent 10 5 (messages.Answer 5 (answers.Granted (whole_grant 1 0 [])))) ∷ marked 4 (Got 9)
     ∷ marked 5 (Got 10) ∷
     marked 2 (Got 7) ∷ marked 5 (Sent 11 2 (messages.Request (tx 2 1) 1 1 (wants.Append 1 [] (own_line 2 1 1 ∷ [])))) ∷
     marked 5 (Sent 12 0 (messages.Request (tx 2 1) 1 1 (wants.Append 1 [] (own_line 2 1 1 ∷ [])))) ∷ marked 0 (Got 12) ∷
-    marked 0 (Sent 13 5 (messages.Answer 12 (answers.Granted (grant_with 1 0 [])))) ∷ marked 5 (Got 13) ∷
+    marked 0 (Sent 13 5 (messages.Answer 12 (answers.Granted (whole_grant 1 0 [])))) ∷ marked 5 (Got 13) ∷
     marked 2 (Sent 14 4 (messages.Answer 7 (answers.Clash (tx 2 1) 1 1))) ∷
     marked 2 (Sent 15 5 (messages.Inquiry (tx 2 1))) ∷ marked 4 (Got 14) ∷ marked 2 (Got 11) ∷
     marked 2 (Sent 16 5 (messages.Answer 11 (answers.Clash (tx 1 1) 1 1))) ∷

@@ -16,7 +16,7 @@ use Rattle.qc_msg.specs.declared.message.Outcome.TheVariants as outcomes
 use Rattle.qc_msg.specs.declared.record.Record.TheVariants as records
 use Rattle.qc_msg.specs.declared.reply.Reply.TheVariants as replies
 use Rattle.qc_msg.specs.declared.message.Want.TheVariants as wants
-use Rattle.qc_msg.specs.Vocabulary.{grant_with, read_of}
+use Rattle.qc_msg.specs.Vocabulary.{whole_grant, first_read}
 
 abbrev pub decl : Declaration
 decl =
@@ -44,14 +44,15 @@ moves =
 abbrev pub history : List Entry
 history =
     marked 5 (Phase 1) ∷ marked 3 (Called commands.Begin) ∷ marked 3 (Told (replies.Began (tx 1 1))) ∷
-    marked 3 (Called (commands.Do 0 0)) ∷ marked 3 (Sent 0 1 (messages.Request (tx 1 1) 1 0 (wants.Read (read_of 0 0))))
+    marked 3 (Called (commands.Do 0 0)) ∷
+    marked 3 (Sent 0 1 (messages.Request (tx 1 1) 1 0 (wants.Read (first_read 0 0))))
     ∷
-    marked 3 (Sent 1 0 (messages.Request (tx 1 1) 1 0 (wants.Read (read_of 0 0)))) ∷ marked 1 (Got 0) ∷
-    marked 1 (Sent 2 3 (messages.Answer 0 (answers.Granted (grant_with 1 0 [])))) ∷ marked 3 (Got 2) ∷ marked 0 (Got 1)
+    marked 3 (Sent 1 0 (messages.Request (tx 1 1) 1 0 (wants.Read (first_read 0 0)))) ∷ marked 1 (Got 0) ∷
+    marked 1 (Sent 2 3 (messages.Answer 0 (answers.Granted (whole_grant 1 0 [])))) ∷ marked 3 (Got 2) ∷ marked 0 (Got 1)
     ∷
-    marked 0 (Sent 3 3 (messages.Answer 1 (answers.Granted (grant_with 1 0 [])))) ∷ marked 3 (Got 3) ∷
+    marked 0 (Sent 3 3 (messages.Answer 1 (answers.Granted (whole_grant 1 0 [])))) ∷ marked 3 (Got 3) ∷
     marked 3 (Sent 4 1 (messages.Request (tx 1 1) 1 1 (wants.Append 0 [] (own_line 1 0 0 ∷ [])))) ∷ marked 1 (Got 4) ∷
-    marked 1 (Sent 5 3 (messages.Answer 4 (answers.Granted (grant_with 1 0 [])))) ∷ marked 3 (Got 5) ∷
+    marked 1 (Sent 5 3 (messages.Answer 4 (answers.Granted (whole_grant 1 0 [])))) ∷ marked 3 (Got 5) ∷
     marked 3 (Told (replies.Response 0)) ∷ marked 3 (Called commands.Commit) ∷
     marked 3 (Sent 6 1 (messages.Request (tx 1 1) 1 1 wants.Prepare)) ∷
     marked 3 (Sent 7 0 (messages.Request (tx 1 1) 1 1 wants.Prepare)) ∷ marked 1 (Got 6) ∷ marked 0 (Got 7) ∷
@@ -66,11 +67,11 @@ history =
     marked 1 (Wrote (records.Done (tx 1 1) 1)) ∷ marked 0 (Wrote (records.Done (tx 1 1) 1)) ∷ marked 5 (Phase 2) ∷
     marked 5 (Cut 0 1) ∷ marked 2 (Called commands.Begin) ∷ marked 2 (Told (replies.Began (tx 0 1))) ∷
     marked 2 (Called (commands.Do 0 2))
-    ∷ marked 2 (Sent 12 0 (messages.Request (tx 0 1) 1 0 (wants.Read (read_of 0 2)))) ∷
-    marked 2 (Sent 13 1 (messages.Request (tx 0 1) 1 0 (wants.Read (read_of 0 2)))) ∷ marked 1 (Got 13)
+    ∷ marked 2 (Sent 12 0 (messages.Request (tx 0 1) 1 0 (wants.Read (first_read 0 2)))) ∷
+    marked 2 (Sent 13 1 (messages.Request (tx 0 1) 1 0 (wants.Read (first_read 0 2)))) ∷ marked 1 (Got 13)
     ∷ marked 0 (Got 12) ∷
-    marked 0 (Sent 14 2 (messages.Answer 12 (answers.Granted (grant_with 1 1 [])))) ∷ marked 2 (Got 14) ∷
-    marked 1 (Sent 15 2 (messages.Answer 13 (answers.Granted (grant_with 1 1 (line 1 1 1 1 0 0 ∷ [])))))
+    marked 0 (Sent 14 2 (messages.Answer 12 (answers.Granted (whole_grant 1 1 [])))) ∷ marked 2 (Got 14) ∷
+    marked 1 (Sent 15 2 (messages.Answer 13 (answers.Granted (whole_grant 1 1 (line 1 1 1 1 0 0 ∷ [])))))
     ∷ marked 2 (Got 15) ∷
     marked 2 (Sent 16 0 (messages.Request (tx 0 1) 1 1 (wants.Append 0 (line 1 1 1 1 0 0 ∷ []) (own_line 1 0 2 ∷ []))))
     ∷
@@ -80,8 +81,8 @@ history =
     marked 2 (Lost 17) ∷ marked 2 (Told (replies.Quorum halves.Append 0 1)) ∷ marked 2 (Called (commands.Do 0 2)) ∷
     marked 2 (Told replies.Doomed) ∷ marked 2 (Called (commands.Do 1 1)) ∷ marked 2 (Told replies.Doomed) ∷
     marked 5 (Phase 3) ∷ marked 5 (Heal 0 1) ∷ marked 0 (Got 16) ∷ marked 1 (Got 17) ∷
-    marked 0 (Sent 18 2 (messages.Answer 16 (answers.Granted (grant_with 1 1 [])))) ∷ marked 2 (Got 18) ∷
-    marked 1 (Sent 19 2 (messages.Answer 17 (answers.Granted (grant_with 1 1 [])))) ∷ marked 2 (Got 19)
+    marked 0 (Sent 18 2 (messages.Answer 16 (answers.Granted (whole_grant 1 1 [])))) ∷ marked 2 (Got 18) ∷
+    marked 1 (Sent 19 2 (messages.Answer 17 (answers.Granted (whole_grant 1 1 [])))) ∷ marked 2 (Got 19)
     ∷ marked 5 (Phase 4) ∷
     marked 2 (Called (commands.Do 1 1)) ∷ marked 2 (Told replies.Doomed) ∷ marked 2 (Called (commands.Do 1 0)) ∷
     marked 2 (Told replies.Doomed) ∷ marked 2 (Called (commands.Do 0 1)) ∷ marked 2 (Told replies.Doomed) ∷

@@ -14,7 +14,7 @@ use Rattle.qc_msg.specs.declared.message.Outcome.TheVariants as outcomes
 use Rattle.qc_msg.specs.declared.record.Record.TheVariants as records
 use Rattle.qc_msg.specs.declared.reply.Reply.TheVariants as replies
 use Rattle.qc_msg.specs.declared.message.Want.TheVariants as wants
-use Rattle.qc_msg.specs.Vocabulary.{grant_with, read_of}
+use Rattle.qc_msg.specs.Vocabulary.{whole_grant, first_read}
 
 abbrev pub decl : Declaration
 decl =
@@ -46,21 +46,21 @@ history =
     marked 9 (Phase 1) ∷ marked 7 (Called commands.Begin) ∷ marked 7 (Told (replies.Began (tx 2 1))) ∷
     marked 7 (Called (commands.Do 0 1)) ∷
     marked 7 (Sent 0 2 (messages.Request (tx 2 1) 1 0 (wants.Append 0 [] (own_line 1 0 1 ∷ [])))) ∷ marked 2 (Got 0) ∷
-    marked 2 (Sent 1 7 (messages.Answer 0 (answers.Granted (grant_with 1 0 [])))) ∷ marked 7 (Got 1) ∷
+    marked 2 (Sent 1 7 (messages.Answer 0 (answers.Granted (whole_grant 1 0 [])))) ∷ marked 7 (Got 1) ∷
     marked 7 (Told (replies.Response 0)) ∷ marked 7 (Called (commands.Do 0 1)) ∷
     marked 7 (Sent 2 2 (messages.Request (tx 2 1) 1 1 (wants.Append 0 [] (own_line 1 0 1 ∷ own_line 2 0 1 ∷ [])))) ∷
-    marked 2 (Got 2) ∷ marked 2 (Sent 3 7 (messages.Answer 2 (answers.Granted (grant_with 1 0 [])))) ∷ marked 7 (Got 3)
+    marked 2 (Got 2) ∷ marked 2 (Sent 3 7 (messages.Answer 2 (answers.Granted (whole_grant 1 0 [])))) ∷ marked 7 (Got 3)
     ∷
     marked 7 (Told (replies.Response 0)) ∷ marked 9 (Phase 2) ∷ marked 5 (Called commands.Begin) ∷
     marked 5 (Told (replies.Began (tx 0 1))) ∷ marked 5 (Called (commands.Do 0 1)) ∷
     marked 5 (Sent 4 0 (messages.Request (tx 0 1) 1 0 (wants.Append 0 [] (own_line 1 0 1 ∷ [])))) ∷
     marked 5 (Sent 5 1 (messages.Request (tx 0 1) 1 0 (wants.Append 0 [] (own_line 1 0 1 ∷ [])))) ∷
     marked 5 (Sent 6 2 (messages.Request (tx 0 1) 1 0 (wants.Append 0 [] (own_line 1 0 1 ∷ [])))) ∷ marked 2 (Got 6) ∷
-    marked 1 (Got 5) ∷ marked 0 (Got 4) ∷ marked 1 (Sent 7 5 (messages.Answer 5 (answers.Granted (grant_with 1 0 []))))
+    marked 1 (Got 5) ∷ marked 0 (Got 4) ∷ marked 1 (Sent 7 5 (messages.Answer 5 (answers.Granted (whole_grant 1 0 []))))
     ∷
-    marked 5 (Got 7) ∷ marked 0 (Sent 8 5 (messages.Answer 4 (answers.Granted (grant_with 1 0 [])))) ∷ marked 5 (Got 8)
+    marked 5 (Got 7) ∷ marked 0 (Sent 8 5 (messages.Answer 4 (answers.Granted (whole_grant 1 0 [])))) ∷ marked 5 (Got 8)
     ∷
-    marked 2 (Sent 9 5 (messages.Answer 6 (answers.Granted (grant_with 1 0 [])))) ∷ marked 5 (Got 9) ∷
+    marked 2 (Sent 9 5 (messages.Answer 6 (answers.Granted (whole_grant 1 0 [])))) ∷ marked 5 (Got 9) ∷
     marked 5 (Told (replies.Response 0)) ∷ marked 5 (Called commands.Commit) ∷
     marked 5 (Sent 10 0 (messages.Request (tx 0 1) 1 1 wants.Prepare)) ∷
     marked 5 (Sent 11 1 (messages.Request (tx 0 1) 1 1 wants.Prepare)) ∷
@@ -79,14 +79,14 @@ history =
     marked 2 (Wrote (records.Done (tx 0 1) 1)) ∷ marked 0 (Wrote (records.Done (tx 0 1) 1)) ∷
     marked 1 (Wrote (records.Done (tx 0 1) 1)) ∷ marked 9 (Phase 3) ∷ marked 5 (Called commands.Begin) ∷
     marked 5 (Told (replies.Began (tx 0 2))) ∷ marked 5 (Called (commands.Do 0 0)) ∷
-    marked 5 (Sent 19 0 (messages.Request (tx 0 2) 1 0 (wants.Read (read_of 0 0)))) ∷
-    marked 5 (Sent 20 1 (messages.Request (tx 0 2) 1 0 (wants.Read (read_of 0 0)))) ∷
-    marked 5 (Sent 21 2 (messages.Request (tx 0 2) 1 0 (wants.Read (read_of 0 0)))) ∷ marked 2 (Got 21)
+    marked 5 (Sent 19 0 (messages.Request (tx 0 2) 1 0 (wants.Read (first_read 0 0)))) ∷
+    marked 5 (Sent 20 1 (messages.Request (tx 0 2) 1 0 (wants.Read (first_read 0 0)))) ∷
+    marked 5 (Sent 21 2 (messages.Request (tx 0 2) 1 0 (wants.Read (first_read 0 0)))) ∷ marked 2 (Got 21)
     ∷ marked 1 (Got 20) ∷
     marked 0 (Got 19)
-    ∷ marked 1 (Sent 22 5 (messages.Answer 20 (answers.Granted (grant_with 1 1 (line 1 0 1 1 0 1 ∷ []))))) ∷
+    ∷ marked 1 (Sent 22 5 (messages.Answer 20 (answers.Granted (whole_grant 1 1 (line 1 0 1 1 0 1 ∷ []))))) ∷
     marked 5 (Got 22)
-    ∷ marked 0 (Sent 23 5 (messages.Answer 19 (answers.Granted (grant_with 1 1 (line 1 0 1 1 0 1 ∷ []))))) ∷
+    ∷ marked 0 (Sent 23 5 (messages.Answer 19 (answers.Granted (whole_grant 1 1 (line 1 0 1 1 0 1 ∷ []))))) ∷
     marked 5 (Got 23) ∷ marked 2 (Sent 24 5 (messages.Answer 21 (answers.Clash (tx 2 1) 0 1))) ∷
     marked 2 (Sent 25 7 (messages.Inquiry (tx 2 1))) ∷ marked 5 (Got 24) ∷ marked 7 (Got 25) ∷
     marked 5 (Told (replies.Conflict (tx 2 1) 2)) ∷ marked 5 (Called (commands.Do 0 2)) ∷
@@ -98,8 +98,8 @@ history =
     marked 5 (Sent 29 2 (messages.Request (tx 0 2) 1 0 (wants.Append 0 (line 1 0 1 1 0 1 ∷ []) (own_line 1 0 2 ∷ []))))
     ∷
     marked 2 (Got 29) ∷ marked 1 (Got 28) ∷ marked 0 (Got 27) ∷
-    marked 0 (Sent 30 5 (messages.Answer 27 (answers.Granted (grant_with 1 1 [])))) ∷ marked 5 (Got 30) ∷
-    marked 2 (Sent 31 5 (messages.Answer 29 (answers.Granted (grant_with 1 1 [])))) ∷
-    marked 1 (Sent 32 5 (messages.Answer 28 (answers.Granted (grant_with 1 1 [])))) ∷ marked 5 (Got 31)
+    marked 0 (Sent 30 5 (messages.Answer 27 (answers.Granted (whole_grant 1 1 [])))) ∷ marked 5 (Got 30) ∷
+    marked 2 (Sent 31 5 (messages.Answer 29 (answers.Granted (whole_grant 1 1 [])))) ∷
+    marked 1 (Sent 32 5 (messages.Answer 28 (answers.Granted (whole_grant 1 1 [])))) ∷ marked 5 (Got 31)
     ∷ marked 5 (Got 32) ∷
     marked 5 (Told (replies.Response 0)) ∷ marked 9 (Phase 4) ∷ marked 9 (Cut 2 3) ∷ []

@@ -14,7 +14,7 @@ use Rattle.qc_msg.specs.declared.message.Outcome.TheVariants as outcomes
 use Rattle.qc_msg.specs.declared.record.Record.TheVariants as records
 use Rattle.qc_msg.specs.declared.reply.Reply.TheVariants as replies
 use Rattle.qc_msg.specs.declared.message.Want.TheVariants as wants
-use Rattle.qc_msg.specs.Vocabulary.{grant_with, read_of}
+use Rattle.qc_msg.specs.Vocabulary.{whole_grant, first_read}
 
 abbrev pub decl : Declaration
 decl =
@@ -42,15 +42,15 @@ abbrev pub history : List Entry
 history =
     marked 5 (Phase 1) ∷ marked 5 (Cut 0 1) ∷ marked 3 (Called commands.Begin) ∷
     marked 3 (Told (replies.Began (tx 0 1))) ∷ marked 3 (Called (commands.Do 0 0)) ∷
-    marked 3 (Sent 0 1 (messages.Request (tx 0 1) 1 0 (wants.Read (read_of 0 0)))) ∷
-    marked 3 (Sent 1 2 (messages.Request (tx 0 1) 1 0 (wants.Read (read_of 0 0)))) ∷ marked 1 (Got 0) ∷
-    marked 1 (Sent 2 3 (messages.Answer 0 (answers.Granted (grant_with 1 0 [])))) ∷ marked 2 (Got 1) ∷
-    marked 2 (Sent 3 3 (messages.Answer 1 (answers.Granted (grant_with 1 0 [])))) ∷ marked 3 (Got 2) ∷ marked 3 (Got 3)
+    marked 3 (Sent 0 1 (messages.Request (tx 0 1) 1 0 (wants.Read (first_read 0 0)))) ∷
+    marked 3 (Sent 1 2 (messages.Request (tx 0 1) 1 0 (wants.Read (first_read 0 0)))) ∷ marked 1 (Got 0) ∷
+    marked 1 (Sent 2 3 (messages.Answer 0 (answers.Granted (whole_grant 1 0 [])))) ∷ marked 2 (Got 1) ∷
+    marked 2 (Sent 3 3 (messages.Answer 1 (answers.Granted (whole_grant 1 0 [])))) ∷ marked 3 (Got 2) ∷ marked 3 (Got 3)
     ∷
     marked 3 (Sent 4 1 (messages.Request (tx 0 1) 1 1 (wants.Append 0 [] (own_line 1 0 0 ∷ [])))) ∷
     marked 3 (Sent 5 2 (messages.Request (tx 0 1) 1 1 (wants.Append 0 [] (own_line 1 0 0 ∷ [])))) ∷ marked 1 (Got 4) ∷
-    marked 1 (Sent 6 3 (messages.Answer 4 (answers.Granted (grant_with 1 0 [])))) ∷ marked 2 (Got 5) ∷
-    marked 2 (Sent 7 3 (messages.Answer 5 (answers.Granted (grant_with 1 0 [])))) ∷ marked 3 (Got 6) ∷ marked 3 (Got 7)
+    marked 1 (Sent 6 3 (messages.Answer 4 (answers.Granted (whole_grant 1 0 [])))) ∷ marked 2 (Got 5) ∷
+    marked 2 (Sent 7 3 (messages.Answer 5 (answers.Granted (whole_grant 1 0 [])))) ∷ marked 3 (Got 6) ∷ marked 3 (Got 7)
     ∷
     marked 3 (Told (replies.Response 0)) ∷ marked 3 (Called commands.Commit) ∷
     marked 3 (Sent 8 1 (messages.Request (tx 0 1) 1 1 wants.Prepare)) ∷
@@ -65,25 +65,25 @@ history =
     marked 3 (Told (replies.Committed (stamp 1 0))) ∷ marked 1 (Got 12) ∷ marked 1 (Wrote (records.Done (tx 0 1) 1)) ∷
     marked 2 (Got 13) ∷ marked 2 (Wrote (records.Done (tx 0 1) 1)) ∷ marked 5 (Phase 2) ∷ marked 5 (Heal 0 1) ∷
     marked 3 (Called commands.Begin) ∷ marked 3 (Told (replies.Began (tx 0 2))) ∷ marked 3 (Called (commands.Do 0 0)) ∷
-    marked 3 (Sent 14 1 (messages.Request (tx 0 2) 1 0 (wants.Read (read_of 0 0)))) ∷
-    marked 3 (Sent 15 2 (messages.Request (tx 0 2) 1 0 (wants.Read (read_of 0 0)))) ∷ marked 1 (Got 14) ∷
-    marked 1 (Sent 16 3 (messages.Answer 14 (answers.Granted (grant_with 1 1 (line 1 0 1 1 0 0 ∷ [])))))
+    marked 3 (Sent 14 1 (messages.Request (tx 0 2) 1 0 (wants.Read (first_read 0 0)))) ∷
+    marked 3 (Sent 15 2 (messages.Request (tx 0 2) 1 0 (wants.Read (first_read 0 0)))) ∷ marked 1 (Got 14) ∷
+    marked 1 (Sent 16 3 (messages.Answer 14 (answers.Granted (whole_grant 1 1 (line 1 0 1 1 0 0 ∷ [])))))
     ∷ marked 2 (Got 15) ∷
-    marked 2 (Sent 17 3 (messages.Answer 15 (answers.Granted (grant_with 1 1 (line 1 0 1 1 0 0 ∷ [])))))
+    marked 2 (Sent 17 3 (messages.Answer 15 (answers.Granted (whole_grant 1 1 (line 1 0 1 1 0 0 ∷ [])))))
     ∷ marked 3 (Got 16) ∷
     marked 3 (Got 17) ∷ marked 3 (Told replies.Absent) ∷ marked 3 (Called (commands.Do 0 0)) ∷
-    marked 3 (Sent 18 1 (messages.Request (tx 0 2) 1 1 (wants.Read (read_of 0 0)))) ∷
-    marked 3 (Sent 19 2 (messages.Request (tx 0 2) 1 1 (wants.Read (read_of 0 0)))) ∷ marked 1 (Got 18) ∷
-    marked 1 (Sent 20 3 (messages.Answer 18 (answers.Granted (grant_with 1 1 (line 1 0 1 1 0 0 ∷ [])))))
+    marked 3 (Sent 18 1 (messages.Request (tx 0 2) 1 1 (wants.Read (first_read 0 0)))) ∷
+    marked 3 (Sent 19 2 (messages.Request (tx 0 2) 1 1 (wants.Read (first_read 0 0)))) ∷ marked 1 (Got 18) ∷
+    marked 1 (Sent 20 3 (messages.Answer 18 (answers.Granted (whole_grant 1 1 (line 1 0 1 1 0 0 ∷ [])))))
     ∷ marked 2 (Got 19) ∷
-    marked 2 (Sent 21 3 (messages.Answer 19 (answers.Granted (grant_with 1 1 (line 1 0 1 1 0 0 ∷ [])))))
+    marked 2 (Sent 21 3 (messages.Answer 19 (answers.Granted (whole_grant 1 1 (line 1 0 1 1 0 0 ∷ [])))))
     ∷ marked 3 (Got 20) ∷
     marked 3 (Got 21) ∷ marked 3 (Told replies.Absent) ∷ marked 3 (Called (commands.Do 0 0)) ∷
-    marked 3 (Sent 22 1 (messages.Request (tx 0 2) 1 1 (wants.Read (read_of 0 0)))) ∷
-    marked 3 (Sent 23 2 (messages.Request (tx 0 2) 1 1 (wants.Read (read_of 0 0)))) ∷ marked 1 (Got 22) ∷
-    marked 1 (Sent 24 3 (messages.Answer 22 (answers.Granted (grant_with 1 1 (line 1 0 1 1 0 0 ∷ [])))))
+    marked 3 (Sent 22 1 (messages.Request (tx 0 2) 1 1 (wants.Read (first_read 0 0)))) ∷
+    marked 3 (Sent 23 2 (messages.Request (tx 0 2) 1 1 (wants.Read (first_read 0 0)))) ∷ marked 1 (Got 22) ∷
+    marked 1 (Sent 24 3 (messages.Answer 22 (answers.Granted (whole_grant 1 1 (line 1 0 1 1 0 0 ∷ [])))))
     ∷ marked 2 (Got 23) ∷
-    marked 2 (Sent 25 3 (messages.Answer 23 (answers.Granted (grant_with 1 1 (line 1 0 1 1 0 0 ∷ [])))))
+    marked 2 (Sent 25 3 (messages.Answer 23 (answers.Granted (whole_grant 1 1 (line 1 0 1 1 0 0 ∷ [])))))
     ∷ marked 3 (Got 24) ∷
     marked 3 (Got 25) ∷ marked 3 (Told replies.Absent) ∷ marked 3 (Called commands.Begin) ∷
     marked 3 (Told (replies.Already (tx 0 2))) ∷ marked 3 (Called commands.Commit) ∷

@@ -17,7 +17,7 @@ use Rattle.qc_msg.specs.declared.message.Outcome.TheVariants as outcomes
 use Rattle.qc_msg.specs.declared.record.Record.TheVariants as records
 use Rattle.qc_msg.specs.declared.reply.Reply.TheVariants as replies
 use Rattle.qc_msg.specs.declared.message.Want.TheVariants as wants
-use Rattle.qc_msg.specs.Vocabulary.{grant_with, read_of}
+use Rattle.qc_msg.specs.Vocabulary.{whole_grant, first_read}
 
 abbrev pub decl : Declaration
 decl =
@@ -57,11 +57,11 @@ history =
     marked 3 (Phase 1) ∷ marked 1 (Called commands.Begin) ∷ marked 1 (Told (replies.Began (tx 0 1))) ∷
     marked 1 (Called commands.Abort) ∷ marked 1 (Told replies.Dropped) ∷ marked 3 (Phase 2) ∷
     marked 1 (Called commands.Begin) ∷ marked 1 (Told (replies.Began (tx 0 2))) ∷ marked 1 (Called (commands.Do 1 0)) ∷
-    marked 1 (Sent 0 0 (messages.Request (tx 0 2) 1 0 (wants.Read (read_of 1 0)))) ∷ marked 0 (Got 0) ∷
-    marked 0 (Sent 1 1 (messages.Answer 0 (answers.Granted (grant_with 1 0 [])))) ∷ marked 0 (Got 0) ∷
-    marked 0 (Sent 2 1 (messages.Answer 0 (answers.Granted (grant_with 1 0 [])))) ∷ marked 1 (Got 1) ∷
+    marked 1 (Sent 0 0 (messages.Request (tx 0 2) 1 0 (wants.Read (first_read 1 0)))) ∷ marked 0 (Got 0) ∷
+    marked 0 (Sent 1 1 (messages.Answer 0 (answers.Granted (whole_grant 1 0 [])))) ∷ marked 0 (Got 0) ∷
+    marked 0 (Sent 2 1 (messages.Answer 0 (answers.Granted (whole_grant 1 0 [])))) ∷ marked 1 (Got 1) ∷
     marked 1 (Sent 3 0 (messages.Request (tx 0 2) 1 1 (wants.Append 1 [] (own_line 1 1 0 ∷ [])))) ∷ marked 1 (Got 1) ∷
-    marked 0 (Got 3) ∷ marked 0 (Sent 4 1 (messages.Answer 3 (answers.Granted (grant_with 1 0 [])))) ∷ marked 1 (Got 2)
+    marked 0 (Got 3) ∷ marked 0 (Sent 4 1 (messages.Answer 3 (answers.Granted (whole_grant 1 0 [])))) ∷ marked 1 (Got 2)
     ∷
     marked 1 (Got 4) ∷ marked 1 (Told (replies.Response 0)) ∷ marked 1 (Called commands.Commit) ∷
     marked 1 (Sent 5 0 (messages.Request (tx 0 2) 1 1 wants.Prepare)) ∷ marked 0 (Got 5) ∷
@@ -73,9 +73,10 @@ history =
     marked 1 (Called commands.Begin) ∷ marked 1 (Told (replies.Began (tx 0 3))) ∷ marked 1 (Called commands.Commit) ∷
     marked 1 (Wrote (commit (stamp 2 0) (tx 0 3) [])) ∷ marked 1 (Told (replies.Committed (stamp 2 0))) ∷
     marked 3 (Phase 3) ∷ marked 1 (Called commands.Begin) ∷ marked 1 (Told (replies.Began (tx 0 4))) ∷
-    marked 1 (Called (commands.Do 0 1)) ∷ marked 1 (Sent 8 0 (messages.Request (tx 0 4) 1 0 (wants.Read (read_of 0 1))))
+    marked 1 (Called (commands.Do 0 1)) ∷
+    marked 1 (Sent 8 0 (messages.Request (tx 0 4) 1 0 (wants.Read (first_read 0 1))))
     ∷
-    marked 0 (Got 8) ∷ marked 0 (Sent 9 1 (messages.Answer 8 (answers.Granted (grant_with 1 1 [])))) ∷ marked 1 (Got 9)
+    marked 0 (Got 8) ∷ marked 0 (Sent 9 1 (messages.Answer 8 (answers.Granted (whole_grant 1 1 [])))) ∷ marked 1 (Got 9)
     ∷
     marked 1 (Told replies.Absent) ∷ marked 1 (Called commands.Commit) ∷
     marked 1 (Sent 10 0 (messages.Request (tx 0 4) 1 1 wants.Prepare)) ∷ marked 0 (Got 10) ∷
@@ -85,15 +86,15 @@ history =
     marked 1 (Sent 12 0 (messages.Decision (tx 0 4) (outcomes.Committed (stamp 3 0)))) ∷
     marked 1 (Told (replies.Committed (stamp 3 0))) ∷ marked 0 (Got 12) ∷ marked 0 (Wrote (records.Done (tx 0 4) 3)) ∷
     marked 1 (Called commands.Begin) ∷ marked 1 (Told (replies.Began (tx 0 5))) ∷ marked 1 (Called (commands.Do 1 1)) ∷
-    marked 1 (Sent 13 0 (messages.Request (tx 0 5) 1 0 (wants.Read (read_of 1 1)))) ∷ marked 0 (Got 13) ∷
-    marked 0 (Sent 14 1 (messages.Answer 13 (answers.Granted (grant_with 1 3 (line 1 0 2 1 1 0 ∷ [])))))
+    marked 1 (Sent 13 0 (messages.Request (tx 0 5) 1 0 (wants.Read (first_read 1 1)))) ∷ marked 0 (Got 13) ∷
+    marked 0 (Sent 14 1 (messages.Answer 13 (answers.Granted (whole_grant 1 3 (line 1 0 2 1 1 0 ∷ [])))))
     ∷ marked 1 (Got 14) ∷
     marked 1 (Told (replies.Response 1)) ∷ marked 3 (Phase 4) ∷ marked 3 (Cut 0 1) ∷ marked 1 (Got 11) ∷
     marked 1 (Called commands.Commit) ∷ marked 1 (Sent 15 0 (messages.Request (tx 0 5) 1 1 wants.Prepare)) ∷
     marked 1 (Lost 15) ∷ marked 1 (Sent 16 0 (messages.Decision (tx 0 5) outcomes.Aborted)) ∷
     marked 1 (Told (replies.Aborted (causes.NoAnswer 0))) ∷ marked 3 (Phase 5) ∷ marked 1 (Called commands.Begin) ∷
     marked 1 (Told (replies.Began (tx 0 6))) ∷ marked 1 (Called (commands.Do 0 1)) ∷
-    marked 1 (Sent 17 0 (messages.Request (tx 0 6) 1 0 (wants.Read (read_of 0 1)))) ∷ marked 1 (Lost 17) ∷
+    marked 1 (Sent 17 0 (messages.Request (tx 0 6) 1 0 (wants.Read (first_read 0 1)))) ∷ marked 1 (Lost 17) ∷
     marked 1 (Told (replies.Quorum halves.Read 0 2)) ∷ marked 1 (Called commands.Commit) ∷
     marked 1 (Wrote (commit (stamp 4 0) (tx 0 6) [])) ∷
     marked 1 (Sent 18 0 (messages.Decision (tx 0 6) (outcomes.Committed (stamp 4 0)))) ∷
@@ -101,18 +102,18 @@ history =
     marked 1 (Told (replies.Began (tx 0 7))) ∷ marked 3 (Phase 6) ∷ marked 1 (Called commands.Commit) ∷
     marked 1 (Wrote (commit (stamp 5 0) (tx 0 7) [])) ∷ marked 1 (Told (replies.Committed (stamp 5 0))) ∷
     marked 1 (Called commands.Begin) ∷ marked 1 (Told (replies.Began (tx 0 8))) ∷ marked 1 (Called (commands.Do 1 1)) ∷
-    marked 1 (Sent 19 0 (messages.Request (tx 0 8) 1 0 (wants.Read (read_of 1 1)))) ∷ marked 1 (Lost 19) ∷
+    marked 1 (Sent 19 0 (messages.Request (tx 0 8) 1 0 (wants.Read (first_read 1 1)))) ∷ marked 1 (Lost 19) ∷
     marked 1 (Told (replies.Quorum halves.Read 0 3)) ∷ marked 1 (Called commands.Commit) ∷
     marked 1 (Wrote (commit (stamp 6 0) (tx 0 8) [])) ∷
     marked 1 (Sent 20 0 (messages.Decision (tx 0 8) (outcomes.Committed (stamp 6 0)))) ∷
     marked 1 (Told (replies.Committed (stamp 6 0))) ∷ marked 3 (Phase 7) ∷ marked 3 (Heal 0 1) ∷
     marked 1 (Called commands.Begin) ∷ marked 1 (Told (replies.Began (tx 0 9))) ∷ marked 1 (Called (commands.Do 1 1)) ∷
-    marked 1 (Sent 21 0 (messages.Request (tx 0 9) 1 0 (wants.Read (read_of 1 1)))) ∷ marked 0 (Got 21) ∷
-    marked 0 (Sent 22 1 (messages.Answer 21 (answers.Granted (grant_with 1 3 (line 1 0 2 1 1 0 ∷ [])))))
+    marked 1 (Sent 21 0 (messages.Request (tx 0 9) 1 0 (wants.Read (first_read 1 1)))) ∷ marked 0 (Got 21) ∷
+    marked 0 (Sent 22 1 (messages.Answer 21 (answers.Granted (whole_grant 1 3 (line 1 0 2 1 1 0 ∷ [])))))
     ∷ marked 1 (Got 22) ∷
     marked 1 (Told (replies.Response 1)) ∷ marked 1 (Called (commands.Do 1 0)) ∷
-    marked 1 (Sent 23 0 (messages.Request (tx 0 9) 1 1 (wants.Read (read_of 1 0)))) ∷ marked 0 (Got 23) ∷
-    marked 0 (Sent 24 1 (messages.Answer 23 (answers.Granted (grant_with 1 3 (line 1 0 2 1 1 0 ∷ [])))))
+    marked 1 (Sent 23 0 (messages.Request (tx 0 9) 1 1 (wants.Read (first_read 1 0)))) ∷ marked 0 (Got 23) ∷
+    marked 0 (Sent 24 1 (messages.Answer 23 (answers.Granted (whole_grant 1 3 (line 1 0 2 1 1 0 ∷ [])))))
     ∷ marked 1 (Got 24) ∷
     marked 1 (Sent 25 0 (messages.Request (tx 0 9) 1 1 (wants.Append 1 (line 1 0 2 1 1 0 ∷ []) (own_line 2 1 0 ∷ []))))
     ∷

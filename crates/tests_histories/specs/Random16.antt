@@ -14,7 +14,7 @@ use Rattle.qc_msg.specs.declared.message.Message.TheVariants as messages
 use Rattle.qc_msg.specs.declared.message.Outcome.TheVariants as outcomes
 use Rattle.qc_msg.specs.declared.reply.Reply.TheVariants as replies
 use Rattle.qc_msg.specs.declared.message.Want.TheVariants as wants
-use Rattle.qc_msg.specs.Vocabulary.{grant_with, read_of}
+use Rattle.qc_msg.specs.Vocabulary.{whole_grant, first_read}
 
 abbrev pub decl : Declaration
 decl =
@@ -53,19 +53,21 @@ moves =
 abbrev pub history : List Entry
 history =
     marked 6 (Phase 1) ∷ marked 4 (Called commands.Begin) ∷ marked 4 (Told (replies.Began (tx 0 1))) ∷
-    marked 4 (Called (commands.Do 0 1)) ∷ marked 4 (Sent 0 1 (messages.Request (tx 0 1) 1 0 (wants.Read (read_of 0 1))))
+    marked 4 (Called (commands.Do 0 1)) ∷
+    marked 4 (Sent 0 1 (messages.Request (tx 0 1) 1 0 (wants.Read (first_read 0 1))))
     ∷
-    marked 1 (Got 0) ∷ marked 1 (Sent 1 4 (messages.Answer 0 (answers.Granted (grant_with 1 0 [])))) ∷ marked 4 (Lost 0)
+    marked 1 (Got 0) ∷ marked 1 (Sent 1 4 (messages.Answer 0 (answers.Granted (whole_grant 1 0 [])))) ∷
+    marked 4 (Lost 0)
     ∷
-    marked 4 (Sent 2 2 (messages.Request (tx 0 1) 1 0 (wants.Read (read_of 0 1)))) ∷ marked 2 (Got 2) ∷
-    marked 2 (Sent 3 4 (messages.Answer 2 (answers.Granted (grant_with 1 0 [])))) ∷ marked 4 (Got 3) ∷
+    marked 4 (Sent 2 2 (messages.Request (tx 0 1) 1 0 (wants.Read (first_read 0 1)))) ∷ marked 2 (Got 2) ∷
+    marked 2 (Sent 3 4 (messages.Answer 2 (answers.Granted (whole_grant 1 0 [])))) ∷ marked 4 (Got 3) ∷
     marked 4 (Sent 4 1 (messages.Request (tx 0 1) 1 0 (wants.Append 0 [] (own_line 1 0 1 ∷ [])))) ∷
     marked 4 (Sent 5 2 (messages.Request (tx 0 1) 1 1 (wants.Append 0 [] (own_line 1 0 1 ∷ [])))) ∷
     marked 4 (Sent 6 3 (messages.Request (tx 0 1) 1 0 (wants.Append 0 [] (own_line 1 0 1 ∷ [])))) ∷ marked 3 (Got 6) ∷
-    marked 1 (Got 4) ∷ marked 2 (Got 5) ∷ marked 2 (Sent 7 4 (messages.Answer 5 (answers.Granted (grant_with 1 0 []))))
+    marked 1 (Got 4) ∷ marked 2 (Got 5) ∷ marked 2 (Sent 7 4 (messages.Answer 5 (answers.Granted (whole_grant 1 0 []))))
     ∷
-    marked 4 (Got 7) ∷ marked 1 (Sent 8 4 (messages.Answer 4 (answers.Granted (grant_with 1 0 [])))) ∷
-    marked 3 (Sent 9 4 (messages.Answer 6 (answers.Granted (grant_with 1 0 [])))) ∷ marked 4 (Got 7) ∷ marked 4 (Got 8)
+    marked 4 (Got 7) ∷ marked 1 (Sent 8 4 (messages.Answer 4 (answers.Granted (whole_grant 1 0 [])))) ∷
+    marked 3 (Sent 9 4 (messages.Answer 6 (answers.Granted (whole_grant 1 0 [])))) ∷ marked 4 (Got 7) ∷ marked 4 (Got 8)
     ∷
     marked 4 (Got 8) ∷ marked 4 (Got 9) ∷ marked 4 (Told (replies.Response 0)) ∷ marked 4 (Called commands.Commit) ∷
     marked 4 (Sent 10 1 (messages.Request (tx 0 1) 1 1 wants.Prepare)) ∷
@@ -83,9 +85,9 @@ history =
     marked 4 (Told (replies.Aborted (causes.NoAnswer 1))) ∷ marked 3 (Got 18) ∷ marked 4 (Got 15) ∷ marked 6 (Phase 2) ∷
     marked 4 (Got 1) ∷ marked 4 (Got 14) ∷ marked 4 (Called commands.Begin) ∷ marked 4 (Told (replies.Began (tx 0 2))) ∷
     marked 4 (Called (commands.Do 0 2))
-    ∷ marked 4 (Sent 19 1 (messages.Request (tx 0 2) 1 0 (wants.Read (read_of 0 2)))) ∷
-    marked 4 (Sent 20 2 (messages.Request (tx 0 2) 1 0 (wants.Read (read_of 0 2)))) ∷
-    marked 4 (Sent 21 3 (messages.Request (tx 0 2) 1 0 (wants.Read (read_of 0 2)))) ∷ marked 1 (Got 19)
+    ∷ marked 4 (Sent 19 1 (messages.Request (tx 0 2) 1 0 (wants.Read (first_read 0 2)))) ∷
+    marked 4 (Sent 20 2 (messages.Request (tx 0 2) 1 0 (wants.Read (first_read 0 2)))) ∷
+    marked 4 (Sent 21 3 (messages.Request (tx 0 2) 1 0 (wants.Read (first_read 0 2)))) ∷ marked 1 (Got 19)
     ∷ marked 4 (Lost 21) ∷
     marked 2 (Got 20) ∷ marked 2 (Sent 22 4 (messages.Answer 20 (answers.Clash (tx 0 1) 2 1))) ∷
     marked 2 (Sent 23 4 (messages.Inquiry (tx 0 1))) ∷ marked 4 (Got 22) ∷ marked 4 (Got 23) ∷
@@ -101,18 +103,18 @@ history =
     marked 6 (Phase 3) ∷ marked 4 (Got 24) ∷ marked 4 (Got 25) ∷
     marked 4 (Sent 30 1 (messages.Decision (tx 0 1) outcomes.Aborted)) ∷ marked 1 (Got 30) ∷
     marked 4 (Called commands.Begin) ∷ marked 4 (Told (replies.Began (tx 0 3))) ∷ marked 4 (Called (commands.Do 0 1)) ∷
-    marked 4 (Sent 31 1 (messages.Request (tx 0 3) 1 0 (wants.Read (read_of 0 1)))) ∷ marked 1 (Got 31) ∷
-    marked 1 (Sent 32 4 (messages.Answer 31 (answers.Granted (grant_with 1 1 [])))) ∷ marked 4 (Lost 31) ∷
-    marked 4 (Sent 33 2 (messages.Request (tx 0 3) 1 0 (wants.Read (read_of 0 1)))) ∷ marked 2 (Got 33) ∷
-    marked 2 (Sent 34 4 (messages.Answer 33 (answers.Granted (grant_with 1 1 [])))) ∷ marked 4 (Got 34) ∷
+    marked 4 (Sent 31 1 (messages.Request (tx 0 3) 1 0 (wants.Read (first_read 0 1)))) ∷ marked 1 (Got 31) ∷
+    marked 1 (Sent 32 4 (messages.Answer 31 (answers.Granted (whole_grant 1 1 [])))) ∷ marked 4 (Lost 31) ∷
+    marked 4 (Sent 33 2 (messages.Request (tx 0 3) 1 0 (wants.Read (first_read 0 1)))) ∷ marked 2 (Got 33) ∷
+    marked 2 (Sent 34 4 (messages.Answer 33 (answers.Granted (whole_grant 1 1 [])))) ∷ marked 4 (Got 34) ∷
     marked 4 (Sent 35 1 (messages.Request (tx 0 3) 1 0 (wants.Append 0 [] (own_line 1 0 1 ∷ [])))) ∷
     marked 4 (Sent 36 2 (messages.Request (tx 0 3) 1 1 (wants.Append 0 [] (own_line 1 0 1 ∷ [])))) ∷
     marked 4 (Sent 37 3 (messages.Request (tx 0 3) 1 0 (wants.Append 0 [] (own_line 1 0 1 ∷ [])))) ∷ marked 2 (Got 36) ∷
     marked 1 (Got 35) ∷ marked 3 (Got 37)
-    ∷ marked 2 (Sent 38 4 (messages.Answer 36 (answers.Granted (grant_with 1 1 [])))) ∷
-    marked 4 (Got 38) ∷ marked 3 (Sent 39 4 (messages.Answer 37 (answers.Granted (grant_with 1 1 []))))
+    ∷ marked 2 (Sent 38 4 (messages.Answer 36 (answers.Granted (whole_grant 1 1 [])))) ∷
+    marked 4 (Got 38) ∷ marked 3 (Sent 39 4 (messages.Answer 37 (answers.Granted (whole_grant 1 1 []))))
     ∷ marked 4 (Got 39) ∷
-    marked 1 (Sent 40 4 (messages.Answer 35 (answers.Granted (grant_with 1 1 [])))) ∷ marked 4 (Lost 35) ∷
+    marked 1 (Sent 40 4 (messages.Answer 35 (answers.Granted (whole_grant 1 1 [])))) ∷ marked 4 (Lost 35) ∷
     marked 4 (Told (replies.Quorum halves.Append 2 3)) ∷ marked 4 (Called (commands.Do 0 2)) ∷
     marked 4 (Told replies.Doomed) ∷ marked 4 (Called (commands.Do 0 1)) ∷ marked 4 (Told replies.Doomed) ∷
     marked 4 (Called commands.Commit) ∷ marked 4 (Sent 41 1 (messages.Decision (tx 0 3) outcomes.Aborted)) ∷

@@ -16,7 +16,7 @@ use Rattle.qc_msg.specs.declared.message.Outcome.TheVariants as outcomes
 use Rattle.qc_msg.specs.declared.record.Record.TheVariants as records
 use Rattle.qc_msg.specs.declared.reply.Reply.TheVariants as replies
 use Rattle.qc_msg.specs.declared.message.Want.TheVariants as wants
-use Rattle.qc_msg.specs.Vocabulary.{grant_with, read_of}
+use Rattle.qc_msg.specs.Vocabulary.{whole_grant, first_read}
 
 abbrev pub decl : Declaration
 decl =
@@ -51,11 +51,12 @@ moves =
 abbrev pub history : List Entry
 history =
     marked 7 (Phase 1) ∷ marked 5 (Called commands.Begin) ∷ marked 5 (Told (replies.Began (tx 1 1))) ∷
-    marked 5 (Called (commands.Do 1 2)) ∷ marked 5 (Sent 0 2 (messages.Request (tx 1 1) 1 0 (wants.Read (read_of 1 2))))
+    marked 5 (Called (commands.Do 1 2)) ∷
+    marked 5 (Sent 0 2 (messages.Request (tx 1 1) 1 0 (wants.Read (first_read 1 2))))
     ∷
-    marked 5 (Lost 0) ∷ marked 5 (Sent 1 3 (messages.Request (tx 1 1) 1 0 (wants.Read (read_of 1 2))))
+    marked 5 (Lost 0) ∷ marked 5 (Sent 1 3 (messages.Request (tx 1 1) 1 0 (wants.Read (first_read 1 2))))
     ∷ marked 5 (Lost 1) ∷
-    marked 5 (Sent 2 0 (messages.Request (tx 1 1) 1 0 (wants.Read (read_of 1 2)))) ∷ marked 5 (Lost 2) ∷
+    marked 5 (Sent 2 0 (messages.Request (tx 1 1) 1 0 (wants.Read (first_read 1 2)))) ∷ marked 5 (Lost 2) ∷
     marked 5 (Told (replies.Quorum halves.Read 0 1)) ∷ marked 5 (Called commands.Commit) ∷
     marked 5 (Wrote (commit (stamp 1 1) (tx 1 1) [])) ∷
     marked 5 (Sent 3 0 (messages.Decision (tx 1 1) (outcomes.Committed (stamp 1 1)))) ∷
@@ -67,13 +68,14 @@ history =
     marked 5 (Told (replies.Committed (stamp 2 1))) ∷ marked 7 (Phase 2) ∷ marked 5 (Called commands.Begin) ∷
     marked 4 (Called commands.Begin) ∷ marked 4 (Told (replies.Began (tx 0 1))) ∷
     marked 5 (Told (replies.Began (tx 1 3))) ∷ marked 5 (Called (commands.Do 1 1)) ∷
-    marked 5 (Sent 6 2 (messages.Request (tx 1 3) 1 0 (wants.Read (read_of 1 1)))) ∷
-    marked 5 (Sent 7 3 (messages.Request (tx 1 3) 1 0 (wants.Read (read_of 1 1)))) ∷ marked 2 (Got 6) ∷ marked 3 (Got 7)
+    marked 5 (Sent 6 2 (messages.Request (tx 1 3) 1 0 (wants.Read (first_read 1 1)))) ∷
+    marked 5 (Sent 7 3 (messages.Request (tx 1 3) 1 0 (wants.Read (first_read 1 1)))) ∷ marked 2 (Got 6) ∷
+    marked 3 (Got 7)
     ∷
-    marked 2 (Sent 8 5 (messages.Answer 6 (answers.Granted (grant_with 1 1 [])))) ∷ marked 5 (Got 8) ∷
-    marked 3 (Sent 9 5 (messages.Answer 7 (answers.Granted (grant_with 1 1 [])))) ∷ marked 5 (Lost 7) ∷
-    marked 5 (Sent 10 0 (messages.Request (tx 1 3) 1 0 (wants.Read (read_of 1 1)))) ∷ marked 0 (Got 10) ∷
-    marked 0 (Sent 11 5 (messages.Answer 10 (answers.Granted (grant_with 1 1 [])))) ∷ marked 5 (Lost 10) ∷
+    marked 2 (Sent 8 5 (messages.Answer 6 (answers.Granted (whole_grant 1 1 [])))) ∷ marked 5 (Got 8) ∷
+    marked 3 (Sent 9 5 (messages.Answer 7 (answers.Granted (whole_grant 1 1 [])))) ∷ marked 5 (Lost 7) ∷
+    marked 5 (Sent 10 0 (messages.Request (tx 1 3) 1 0 (wants.Read (first_read 1 1)))) ∷ marked 0 (Got 10) ∷
+    marked 0 (Sent 11 5 (messages.Answer 10 (answers.Granted (whole_grant 1 1 [])))) ∷ marked 5 (Lost 10) ∷
     marked 5 (Told (replies.Quorum halves.Read 1 2)) ∷ marked 5 (Called commands.Commit) ∷
     marked 5 (Sent 12 2 (messages.Request (tx 1 3) 1 1 wants.Prepare)) ∷ marked 2 (Got 12) ∷
     marked 2 (Wrote (prepare (tx 1 3) 1 (read_lock 1 1 ∷ []) [] [])) ∷
@@ -85,32 +87,32 @@ history =
     marked 5 (Told (replies.Committed (stamp 3 1))) ∷ marked 3 (Got 16) ∷ marked 2 (Got 15) ∷
     marked 2 (Wrote (records.Done (tx 1 3) 3)) ∷ marked 0 (Got 14) ∷ marked 7 (Phase 3) ∷ marked 5 (Got 8) ∷
     marked 4 (Called (commands.Do 1 1))
-    ∷ marked 4 (Sent 17 0 (messages.Request (tx 0 1) 1 0 (wants.Read (read_of 1 1)))) ∷
-    marked 4 (Sent 18 2 (messages.Request (tx 0 1) 1 0 (wants.Read (read_of 1 1)))) ∷ marked 4 (Lost 17) ∷
+    ∷ marked 4 (Sent 17 0 (messages.Request (tx 0 1) 1 0 (wants.Read (first_read 1 1)))) ∷
+    marked 4 (Sent 18 2 (messages.Request (tx 0 1) 1 0 (wants.Read (first_read 1 1)))) ∷ marked 4 (Lost 17) ∷
     marked 5 (Called commands.Begin) ∷ marked 4 (Lost 18) ∷ marked 5 (Told (replies.Began (tx 1 4))) ∷
     marked 5 (Called (commands.Do 0 2))
-    ∷ marked 4 (Sent 19 3 (messages.Request (tx 0 1) 1 0 (wants.Read (read_of 1 1)))) ∷
+    ∷ marked 4 (Sent 19 3 (messages.Request (tx 0 1) 1 0 (wants.Read (first_read 1 1)))) ∷
     marked 4 (Lost 19) ∷ marked 4 (Told (replies.Quorum halves.Read 0 2)) ∷ marked 4 (Called (commands.Do 1 0)) ∷
-    marked 4 (Sent 20 0 (messages.Request (tx 0 1) 1 0 (wants.Read (read_of 1 0)))) ∷ marked 0 (Got 20) ∷
-    marked 5 (Sent 21 2 (messages.Request (tx 1 4) 1 0 (wants.Read (read_of 0 2)))) ∷
-    marked 5 (Sent 22 3 (messages.Request (tx 1 4) 1 0 (wants.Read (read_of 0 2)))) ∷ marked 2 (Got 21)
+    marked 4 (Sent 20 0 (messages.Request (tx 0 1) 1 0 (wants.Read (first_read 1 0)))) ∷ marked 0 (Got 20) ∷
+    marked 5 (Sent 21 2 (messages.Request (tx 1 4) 1 0 (wants.Read (first_read 0 2)))) ∷
+    marked 5 (Sent 22 3 (messages.Request (tx 1 4) 1 0 (wants.Read (first_read 0 2)))) ∷ marked 2 (Got 21)
     ∷ marked 3 (Got 22) ∷
-    marked 2 (Sent 23 5 (messages.Answer 21 (answers.Granted (grant_with 1 3 [])))) ∷ marked 5 (Got 23) ∷
-    marked 3 (Sent 24 5 (messages.Answer 22 (answers.Granted (grant_with 1 3 [])))) ∷
-    marked 0 (Sent 25 4 (messages.Answer 20 (answers.Granted (grant_with 1 3 [])))) ∷ marked 4 (Lost 20) ∷
-    marked 4 (Sent 26 2 (messages.Request (tx 0 1) 1 0 (wants.Read (read_of 1 0)))) ∷ marked 2 (Got 26) ∷
-    marked 2 (Sent 27 4 (messages.Answer 26 (answers.Granted (grant_with 1 3 [])))) ∷ marked 4 (Got 27) ∷
+    marked 2 (Sent 23 5 (messages.Answer 21 (answers.Granted (whole_grant 1 3 [])))) ∷ marked 5 (Got 23) ∷
+    marked 3 (Sent 24 5 (messages.Answer 22 (answers.Granted (whole_grant 1 3 [])))) ∷
+    marked 0 (Sent 25 4 (messages.Answer 20 (answers.Granted (whole_grant 1 3 [])))) ∷ marked 4 (Lost 20) ∷
+    marked 4 (Sent 26 2 (messages.Request (tx 0 1) 1 0 (wants.Read (first_read 1 0)))) ∷ marked 2 (Got 26) ∷
+    marked 2 (Sent 27 4 (messages.Answer 26 (answers.Granted (whole_grant 1 3 [])))) ∷ marked 4 (Got 27) ∷
     marked 4 (Sent 28 0 (messages.Request (tx 0 1) 1 0 (wants.Append 1 [] (own_line 1 1 0 ∷ [])))) ∷
     marked 4 (Sent 29 2 (messages.Request (tx 0 1) 1 1 (wants.Append 1 [] (own_line 1 1 0 ∷ [])))) ∷
     marked 4 (Sent 30 3 (messages.Request (tx 0 1) 1 0 (wants.Append 1 [] (own_line 1 1 0 ∷ [])))) ∷ marked 3 (Got 30) ∷
     marked 2 (Got 29) ∷ marked 0 (Got 28) ∷ marked 5 (Got 24) ∷
-    marked 2 (Sent 31 4 (messages.Answer 29 (answers.Granted (grant_with 1 3 [])))) ∷ marked 4 (Got 31) ∷
+    marked 2 (Sent 31 4 (messages.Answer 29 (answers.Granted (whole_grant 1 3 [])))) ∷ marked 4 (Got 31) ∷
     marked 5 (Told (replies.Response 3))
-    ∷ marked 3 (Sent 32 4 (messages.Answer 30 (answers.Granted (grant_with 1 3 [])))) ∷
+    ∷ marked 3 (Sent 32 4 (messages.Answer 30 (answers.Granted (whole_grant 1 3 [])))) ∷
     marked 5 (Called commands.Commit) ∷ marked 4 (Lost 30) ∷
     marked 5 (Sent 33 2 (messages.Request (tx 1 4) 1 1 wants.Prepare)) ∷
     marked 5 (Sent 34 3 (messages.Request (tx 1 4) 1 1 wants.Prepare)) ∷ marked 2 (Got 33) ∷ marked 3 (Got 34) ∷
-    marked 0 (Sent 35 4 (messages.Answer 28 (answers.Granted (grant_with 1 3 [])))) ∷ marked 4 (Got 35) ∷
+    marked 0 (Sent 35 4 (messages.Answer 28 (answers.Granted (whole_grant 1 3 [])))) ∷ marked 4 (Got 35) ∷
     marked 4 (Told (replies.Quorum halves.Append 2 3)) ∷ marked 4 (Called commands.Commit) ∷
     marked 4 (Sent 36 0 (messages.Decision (tx 0 1) outcomes.Aborted)) ∷
     marked 4 (Sent 37 2 (messages.Decision (tx 0 1) outcomes.Aborted)) ∷

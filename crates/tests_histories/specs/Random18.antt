@@ -13,7 +13,7 @@ use Rattle.qc_msg.specs.declared.message.Message.TheVariants as messages
 use Rattle.qc_msg.specs.declared.message.Outcome.TheVariants as outcomes
 use Rattle.qc_msg.specs.declared.reply.Reply.TheVariants as replies
 use Rattle.qc_msg.specs.declared.message.Want.TheVariants as wants
-use Rattle.qc_msg.specs.Vocabulary.{grant_with, read_of}
+use Rattle.qc_msg.specs.Vocabulary.{whole_grant, first_read}
 
 abbrev pub decl : Declaration
 decl =
@@ -52,17 +52,18 @@ history =
     marked 6 (Told (replies.Began (tx 2 1))) ∷ marked 6 (Called commands.Commit) ∷
     marked 6 (Wrote (commit (stamp 1 2) (tx 2 1) [])) ∷ marked 6 (Told (replies.Committed (stamp 1 2))) ∷
     marked 4 (Told (replies.Began (tx 0 1))) ∷ marked 4 (Called (commands.Do 0 2)) ∷ marked 5 (Called commands.Begin) ∷
-    marked 4 (Sent 0 0 (messages.Request (tx 0 1) 1 0 (wants.Read (read_of 0 2)))) ∷
-    marked 4 (Sent 1 1 (messages.Request (tx 0 1) 1 0 (wants.Read (read_of 0 2)))) ∷
-    marked 4 (Sent 2 2 (messages.Request (tx 0 1) 1 0 (wants.Read (read_of 0 2)))) ∷ marked 1 (Got 1) ∷ marked 0 (Got 0)
+    marked 4 (Sent 0 0 (messages.Request (tx 0 1) 1 0 (wants.Read (first_read 0 2)))) ∷
+    marked 4 (Sent 1 1 (messages.Request (tx 0 1) 1 0 (wants.Read (first_read 0 2)))) ∷
+    marked 4 (Sent 2 2 (messages.Request (tx 0 1) 1 0 (wants.Read (first_read 0 2)))) ∷ marked 1 (Got 1) ∷
+    marked 0 (Got 0)
     ∷
-    marked 0 (Sent 3 4 (messages.Answer 0 (answers.Granted (grant_with 1 0 [])))) ∷ marked 4 (Got 3) ∷
+    marked 0 (Sent 3 4 (messages.Answer 0 (answers.Granted (whole_grant 1 0 [])))) ∷ marked 4 (Got 3) ∷
     marked 5 (Told (replies.Began (tx 1 1)))
-    ∷ marked 1 (Sent 4 4 (messages.Answer 1 (answers.Granted (grant_with 1 0 [])))) ∷
+    ∷ marked 1 (Sent 4 4 (messages.Answer 1 (answers.Granted (whole_grant 1 0 [])))) ∷
     marked 4 (Got 4) ∷ marked 5 (Called (commands.Do 0 0)) ∷ marked 2 (Got 2) ∷
-    marked 2 (Sent 5 4 (messages.Answer 2 (answers.Granted (grant_with 1 0 [])))) ∷ marked 4 (Got 5) ∷
-    marked 5 (Sent 6 1 (messages.Request (tx 1 1) 1 0 (wants.Read (read_of 0 0)))) ∷ marked 1 (Got 6) ∷
-    marked 1 (Sent 7 5 (messages.Answer 6 (answers.Granted (grant_with 1 0 [])))) ∷ marked 5 (Got 7) ∷
+    marked 2 (Sent 5 4 (messages.Answer 2 (answers.Granted (whole_grant 1 0 [])))) ∷ marked 4 (Got 5) ∷
+    marked 5 (Sent 6 1 (messages.Request (tx 1 1) 1 0 (wants.Read (first_read 0 0)))) ∷ marked 1 (Got 6) ∷
+    marked 1 (Sent 7 5 (messages.Answer 6 (answers.Granted (whole_grant 1 0 [])))) ∷ marked 5 (Got 7) ∷
     marked 5 (Sent 8 1 (messages.Request (tx 1 1) 1 1 (wants.Append 0 [] (own_line 1 0 0 ∷ [])))) ∷
     marked 5 (Sent 9 2 (messages.Request (tx 1 1) 1 0 (wants.Append 0 [] (own_line 1 0 0 ∷ [])))) ∷
     marked 5 (Sent 10 3 (messages.Request (tx 1 1) 1 0 (wants.Append 0 [] (own_line 1 0 0 ∷ [])))) ∷
@@ -71,22 +72,22 @@ history =
     marked 1 (Sent 13 4 (messages.Inquiry (tx 0 1))) ∷
     marked 0 (Sent 14 5 (messages.Answer 11 (answers.Clash (tx 0 1) 2 0))) ∷
     marked 0 (Sent 15 4 (messages.Inquiry (tx 0 1))) ∷
-    marked 3 (Sent 16 5 (messages.Answer 10 (answers.Granted (grant_with 1 0 [])))) ∷
+    marked 3 (Sent 16 5 (messages.Answer 10 (answers.Granted (whole_grant 1 0 [])))) ∷
     marked 4 (Sent 17 0 (messages.Request (tx 0 1) 1 1 (wants.Append 0 [] (own_line 1 0 2 ∷ [])))) ∷
     marked 4 (Sent 18 1 (messages.Request (tx 0 1) 1 1 (wants.Append 0 [] (own_line 1 0 2 ∷ [])))) ∷
     marked 4 (Sent 19 2 (messages.Request (tx 0 1) 1 1 (wants.Append 0 [] (own_line 1 0 2 ∷ [])))) ∷
     marked 4 (Sent 20 3 (messages.Request (tx 0 1) 1 0 (wants.Append 0 [] (own_line 1 0 2 ∷ [])))) ∷ marked 3 (Got 20) ∷
-    marked 1 (Got 18) ∷ marked 3 (Sent 21 4 (messages.Answer 20 (answers.Granted (grant_with 1 0 []))))
+    marked 1 (Got 18) ∷ marked 3 (Sent 21 4 (messages.Answer 20 (answers.Granted (whole_grant 1 0 []))))
     ∷ marked 4 (Got 13) ∷
-    marked 0 (Got 17) ∷ marked 0 (Sent 22 4 (messages.Answer 17 (answers.Granted (grant_with 1 0 [])))) ∷
-    marked 1 (Sent 23 4 (messages.Answer 18 (answers.Granted (grant_with 1 0 [])))) ∷ marked 2 (Got 9)
+    marked 0 (Got 17) ∷ marked 0 (Sent 22 4 (messages.Answer 17 (answers.Granted (whole_grant 1 0 [])))) ∷
+    marked 1 (Sent 23 4 (messages.Answer 18 (answers.Granted (whole_grant 1 0 [])))) ∷ marked 2 (Got 9)
     ∷ marked 5 (Got 12) ∷
     marked 4 (Sent 24 1 (messages.Decision (tx 0 1) outcomes.Active)) ∷ marked 1 (Got 24) ∷ marked 4 (Got 15) ∷
     marked 4 (Sent 25 0 (messages.Decision (tx 0 1) outcomes.Active)) ∷ marked 0 (Got 25) ∷ marked 4 (Got 21) ∷
     marked 2 (Sent 26 5 (messages.Answer 9 (answers.Clash (tx 0 1) 2 0))) ∷
     marked 2 (Sent 27 4 (messages.Inquiry (tx 0 1))) ∷ marked 4 (Got 22) ∷ marked 4 (Got 23) ∷ marked 2 (Got 19) ∷
     marked 4 (Got 27) ∷ marked 5 (Got 14) ∷ marked 4 (Sent 28 2 (messages.Decision (tx 0 1) outcomes.Active)) ∷
-    marked 2 (Sent 29 4 (messages.Answer 19 (answers.Granted (grant_with 1 0 [])))) ∷ marked 4 (Got 29)
+    marked 2 (Sent 29 4 (messages.Answer 19 (answers.Granted (whole_grant 1 0 [])))) ∷ marked 4 (Got 29)
     ∷ marked 2 (Got 28) ∷
     marked 4 (Told (replies.Response 3)) ∷ marked 4 (Called commands.Begin) ∷
     marked 4 (Told (replies.Already (tx 0 1))) ∷ marked 5 (Got 16) ∷ marked 5 (Got 26) ∷
@@ -99,8 +100,8 @@ history =
     marked 5 (Told (replies.Aborted causes.Doomed)) ∷ marked 1 (Got 31) ∷ marked 5 (Called commands.Begin) ∷
     marked 0 (Got 30) ∷ marked 5 (Told (replies.Began (tx 1 2))) ∷ marked 3 (Got 33) ∷
     marked 5 (Called (commands.Do 0 0))
-    ∷ marked 5 (Sent 34 1 (messages.Request (tx 1 2) 1 0 (wants.Read (read_of 0 0)))) ∷
-    marked 1 (Got 34) ∷ marked 1 (Sent 35 5 (messages.Answer 34 (answers.Granted (grant_with 1 0 []))))
+    ∷ marked 5 (Sent 34 1 (messages.Request (tx 1 2) 1 0 (wants.Read (first_read 0 0)))) ∷
+    marked 1 (Got 34) ∷ marked 1 (Sent 35 5 (messages.Answer 34 (answers.Granted (whole_grant 1 0 []))))
     ∷ marked 5 (Got 35) ∷
     marked 2 (Got 32) ∷ marked 5 (Sent 36 1 (messages.Request (tx 1 2) 1 1 (wants.Append 0 [] (own_line 1 0 0 ∷ [])))) ∷
     marked 5 (Sent 37 2 (messages.Request (tx 1 2) 1 0 (wants.Append 0 [] (own_line 1 0 0 ∷ [])))) ∷
@@ -108,7 +109,7 @@ history =
     marked 5 (Sent 39 0 (messages.Request (tx 1 2) 1 0 (wants.Append 0 [] (own_line 1 0 0 ∷ [])))) ∷ marked 0 (Got 39) ∷
     marked 0 (Sent 40 5 (messages.Answer 39 (answers.Clash (tx 0 1) 2 0))) ∷
     marked 0 (Sent 41 4 (messages.Inquiry (tx 0 1))) ∷ marked 3 (Got 38) ∷
-    marked 3 (Sent 42 5 (messages.Answer 38 (answers.Granted (grant_with 1 0 [])))) ∷ marked 4 (Got 41)
+    marked 3 (Sent 42 5 (messages.Answer 38 (answers.Granted (whole_grant 1 0 [])))) ∷ marked 4 (Got 41)
     ∷ marked 1 (Got 36) ∷
     marked 1 (Sent 43 5 (messages.Answer 36 (answers.Clash (tx 0 1) 2 0))) ∷
     marked 1 (Sent 44 4 (messages.Inquiry (tx 0 1))) ∷ marked 2 (Got 37) ∷

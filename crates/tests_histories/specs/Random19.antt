@@ -15,7 +15,7 @@ use Rattle.qc_msg.specs.declared.message.Outcome.TheVariants as outcomes
 use Rattle.qc_msg.specs.declared.record.Record.TheVariants as records
 use Rattle.qc_msg.specs.declared.reply.Reply.TheVariants as replies
 use Rattle.qc_msg.specs.declared.message.Want.TheVariants as wants
-use Rattle.qc_msg.specs.Vocabulary.{grant_with, read_of}
+use Rattle.qc_msg.specs.Vocabulary.{whole_grant, first_read}
 
 abbrev pub decl : Declaration
 decl =
@@ -56,29 +56,30 @@ history =
     marked 7 (Phase 1) ∷ marked 7 (Cut 1 3) ∷ marked 4 (Called commands.Begin) ∷ marked 3 (Called commands.Begin) ∷
     marked 4 (Told (replies.Began (tx 2 1))) ∷ marked 3 (Told (replies.Began (tx 1 1))) ∷
     marked 4 (Called (commands.Do 0 1)) ∷ marked 5 (Called commands.Begin) ∷
-    marked 4 (Sent 0 0 (messages.Request (tx 2 1) 1 0 (wants.Read (read_of 0 1)))) ∷ marked 2 (Called commands.Begin) ∷
+    marked 4 (Sent 0 0 (messages.Request (tx 2 1) 1 0 (wants.Read (first_read 0 1)))) ∷
+    marked 2 (Called commands.Begin) ∷
     marked 5 (Told (replies.Began (tx 3 1))) ∷ marked 5 (Called (commands.Do 0 2)) ∷
     marked 5 (Sent 1 1 (messages.Request (tx 3 1) 1 0 (wants.Append 0 [] (own_line 1 0 1 ∷ [])))) ∷
     marked 5 (Sent 2 0 (messages.Request (tx 3 1) 1 0 (wants.Append 0 [] (own_line 1 0 1 ∷ [])))) ∷ marked 1 (Got 1) ∷
-    marked 1 (Sent 3 5 (messages.Answer 1 (answers.Granted (grant_with 1 0 [])))) ∷ marked 5 (Got 3) ∷
+    marked 1 (Sent 3 5 (messages.Answer 1 (answers.Granted (whole_grant 1 0 [])))) ∷ marked 5 (Got 3) ∷
     marked 2 (Told (replies.Began (tx 0 1))) ∷ marked 3 (Called (commands.Do 0 0)) ∷ marked 0 (Got 0) ∷
-    marked 3 (Sent 4 1 (messages.Request (tx 1 1) 1 0 (wants.Read (read_of 0 0)))) ∷
-    marked 3 (Sent 5 0 (messages.Request (tx 1 1) 1 0 (wants.Read (read_of 0 0)))) ∷
-    marked 0 (Sent 6 4 (messages.Answer 0 (answers.Granted (grant_with 1 0 [])))) ∷ marked 3 (Lost 4) ∷
+    marked 3 (Sent 4 1 (messages.Request (tx 1 1) 1 0 (wants.Read (first_read 0 0)))) ∷
+    marked 3 (Sent 5 0 (messages.Request (tx 1 1) 1 0 (wants.Read (first_read 0 0)))) ∷
+    marked 0 (Sent 6 4 (messages.Answer 0 (answers.Granted (whole_grant 1 0 [])))) ∷ marked 3 (Lost 4) ∷
     marked 2 (Called (commands.Do 0 1)) ∷ marked 4 (Got 6) ∷ marked 4 (Told (replies.Response 0)) ∷ marked 0 (Got 2) ∷
     marked 4 (Called (commands.Do 0 1)) ∷ marked 0 (Sent 7 5 (messages.Answer 2 (answers.Clash (tx 2 1) 1 1))) ∷
     marked 0 (Sent 8 4 (messages.Inquiry (tx 2 1))) ∷ marked 5 (Got 7) ∷
-    marked 4 (Sent 9 0 (messages.Request (tx 2 1) 1 1 (wants.Read (read_of 0 1)))) ∷
-    marked 2 (Sent 10 0 (messages.Request (tx 0 1) 1 0 (wants.Read (read_of 0 1)))) ∷
+    marked 4 (Sent 9 0 (messages.Request (tx 2 1) 1 1 (wants.Read (first_read 0 1)))) ∷
+    marked 2 (Sent 10 0 (messages.Request (tx 0 1) 1 0 (wants.Read (first_read 0 1)))) ∷
     marked 5 (Told (replies.Conflict (tx 2 1) 0)) ∷ marked 4 (Got 8) ∷ marked 0 (Got 5) ∷
-    marked 0 (Sent 11 3 (messages.Answer 5 (answers.Granted (grant_with 1 0 [])))) ∷ marked 0 (Got 9) ∷
+    marked 0 (Sent 11 3 (messages.Answer 5 (answers.Granted (whole_grant 1 0 [])))) ∷ marked 0 (Got 9) ∷
     marked 4 (Sent 12 0 (messages.Decision (tx 2 1) outcomes.Active)) ∷ marked 5 (Called commands.Begin) ∷
-    marked 3 (Got 11) ∷ marked 0 (Sent 13 4 (messages.Answer 9 (answers.Granted (grant_with 1 0 [])))) ∷
+    marked 3 (Got 11) ∷ marked 0 (Sent 13 4 (messages.Answer 9 (answers.Granted (whole_grant 1 0 [])))) ∷
     marked 3 (Told replies.Absent) ∷ marked 4 (Got 13) ∷ marked 4 (Told (replies.Response 0)) ∷
     marked 5 (Told (replies.Already (tx 3 1))) ∷ marked 3 (Called commands.Commit) ∷ marked 0 (Got 10) ∷
-    marked 0 (Sent 14 2 (messages.Answer 10 (answers.Granted (grant_with 1 0 [])))) ∷
+    marked 0 (Sent 14 2 (messages.Answer 10 (answers.Granted (whole_grant 1 0 [])))) ∷
     marked 3 (Sent 15 0 (messages.Request (tx 1 1) 1 1 wants.Prepare)) ∷ marked 4 (Called (commands.Do 0 0)) ∷
-    marked 4 (Sent 16 0 (messages.Request (tx 2 1) 1 1 (wants.Read (read_of 0 0)))) ∷ marked 2 (Got 14)
+    marked 4 (Sent 16 0 (messages.Request (tx 2 1) 1 1 (wants.Read (first_read 0 0)))) ∷ marked 2 (Got 14)
     ∷ marked 0 (Got 12) ∷
     marked 2 (Told (replies.Response 0)) ∷ marked 2 (Called commands.Abort) ∷
     marked 2 (Sent 17 0 (messages.Decision (tx 0 1) outcomes.Aborted)) ∷ marked 2 (Told replies.Dropped) ∷
@@ -86,15 +87,15 @@ history =
     marked 0 (Wrote (prepare (tx 1 1) 1 (read_lock 0 0 ∷ []) [] [])) ∷
     marked 0 (Sent 18 3 (messages.Answer 15 (answers.Yes 0))) ∷ marked 3 (Got 18) ∷ marked 0 (Got 16) ∷
     marked 2 (Called (commands.Do 0 0))
-    ∷ marked 2 (Sent 19 0 (messages.Request (tx 0 2) 1 0 (wants.Read (read_of 0 0)))) ∷
+    ∷ marked 2 (Sent 19 0 (messages.Request (tx 0 2) 1 0 (wants.Read (first_read 0 0)))) ∷
     marked 3 (Wrote (commit (stamp 1 1) (tx 1 1) (operation 0 0 None ∷ []))) ∷
     marked 3 (Sent 20 0 (messages.Decision (tx 1 1) (outcomes.Committed (stamp 1 1)))) ∷
     marked 3 (Sent 21 1 (messages.Decision (tx 1 1) (outcomes.Committed (stamp 1 1)))) ∷
     marked 3 (Told (replies.Committed (stamp 1 1))) ∷
-    marked 0 (Sent 22 4 (messages.Answer 16 (answers.Granted (grant_with 1 0 [])))) ∷ marked 0 (Got 17)
+    marked 0 (Sent 22 4 (messages.Answer 16 (answers.Granted (whole_grant 1 0 [])))) ∷ marked 0 (Got 17)
     ∷ marked 4 (Got 22) ∷
     marked 4 (Told replies.Absent) ∷ marked 0 (Got 19) ∷ marked 4 (Called commands.Commit) ∷
-    marked 0 (Sent 23 2 (messages.Answer 19 (answers.Granted (grant_with 1 0 [])))) ∷ marked 2 (Got 23) ∷
+    marked 0 (Sent 23 2 (messages.Answer 19 (answers.Granted (whole_grant 1 0 [])))) ∷ marked 2 (Got 23) ∷
     marked 4 (Sent 24 0 (messages.Request (tx 2 1) 1 1 wants.Prepare)) ∷ marked 2 (Told replies.Absent) ∷
     marked 0 (Got 24) ∷ marked 0 (Wrote (prepare (tx 2 1) 1 (read_lock 0 0 ∷ read_lock 0 1 ∷ []) [] [])) ∷
     marked 0 (Sent 25 4 (messages.Answer 24 (answers.Yes 0))) ∷ marked 4 (Got 25) ∷
@@ -116,19 +117,19 @@ history =
     marked 5 (Sent 33 1 (messages.Decision (tx 3 1) outcomes.Aborted)) ∷
     marked 5 (Told (replies.Aborted causes.Doomed)) ∷ marked 3 (Told (replies.Began (tx 1 2))) ∷ marked 0 (Got 32) ∷
     marked 3 (Called (commands.Do 0 0))
-    ∷ marked 3 (Sent 34 1 (messages.Request (tx 1 2) 1 0 (wants.Read (read_of 0 0)))) ∷
-    marked 3 (Sent 35 0 (messages.Request (tx 1 2) 1 0 (wants.Read (read_of 0 0)))) ∷ marked 0 (Got 35) ∷
-    marked 0 (Sent 36 3 (messages.Answer 35 (answers.Granted (grant_with 1 1 [])))) ∷ marked 3 (Got 36)
+    ∷ marked 3 (Sent 34 1 (messages.Request (tx 1 2) 1 0 (wants.Read (first_read 0 0)))) ∷
+    marked 3 (Sent 35 0 (messages.Request (tx 1 2) 1 0 (wants.Read (first_read 0 0)))) ∷ marked 0 (Got 35) ∷
+    marked 0 (Sent 36 3 (messages.Answer 35 (answers.Granted (whole_grant 1 1 [])))) ∷ marked 3 (Got 36)
     ∷ marked 1 (Got 34) ∷
     marked 1 (Sent 37 3 (messages.Answer 34 (answers.Clash (tx 3 1) 0 1))) ∷
     marked 1 (Sent 38 5 (messages.Inquiry (tx 3 1))) ∷ marked 3 (Got 37) ∷
     marked 3 (Told (replies.Conflict (tx 3 1) 1)) ∷ marked 3 (Called (commands.Do 0 0)) ∷
-    marked 3 (Sent 39 1 (messages.Request (tx 1 2) 1 0 (wants.Read (read_of 0 0)))) ∷
-    marked 3 (Sent 40 0 (messages.Request (tx 1 2) 1 1 (wants.Read (read_of 0 0)))) ∷ marked 1 (Got 39)
+    marked 3 (Sent 39 1 (messages.Request (tx 1 2) 1 0 (wants.Read (first_read 0 0)))) ∷
+    marked 3 (Sent 40 0 (messages.Request (tx 1 2) 1 1 (wants.Read (first_read 0 0)))) ∷ marked 1 (Got 39)
     ∷ marked 0 (Got 40) ∷
     marked 1 (Sent 41 3 (messages.Answer 39 (answers.Clash (tx 3 1) 0 1))) ∷
     marked 1 (Sent 42 5 (messages.Inquiry (tx 3 1))) ∷
-    marked 0 (Sent 43 3 (messages.Answer 40 (answers.Granted (grant_with 1 1 [])))) ∷ marked 3 (Got 41)
+    marked 0 (Sent 43 3 (messages.Answer 40 (answers.Granted (whole_grant 1 1 [])))) ∷ marked 3 (Got 41)
     ∷ marked 3 (Got 43) ∷
     marked 3 (Told (replies.Conflict (tx 3 1) 1)) ∷ marked 7 (Phase 3) ∷ marked 7 (Heal 5 1) ∷ marked 7 (Cut 5 4) ∷
     marked 5 (Called commands.Begin) ∷ marked 5 (Told (replies.Began (tx 3 2))) ∷ marked 5 (Called commands.Commit) ∷

@@ -15,7 +15,7 @@ use Rattle.qc_msg.specs.declared.message.Outcome.TheVariants as outcomes
 use Rattle.qc_msg.specs.declared.record.Record.TheVariants as records
 use Rattle.qc_msg.specs.declared.reply.Reply.TheVariants as replies
 use Rattle.qc_msg.specs.declared.message.Want.TheVariants as wants
-use Rattle.qc_msg.specs.Vocabulary.{grant_with, read_of}
+use Rattle.qc_msg.specs.Vocabulary.{whole_grant, first_read}
 
 abbrev pub decl : Declaration
 decl =
@@ -40,14 +40,14 @@ history =
     marked 3 (Sent 0 1 (messages.Request (tx 0 1) 1 0 (wants.Append 0 [] (own_line 1 0 0 ∷ [])))) ∷
     marked 3 (Sent 1 2 (messages.Request (tx 0 1) 1 0 (wants.Append 0 [] (own_line 1 0 0 ∷ [])))) ∷
     marked 4 (Told (replies.Began (tx 1 1))) ∷ marked 4 (Called (commands.Do 0 1)) ∷ marked 2 (Got 1) ∷
-    marked 1 (Got 0) ∷ marked 4 (Sent 2 1 (messages.Request (tx 1 1) 1 0 (wants.Read (read_of 0 1)))) ∷
-    marked 4 (Sent 3 2 (messages.Request (tx 1 1) 1 0 (wants.Read (read_of 0 1)))) ∷
-    marked 2 (Sent 4 3 (messages.Answer 1 (answers.Granted (grant_with 1 0 [])))) ∷ marked 2 (Got 3) ∷ marked 3 (Got 4)
+    marked 1 (Got 0) ∷ marked 4 (Sent 2 1 (messages.Request (tx 1 1) 1 0 (wants.Read (first_read 0 1)))) ∷
+    marked 4 (Sent 3 2 (messages.Request (tx 1 1) 1 0 (wants.Read (first_read 0 1)))) ∷
+    marked 2 (Sent 4 3 (messages.Answer 1 (answers.Granted (whole_grant 1 0 [])))) ∷ marked 2 (Got 3) ∷ marked 3 (Got 4)
     ∷
-    marked 1 (Sent 5 3 (messages.Answer 0 (answers.Granted (grant_with 1 0 [])))) ∷ marked 1 (Got 2) ∷
-    marked 1 (Sent 6 4 (messages.Answer 2 (answers.Granted (grant_with 1 0 [])))) ∷ marked 3 (Lost 0)
+    marked 1 (Sent 5 3 (messages.Answer 0 (answers.Granted (whole_grant 1 0 [])))) ∷ marked 1 (Got 2) ∷
+    marked 1 (Sent 6 4 (messages.Answer 2 (answers.Granted (whole_grant 1 0 [])))) ∷ marked 3 (Lost 0)
     ∷ marked 4 (Lost 2) ∷
-    marked 2 (Sent 7 4 (messages.Answer 3 (answers.Granted (grant_with 1 0 [])))) ∷ marked 4 (Got 7) ∷
+    marked 2 (Sent 7 4 (messages.Answer 3 (answers.Granted (whole_grant 1 0 [])))) ∷ marked 4 (Got 7) ∷
     marked 4 (Told (replies.Quorum halves.Read 1 2)) ∷ marked 4 (Called commands.Commit) ∷
     marked 3 (Told (replies.Quorum halves.Append 1 2)) ∷ marked 3 (Called commands.Commit) ∷
     marked 4 (Sent 8 2 (messages.Request (tx 1 1) 1 1 wants.Prepare)) ∷ marked 2 (Got 8) ∷

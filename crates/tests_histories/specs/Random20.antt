@@ -15,7 +15,7 @@ use Rattle.qc_msg.specs.declared.message.Outcome.TheVariants as outcomes
 use Rattle.qc_msg.specs.declared.record.Record.TheVariants as records
 use Rattle.qc_msg.specs.declared.reply.Reply.TheVariants as replies
 use Rattle.qc_msg.specs.declared.message.Want.TheVariants as wants
-use Rattle.qc_msg.specs.Vocabulary.{grant_with, read_of}
+use Rattle.qc_msg.specs.Vocabulary.{whole_grant, first_read}
 
 abbrev pub decl : Declaration
 decl =
@@ -64,21 +64,22 @@ history =
     marked 1 (Called commands.Begin) ∷ marked 1 (Told (replies.Began (tx 0 3))) ∷ marked 1 (Called commands.Commit) ∷
     marked 1 (Wrote (commit (stamp 3 0) (tx 0 3) [])) ∷ marked 1 (Told (replies.Committed (stamp 3 0))) ∷
     marked 4 (Phase 2) ∷ marked 1 (Called commands.Begin) ∷ marked 1 (Told (replies.Began (tx 0 4))) ∷
-    marked 1 (Called (commands.Do 0 1)) ∷ marked 1 (Sent 0 0 (messages.Request (tx 0 4) 1 0 (wants.Read (read_of 0 1))))
+    marked 1 (Called (commands.Do 0 1)) ∷
+    marked 1 (Sent 0 0 (messages.Request (tx 0 4) 1 0 (wants.Read (first_read 0 1))))
     ∷
-    marked 0 (Got 0) ∷ marked 0 (Sent 1 1 (messages.Answer 0 (answers.Granted (grant_with 1 0 [])))) ∷ marked 1 (Got 1)
+    marked 0 (Got 0) ∷ marked 0 (Sent 1 1 (messages.Answer 0 (answers.Granted (whole_grant 1 0 [])))) ∷ marked 1 (Got 1)
     ∷
     marked 1 (Sent 2 0 (messages.Request (tx 0 4) 1 1 (wants.Append 0 [] (own_line 1 0 2 ∷ [])))) ∷ marked 0 (Got 2) ∷
-    marked 0 (Sent 3 1 (messages.Answer 2 (answers.Granted (grant_with 1 0 [])))) ∷ marked 1 (Got 3) ∷
+    marked 0 (Sent 3 1 (messages.Answer 2 (answers.Granted (whole_grant 1 0 [])))) ∷ marked 1 (Got 3) ∷
     marked 1 (Told (replies.Response 0)) ∷ marked 1 (Called commands.Commit) ∷
     marked 1 (Sent 4 0 (messages.Request (tx 0 4) 1 1 wants.Prepare)) ∷ marked 1 (Lost 4) ∷
     marked 1 (Sent 5 0 (messages.Decision (tx 0 4) outcomes.Aborted)) ∷
     marked 1 (Told (replies.Aborted (causes.NoAnswer 0))) ∷ marked 0 (Got 5) ∷ marked 1 (Called commands.Begin) ∷
     marked 1 (Told (replies.Began (tx 0 5))) ∷ marked 1 (Called (commands.Do 0 1)) ∷
-    marked 1 (Sent 6 0 (messages.Request (tx 0 5) 1 0 (wants.Read (read_of 0 1)))) ∷ marked 0 (Got 6) ∷
-    marked 0 (Sent 7 1 (messages.Answer 6 (answers.Granted (grant_with 1 0 [])))) ∷ marked 1 (Got 7) ∷
+    marked 1 (Sent 6 0 (messages.Request (tx 0 5) 1 0 (wants.Read (first_read 0 1)))) ∷ marked 0 (Got 6) ∷
+    marked 0 (Sent 7 1 (messages.Answer 6 (answers.Granted (whole_grant 1 0 [])))) ∷ marked 1 (Got 7) ∷
     marked 1 (Sent 8 0 (messages.Request (tx 0 5) 1 1 (wants.Append 0 [] (own_line 1 0 2 ∷ [])))) ∷ marked 0 (Got 8) ∷
-    marked 0 (Sent 9 1 (messages.Answer 8 (answers.Granted (grant_with 1 0 [])))) ∷ marked 1 (Got 9) ∷
+    marked 0 (Sent 9 1 (messages.Answer 8 (answers.Granted (whole_grant 1 0 [])))) ∷ marked 1 (Got 9) ∷
     marked 1 (Told (replies.Response 0)) ∷ marked 4 (Phase 3) ∷ marked 0 (Got 4) ∷
     marked 0 (Sent 10 1 (messages.Answer 4 answers.Stale)) ∷ marked 1 (Got 10) ∷ marked 1 (Called commands.Commit) ∷
     marked 1 (Sent 11 0 (messages.Request (tx 0 5) 1 1 wants.Prepare)) ∷ marked 0 (Got 11) ∷
@@ -91,33 +92,33 @@ history =
     marked 2 (Called commands.Abort) ∷ marked 2 (Told replies.NoTransaction) ∷ marked 1 (Called commands.Begin) ∷
     marked 1 (Told (replies.Began (tx 0 6))) ∷ marked 2 (Called commands.Begin) ∷
     marked 2 (Told (replies.Began (tx 1 2))) ∷ marked 1 (Called (commands.Do 0 0)) ∷
-    marked 1 (Sent 14 0 (messages.Request (tx 0 6) 1 0 (wants.Read (read_of 0 0)))) ∷ marked 0 (Got 14) ∷
-    marked 0 (Sent 15 1 (messages.Answer 14 (answers.Granted (grant_with 1 4 (line 4 0 5 1 0 2 ∷ [])))))
+    marked 1 (Sent 14 0 (messages.Request (tx 0 6) 1 0 (wants.Read (first_read 0 0)))) ∷ marked 0 (Got 14) ∷
+    marked 0 (Sent 15 1 (messages.Answer 14 (answers.Granted (whole_grant 1 4 (line 4 0 5 1 0 2 ∷ [])))))
     ∷ marked 1 (Got 15) ∷
     marked 1 (Sent 16 0 (messages.Request (tx 0 6) 1 1 (wants.Append 0 (line 4 0 5 1 0 2 ∷ []) (own_line 1 0 0 ∷ []))))
     ∷
-    marked 0 (Got 16) ∷ marked 0 (Sent 17 1 (messages.Answer 16 (answers.Granted (grant_with 1 4 []))))
+    marked 0 (Got 16) ∷ marked 0 (Sent 17 1 (messages.Answer 16 (answers.Granted (whole_grant 1 4 []))))
     ∷ marked 1 (Got 17) ∷
     marked 1 (Told (replies.Response 1)) ∷ marked 2 (Called (commands.Do 0 1)) ∷
-    marked 2 (Sent 18 0 (messages.Request (tx 1 2) 1 0 (wants.Read (read_of 0 1)))) ∷ marked 0 (Got 18) ∷
+    marked 2 (Sent 18 0 (messages.Request (tx 1 2) 1 0 (wants.Read (first_read 0 1)))) ∷ marked 0 (Got 18) ∷
     marked 0 (Sent 19 2 (messages.Answer 18 (answers.Clash (tx 0 6) 1 0))) ∷
     marked 0 (Sent 20 1 (messages.Inquiry (tx 0 6))) ∷ marked 2 (Got 19) ∷
     marked 2 (Told (replies.Conflict (tx 0 6) 0)) ∷ marked 1 (Got 20) ∷
     marked 1 (Sent 21 0 (messages.Decision (tx 0 6) outcomes.Active)) ∷ marked 0 (Got 21) ∷
     marked 1 (Called commands.Abort) ∷ marked 1 (Sent 22 0 (messages.Decision (tx 0 6) outcomes.Aborted)) ∷
     marked 1 (Told replies.Dropped) ∷ marked 0 (Got 22) ∷ marked 2 (Called (commands.Do 0 2)) ∷
-    marked 2 (Sent 23 0 (messages.Request (tx 1 2) 1 0 (wants.Read (read_of 0 2)))) ∷ marked 0 (Got 23) ∷
-    marked 0 (Sent 24 2 (messages.Answer 23 (answers.Granted (grant_with 1 4 (line 4 0 5 1 0 2 ∷ [])))))
+    marked 2 (Sent 23 0 (messages.Request (tx 1 2) 1 0 (wants.Read (first_read 0 2)))) ∷ marked 0 (Got 23) ∷
+    marked 0 (Sent 24 2 (messages.Answer 23 (answers.Granted (whole_grant 1 4 (line 4 0 5 1 0 2 ∷ [])))))
     ∷ marked 2 (Got 24) ∷
     marked 2 (Told replies.Absent) ∷ marked 1 (Called commands.Begin) ∷ marked 1 (Told (replies.Began (tx 0 7))) ∷
     marked 2 (Called commands.Abort) ∷ marked 2 (Sent 25 0 (messages.Decision (tx 1 2) outcomes.Aborted)) ∷
     marked 2 (Told replies.Dropped) ∷ marked 0 (Got 25) ∷ marked 1 (Called (commands.Do 0 1)) ∷
-    marked 1 (Sent 26 0 (messages.Request (tx 0 7) 1 0 (wants.Read (read_of 0 1)))) ∷ marked 0 (Got 26) ∷
-    marked 0 (Sent 27 1 (messages.Answer 26 (answers.Granted (grant_with 1 4 (line 4 0 5 1 0 2 ∷ [])))))
+    marked 1 (Sent 26 0 (messages.Request (tx 0 7) 1 0 (wants.Read (first_read 0 1)))) ∷ marked 0 (Got 26) ∷
+    marked 0 (Sent 27 1 (messages.Answer 26 (answers.Granted (whole_grant 1 4 (line 4 0 5 1 0 2 ∷ [])))))
     ∷ marked 1 (Got 27) ∷
     marked 1 (Sent 28 0 (messages.Request (tx 0 7) 1 1 (wants.Append 0 (line 4 0 5 1 0 2 ∷ []) (own_line 1 0 2 ∷ []))))
     ∷
-    marked 0 (Got 28) ∷ marked 0 (Sent 29 1 (messages.Answer 28 (answers.Granted (grant_with 1 4 []))))
+    marked 0 (Got 28) ∷ marked 0 (Sent 29 1 (messages.Answer 28 (answers.Granted (whole_grant 1 4 []))))
     ∷ marked 1 (Got 29) ∷
     marked 1 (Told (replies.Response 0)) ∷ marked 2 (Called commands.Begin) ∷ marked 2 (Told (replies.Began (tx 1 3))) ∷
     marked 1 (Called commands.Commit) ∷ marked 1 (Sent 30 0 (messages.Request (tx 0 7) 1 1 wants.Prepare)) ∷
@@ -127,14 +128,14 @@ history =
     marked 1 (Sent 32 0 (messages.Decision (tx 0 7) (outcomes.Committed (stamp 5 0)))) ∷
     marked 1 (Told (replies.Committed (stamp 5 0))) ∷ marked 0 (Got 32) ∷ marked 0 (Wrote (records.Done (tx 0 7) 5)) ∷
     marked 2 (Called (commands.Do 0 0))
-    ∷ marked 2 (Sent 33 0 (messages.Request (tx 1 3) 1 0 (wants.Read (read_of 0 0)))) ∷
+    ∷ marked 2 (Sent 33 0 (messages.Request (tx 1 3) 1 0 (wants.Read (first_read 0 0)))) ∷
     marked 0 (Got 33) ∷
     marked 0
-    (Sent 34 2 (messages.Answer 33 (answers.Granted (grant_with 1 5 (line 4 0 5 1 0 2 ∷ line 5 0 7 1 0 2 ∷ []))))) ∷
+    (Sent 34 2 (messages.Answer 33 (answers.Granted (whole_grant 1 5 (line 4 0 5 1 0 2 ∷ line 5 0 7 1 0 2 ∷ []))))) ∷
     marked 2 (Got 34) ∷
     marked 2 (Sent 35 0 (messages.Request (tx 1 3) 1 1 (wants.Append 0 (line 4 0 5 1 0 2 ∷ line 5 0 7 1 0 2 ∷ [])
     (own_line 1 0 0 ∷ [])))) ∷
-    marked 0 (Got 35) ∷ marked 0 (Sent 36 2 (messages.Answer 35 (answers.Granted (grant_with 1 5 []))))
+    marked 0 (Got 35) ∷ marked 0 (Sent 36 2 (messages.Answer 35 (answers.Granted (whole_grant 1 5 []))))
     ∷ marked 2 (Got 36) ∷
     marked 2 (Told (replies.Response 1)) ∷ marked 2 (Called commands.Commit) ∷
     marked 2 (Sent 37 0 (messages.Request (tx 1 3) 1 1 wants.Prepare)) ∷ marked 0 (Got 37) ∷

@@ -15,7 +15,7 @@ use Rattle.qc_msg.specs.declared.message.Outcome.TheVariants as outcomes
 use Rattle.qc_msg.specs.declared.record.Record.TheVariants as records
 use Rattle.qc_msg.specs.declared.reply.Reply.TheVariants as replies
 use Rattle.qc_msg.specs.declared.message.Want.TheVariants as wants
-use Rattle.qc_msg.specs.Vocabulary.{grant_with, read_of}
+use Rattle.qc_msg.specs.Vocabulary.{whole_grant, first_read}
 
 abbrev pub decl : Declaration
 decl =
@@ -55,10 +55,10 @@ history =
     marked 6 (Phase 1) ∷ marked 6 (Phase 2) ∷ marked 3 (Called commands.Begin) ∷
     marked 3 (Told (replies.Began (tx 0 1))) ∷ marked 3 (Called (commands.Do 0 2)) ∷
     marked 3 (Sent 0 0 (messages.Request (tx 0 1) 1 0 (wants.Append 0 [] (own_line 1 0 3 ∷ [])))) ∷ marked 0 (Got 0) ∷
-    marked 0 (Sent 1 3 (messages.Answer 0 (answers.Granted (grant_with 1 0 [])))) ∷ marked 3 (Got 1) ∷
+    marked 0 (Sent 1 3 (messages.Answer 0 (answers.Granted (whole_grant 1 0 [])))) ∷ marked 3 (Got 1) ∷
     marked 3 (Told (replies.Response 2)) ∷ marked 3 (Called (commands.Do 0 1)) ∷
     marked 3 (Sent 2 0 (messages.Request (tx 0 1) 1 1 (wants.Append 0 [] (own_line 1 0 3 ∷ own_line 2 0 2 ∷ [])))) ∷
-    marked 0 (Got 2) ∷ marked 0 (Sent 3 3 (messages.Answer 2 (answers.Granted (grant_with 1 0 [])))) ∷ marked 3 (Got 3)
+    marked 0 (Got 2) ∷ marked 0 (Sent 3 3 (messages.Answer 2 (answers.Granted (whole_grant 1 0 [])))) ∷ marked 3 (Got 3)
     ∷
     marked 3 (Told (replies.Response 2)) ∷ marked 3 (Called commands.Commit) ∷
     marked 3 (Sent 4 0 (messages.Request (tx 0 1) 1 1 wants.Prepare)) ∷ marked 3 (Lost 4) ∷
@@ -66,10 +66,10 @@ history =
     marked 3 (Told (replies.Aborted (causes.NoAnswer 0))) ∷ marked 3 (Called commands.Begin) ∷
     marked 3 (Told (replies.Began (tx 0 2))) ∷ marked 3 (Called (commands.Do 0 2)) ∷ marked 0 (Got 5) ∷
     marked 3 (Sent 6 0 (messages.Request (tx 0 2) 1 0 (wants.Append 0 [] (own_line 1 0 3 ∷ [])))) ∷ marked 0 (Got 6) ∷
-    marked 0 (Sent 7 3 (messages.Answer 6 (answers.Granted (grant_with 1 0 [])))) ∷ marked 3 (Got 7) ∷
+    marked 0 (Sent 7 3 (messages.Answer 6 (answers.Granted (whole_grant 1 0 [])))) ∷ marked 3 (Got 7) ∷
     marked 3 (Told (replies.Response 2)) ∷ marked 3 (Called (commands.Do 0 2)) ∷
     marked 3 (Sent 8 0 (messages.Request (tx 0 2) 1 1 (wants.Append 0 [] (own_line 1 0 3 ∷ own_line 2 0 3 ∷ [])))) ∷
-    marked 0 (Got 8) ∷ marked 0 (Sent 9 3 (messages.Answer 8 (answers.Granted (grant_with 1 0 [])))) ∷ marked 3 (Got 9)
+    marked 0 (Got 8) ∷ marked 0 (Sent 9 3 (messages.Answer 8 (answers.Granted (whole_grant 1 0 [])))) ∷ marked 3 (Got 9)
     ∷
     marked 3 (Told (replies.Response 2)) ∷ marked 3 (Called commands.Commit) ∷
     marked 3 (Sent 10 0 (messages.Request (tx 0 2) 1 1 wants.Prepare)) ∷ marked 0 (Got 10) ∷
@@ -85,16 +85,17 @@ history =
     marked 4 (Called (commands.Do 0 1)) ∷
     marked 4 (Sent 14 2 (messages.Request (tx 1 1) 1 0 (wants.Append 0 [] (own_line 1 0 2 ∷ [])))) ∷ marked 2 (Got 14) ∷
     marked 3 (Called (commands.Do 0 2))
-    ∷ marked 2 (Sent 15 4 (messages.Answer 14 (answers.Granted (grant_with 1 0 [])))) ∷
+    ∷ marked 2 (Sent 15 4 (messages.Answer 14 (answers.Granted (whole_grant 1 0 [])))) ∷
     marked 3 (Sent 16 0 (messages.Request (tx 0 3) 1 0 (wants.Append 0 [] (own_line 1 0 3 ∷ [])))) ∷ marked 4 (Got 15) ∷
     marked 0 (Got 16) ∷ marked 4 (Told (replies.Response 2)) ∷
-    marked 0 (Sent 17 3 (messages.Answer 16 (answers.Granted (grant_with 1 1 [])))) ∷ marked 4 (Called commands.Abort) ∷
+    marked 0 (Sent 17 3 (messages.Answer 16 (answers.Granted (whole_grant 1 1 [])))) ∷
+    marked 4 (Called commands.Abort) ∷
     marked 4 (Sent 18 2 (messages.Decision (tx 1 1) outcomes.Aborted)) ∷ marked 4 (Told replies.Dropped) ∷
     marked 3 (Got 17) ∷ marked 2 (Got 18) ∷ marked 3 (Told (replies.Response 2)) ∷ marked 4 (Called commands.Begin) ∷
     marked 4 (Told (replies.Began (tx 1 2))) ∷ marked 4 (Called (commands.Do 0 1)) ∷
     marked 4 (Sent 19 2 (messages.Request (tx 1 2) 1 0 (wants.Append 0 [] (own_line 1 0 2 ∷ [])))) ∷ marked 2 (Got 19) ∷
     marked 3 (Called commands.Commit) ∷ marked 3 (Sent 20 0 (messages.Request (tx 0 3) 1 1 wants.Prepare)) ∷
-    marked 2 (Sent 21 4 (messages.Answer 19 (answers.Granted (grant_with 1 0 [])))) ∷ marked 4 (Got 21)
+    marked 2 (Sent 21 4 (messages.Answer 19 (answers.Granted (whole_grant 1 0 [])))) ∷ marked 4 (Got 21)
     ∷ marked 0 (Got 20) ∷
     marked 4 (Told (replies.Response 2)) ∷ marked 4 (Called (commands.Do 0 1)) ∷
     marked 4 (Sent 22 2 (messages.Request (tx 1 2) 1 1 (wants.Append 0 [] (own_line 1 0 2 ∷ own_line 2 0 2 ∷ [])))) ∷
@@ -103,18 +104,19 @@ history =
     marked 3 (Wrote (commit (stamp 2 0) (tx 0 3) (operation 0 2 (Some 2) ∷ []))) ∷
     marked 3 (Sent 24 0 (messages.Decision (tx 0 3) (outcomes.Committed (stamp 2 0)))) ∷
     marked 3 (Told (replies.Committed (stamp 2 0))) ∷
-    marked 2 (Sent 25 4 (messages.Answer 22 (answers.Granted (grant_with 1 0 [])))) ∷ marked 3 (Called commands.Begin) ∷
+    marked 2 (Sent 25 4 (messages.Answer 22 (answers.Granted (whole_grant 1 0 [])))) ∷
+    marked 3 (Called commands.Begin) ∷
     marked 0 (Got 24) ∷ marked 4 (Got 25) ∷ marked 0 (Wrote (records.Done (tx 0 3) 2)) ∷
     marked 4 (Told (replies.Response 2)) ∷ marked 3 (Told (replies.Began (tx 0 4))) ∷
     marked 3 (Called (commands.Do 0 0)) ∷ marked 4 (Called commands.Commit) ∷
-    marked 3 (Sent 26 0 (messages.Request (tx 0 4) 1 0 (wants.Read (read_of 0 0)))) ∷
-    marked 3 (Sent 27 2 (messages.Request (tx 0 4) 1 0 (wants.Read (read_of 0 0)))) ∷ marked 2 (Got 27) ∷
+    marked 3 (Sent 26 0 (messages.Request (tx 0 4) 1 0 (wants.Read (first_read 0 0)))) ∷
+    marked 3 (Sent 27 2 (messages.Request (tx 0 4) 1 0 (wants.Read (first_read 0 0)))) ∷ marked 2 (Got 27) ∷
     marked 2 (Sent 28 3 (messages.Answer 27 (answers.Clash (tx 1 2) 0 2))) ∷
     marked 2 (Sent 29 4 (messages.Inquiry (tx 1 2))) ∷ marked 0 (Got 26) ∷ marked 3 (Got 28) ∷
     marked 0
     (Sent 30 3
     (messages.Answer 26
-    (answers.Granted (grant_with 1 2 (line 1 0 2 1 0 3 ∷ line 1 0 2 2 0 3 ∷ line 2 0 3 1 0 3 ∷ []))))) ∷
+    (answers.Granted (whole_grant 1 2 (line 1 0 2 1 0 3 ∷ line 1 0 2 2 0 3 ∷ line 2 0 3 1 0 3 ∷ []))))) ∷
     marked 4 (Sent 31 2 (messages.Request (tx 1 2) 1 1 wants.Prepare)) ∷ marked 2 (Got 31) ∷
     marked 2 (Wrote (prepare (tx 1 2) 1 [] (own_line 1 0 2 ∷ own_line 2 0 2 ∷ []) [])) ∷
     marked 2 (Sent 32 4 (messages.Answer 31 (answers.Yes 0))) ∷ marked 4 (Got 29) ∷
@@ -133,7 +135,7 @@ history =
     marked 0 (Got 37) ∷ marked 0 (Wrote (records.Done (tx 0 4) 3)) ∷ marked 3 (Told (replies.Began (tx 0 5))) ∷
     marked 3 (Called (commands.Do 0 2)) ∷
     marked 3 (Sent 39 0 (messages.Request (tx 0 5) 1 0 (wants.Append 0 [] (own_line 1 0 3 ∷ [])))) ∷ marked 0 (Got 39) ∷
-    marked 0 (Sent 40 3 (messages.Answer 39 (answers.Granted (grant_with 1 3 [])))) ∷ marked 3 (Got 40) ∷
+    marked 0 (Sent 40 3 (messages.Answer 39 (answers.Granted (whole_grant 1 3 [])))) ∷ marked 3 (Got 40) ∷
     marked 3 (Told (replies.Response 2)) ∷ marked 3 (Called commands.Commit) ∷
     marked 3 (Sent 41 0 (messages.Request (tx 0 5) 1 1 wants.Prepare)) ∷ marked 0 (Got 41) ∷
     marked 0 (Wrote (prepare (tx 0 5) 1 [] (own_line 1 0 3 ∷ []) [])) ∷

@@ -13,7 +13,7 @@ use Rattle.qc_msg.specs.declared.message.Message.TheVariants as messages
 use Rattle.qc_msg.specs.declared.message.Outcome.TheVariants as outcomes
 use Rattle.qc_msg.specs.declared.reply.Reply.TheVariants as replies
 use Rattle.qc_msg.specs.declared.message.Want.TheVariants as wants
-use Rattle.qc_msg.specs.Vocabulary.{grant_with, read_of}
+use Rattle.qc_msg.specs.Vocabulary.{whole_grant, first_read}
 
 abbrev pub decl : Declaration
 decl =
@@ -55,38 +55,39 @@ history =
     marked 9 (Phase 1) ∷ marked 5 (Called commands.Begin) ∷ marked 5 (Told (replies.Began (tx 0 1))) ∷
     marked 6 (Called commands.Begin) ∷ marked 6 (Told (replies.Began (tx 1 1))) ∷ marked 6 (Called (commands.Do 1 0)) ∷
     marked 6 (Told (replies.Response 1)) ∷ marked 5 (Called (commands.Do 0 1)) ∷
-    marked 5 (Sent 0 0 (messages.Request (tx 0 1) 1 0 (wants.Read (read_of 0 1)))) ∷
-    marked 5 (Sent 1 1 (messages.Request (tx 0 1) 1 0 (wants.Read (read_of 0 1)))) ∷
-    marked 5 (Sent 2 2 (messages.Request (tx 0 1) 1 0 (wants.Read (read_of 0 1)))) ∷ marked 7 (Called commands.Begin) ∷
+    marked 5 (Sent 0 0 (messages.Request (tx 0 1) 1 0 (wants.Read (first_read 0 1)))) ∷
+    marked 5 (Sent 1 1 (messages.Request (tx 0 1) 1 0 (wants.Read (first_read 0 1)))) ∷
+    marked 5 (Sent 2 2 (messages.Request (tx 0 1) 1 0 (wants.Read (first_read 0 1)))) ∷
+    marked 7 (Called commands.Begin) ∷
     marked 7 (Told (replies.Began (tx 2 1))) ∷ marked 7 (Called (commands.Do 0 1)) ∷
-    marked 7 (Sent 3 2 (messages.Request (tx 2 1) 1 0 (wants.Read (read_of 0 1)))) ∷
-    marked 7 (Sent 4 3 (messages.Request (tx 2 1) 1 0 (wants.Read (read_of 0 1)))) ∷
-    marked 7 (Sent 5 4 (messages.Request (tx 2 1) 1 0 (wants.Read (read_of 0 1)))) ∷ marked 4 (Got 5) ∷
-    marked 4 (Sent 6 7 (messages.Answer 5 (answers.Granted (grant_with 1 0 [])))) ∷ marked 3 (Got 4) ∷
-    marked 3 (Sent 7 7 (messages.Answer 4 (answers.Granted (grant_with 1 0 [])))) ∷ marked 2 (Got 2) ∷
-    marked 2 (Sent 8 5 (messages.Answer 2 (answers.Granted (grant_with 1 0 [])))) ∷ marked 5 (Got 8) ∷ marked 1 (Got 1)
+    marked 7 (Sent 3 2 (messages.Request (tx 2 1) 1 0 (wants.Read (first_read 0 1)))) ∷
+    marked 7 (Sent 4 3 (messages.Request (tx 2 1) 1 0 (wants.Read (first_read 0 1)))) ∷
+    marked 7 (Sent 5 4 (messages.Request (tx 2 1) 1 0 (wants.Read (first_read 0 1)))) ∷ marked 4 (Got 5) ∷
+    marked 4 (Sent 6 7 (messages.Answer 5 (answers.Granted (whole_grant 1 0 [])))) ∷ marked 3 (Got 4) ∷
+    marked 3 (Sent 7 7 (messages.Answer 4 (answers.Granted (whole_grant 1 0 [])))) ∷ marked 2 (Got 2) ∷
+    marked 2 (Sent 8 5 (messages.Answer 2 (answers.Granted (whole_grant 1 0 [])))) ∷ marked 5 (Got 8) ∷ marked 1 (Got 1)
     ∷
-    marked 1 (Sent 9 5 (messages.Answer 1 (answers.Granted (grant_with 1 0 [])))) ∷ marked 5 (Got 9) ∷ marked 2 (Got 3)
+    marked 1 (Sent 9 5 (messages.Answer 1 (answers.Granted (whole_grant 1 0 [])))) ∷ marked 5 (Got 9) ∷ marked 2 (Got 3)
     ∷
-    marked 2 (Sent 10 7 (messages.Answer 3 (answers.Granted (grant_with 1 0 [])))) ∷ marked 7 (Got 6) ∷
+    marked 2 (Sent 10 7 (messages.Answer 3 (answers.Granted (whole_grant 1 0 [])))) ∷ marked 7 (Got 6) ∷
     marked 6 (Called commands.Commit) ∷ marked 6 (Wrote (commit (stamp 1 1) (tx 1 1) (operation 1 0 (Some 1) ∷ []))) ∷
     marked 6 (Told (replies.Committed (stamp 1 1))) ∷ marked 0 (Got 0) ∷
-    marked 0 (Sent 11 5 (messages.Answer 0 (answers.Granted (grant_with 1 0 [])))) ∷ marked 7 (Got 7)
+    marked 0 (Sent 11 5 (messages.Answer 0 (answers.Granted (whole_grant 1 0 [])))) ∷ marked 7 (Got 7)
     ∷ marked 5 (Got 11) ∷
     marked 5 (Sent 12 0 (messages.Request (tx 0 1) 1 1 (wants.Append 0 [] (own_line 1 0 2 ∷ [])))) ∷
     marked 5 (Sent 13 1 (messages.Request (tx 0 1) 1 1 (wants.Append 0 [] (own_line 1 0 2 ∷ [])))) ∷
     marked 5 (Sent 14 2 (messages.Request (tx 0 1) 1 1 (wants.Append 0 [] (own_line 1 0 2 ∷ [])))) ∷ marked 1 (Got 13) ∷
-    marked 0 (Got 12) ∷ marked 0 (Sent 15 5 (messages.Answer 12 (answers.Granted (grant_with 1 0 [])))) ∷
-    marked 1 (Sent 16 5 (messages.Answer 13 (answers.Granted (grant_with 1 0 [])))) ∷ marked 7 (Got 10) ∷
+    marked 0 (Got 12) ∷ marked 0 (Sent 15 5 (messages.Answer 12 (answers.Granted (whole_grant 1 0 [])))) ∷
+    marked 1 (Sent 16 5 (messages.Answer 13 (answers.Granted (whole_grant 1 0 [])))) ∷ marked 7 (Got 10) ∷
     marked 7 (Sent 17 2 (messages.Request (tx 2 1) 1 1 (wants.Append 0 [] (own_line 1 0 2 ∷ [])))) ∷
     marked 7 (Sent 18 3 (messages.Request (tx 2 1) 1 1 (wants.Append 0 [] (own_line 1 0 2 ∷ [])))) ∷
     marked 7 (Sent 19 4 (messages.Request (tx 2 1) 1 1 (wants.Append 0 [] (own_line 1 0 2 ∷ [])))) ∷ marked 3 (Got 18) ∷
-    marked 3 (Sent 20 7 (messages.Answer 18 (answers.Granted (grant_with 1 0 [])))) ∷ marked 2 (Got 14) ∷
+    marked 3 (Sent 20 7 (messages.Answer 18 (answers.Granted (whole_grant 1 0 [])))) ∷ marked 2 (Got 14) ∷
     marked 2 (Sent 21 5 (messages.Answer 14 (answers.Clash (tx 2 1) 1 2))) ∷
     marked 2 (Sent 22 7 (messages.Inquiry (tx 2 1))) ∷ marked 2 (Got 17) ∷
     marked 2 (Sent 23 7 (messages.Answer 17 (answers.Clash (tx 0 1) 1 2))) ∷
     marked 2 (Sent 24 5 (messages.Inquiry (tx 0 1))) ∷ marked 5 (Got 15) ∷ marked 4 (Got 19) ∷
-    marked 4 (Sent 25 7 (messages.Answer 19 (answers.Granted (grant_with 1 0 [])))) ∷ marked 5 (Got 16)
+    marked 4 (Sent 25 7 (messages.Answer 19 (answers.Granted (whole_grant 1 0 [])))) ∷ marked 5 (Got 16)
     ∷ marked 7 (Got 20) ∷
     marked 5 (Got 21) ∷ marked 5 (Told (replies.Conflict (tx 2 1) 2)) ∷ marked 5 (Got 24) ∷
     marked 5 (Sent 26 2 (messages.Decision (tx 0 1) outcomes.Active)) ∷ marked 5 (Called commands.Commit) ∷
@@ -103,23 +104,23 @@ history =
     marked 9 (Phase 2) ∷ marked 7 (Called commands.Begin) ∷ marked 7 (Told (replies.Began (tx 2 2))) ∷
     marked 5 (Called commands.Begin) ∷ marked 5 (Told (replies.Began (tx 0 2))) ∷ marked 4 (Got 33) ∷
     marked 7 (Called (commands.Do 0 1))
-    ∷ marked 7 (Sent 34 2 (messages.Request (tx 2 2) 1 0 (wants.Read (read_of 0 1)))) ∷
-    marked 7 (Sent 35 3 (messages.Request (tx 2 2) 1 0 (wants.Read (read_of 0 1)))) ∷
-    marked 7 (Sent 36 4 (messages.Request (tx 2 2) 1 0 (wants.Read (read_of 0 1))))
+    ∷ marked 7 (Sent 34 2 (messages.Request (tx 2 2) 1 0 (wants.Read (first_read 0 1)))) ∷
+    marked 7 (Sent 35 3 (messages.Request (tx 2 2) 1 0 (wants.Read (first_read 0 1)))) ∷
+    marked 7 (Sent 36 4 (messages.Request (tx 2 2) 1 0 (wants.Read (first_read 0 1))))
     ∷ marked 5 (Called (commands.Do 0 1)) ∷
-    marked 5 (Sent 37 0 (messages.Request (tx 0 2) 1 0 (wants.Read (read_of 0 1)))) ∷
-    marked 5 (Sent 38 1 (messages.Request (tx 0 2) 1 0 (wants.Read (read_of 0 1)))) ∷
-    marked 5 (Sent 39 2 (messages.Request (tx 0 2) 1 0 (wants.Read (read_of 0 1)))) ∷ marked 3 (Got 35) ∷
-    marked 3 (Sent 40 7 (messages.Answer 35 (answers.Granted (grant_with 1 0 [])))) ∷ marked 7 (Got 40)
+    marked 5 (Sent 37 0 (messages.Request (tx 0 2) 1 0 (wants.Read (first_read 0 1)))) ∷
+    marked 5 (Sent 38 1 (messages.Request (tx 0 2) 1 0 (wants.Read (first_read 0 1)))) ∷
+    marked 5 (Sent 39 2 (messages.Request (tx 0 2) 1 0 (wants.Read (first_read 0 1)))) ∷ marked 3 (Got 35) ∷
+    marked 3 (Sent 40 7 (messages.Answer 35 (answers.Granted (whole_grant 1 0 [])))) ∷ marked 7 (Got 40)
     ∷ marked 1 (Got 38) ∷
-    marked 1 (Sent 41 5 (messages.Answer 38 (answers.Granted (grant_with 1 0 [])))) ∷ marked 5 (Got 41)
+    marked 1 (Sent 41 5 (messages.Answer 38 (answers.Granted (whole_grant 1 0 [])))) ∷ marked 5 (Got 41)
     ∷ marked 4 (Got 36) ∷
-    marked 4 (Sent 42 7 (messages.Answer 36 (answers.Granted (grant_with 1 0 [])))) ∷ marked 7 (Got 42)
+    marked 4 (Sent 42 7 (messages.Answer 36 (answers.Granted (whole_grant 1 0 [])))) ∷ marked 7 (Got 42)
     ∷ marked 2 (Got 34) ∷
-    marked 2 (Sent 43 7 (messages.Answer 34 (answers.Granted (grant_with 1 0 [])))) ∷ marked 0 (Got 37) ∷
-    marked 0 (Sent 44 5 (messages.Answer 37 (answers.Granted (grant_with 1 0 [])))) ∷ marked 5 (Got 44)
+    marked 2 (Sent 43 7 (messages.Answer 34 (answers.Granted (whole_grant 1 0 [])))) ∷ marked 0 (Got 37) ∷
+    marked 0 (Sent 44 5 (messages.Answer 37 (answers.Granted (whole_grant 1 0 [])))) ∷ marked 5 (Got 44)
     ∷ marked 2 (Got 39) ∷
-    marked 7 (Got 43) ∷ marked 2 (Sent 45 5 (messages.Answer 39 (answers.Granted (grant_with 1 0 [])))) ∷
+    marked 7 (Got 43) ∷ marked 2 (Sent 45 5 (messages.Answer 39 (answers.Granted (whole_grant 1 0 [])))) ∷
     marked 7 (Sent 46 2 (messages.Request (tx 2 2) 1 1 (wants.Append 0 [] (own_line 1 0 2 ∷ [])))) ∷
     marked 7 (Sent 47 3 (messages.Request (tx 2 2) 1 1 (wants.Append 0 [] (own_line 1 0 2 ∷ [])))) ∷
     marked 7 (Sent 48 4 (messages.Request (tx 2 2) 1 1 (wants.Append 0 [] (own_line 1 0 2 ∷ [])))) ∷ marked 2 (Got 46) ∷
@@ -128,13 +129,13 @@ history =
     marked 5 (Sent 51 0 (messages.Request (tx 0 2) 1 1 (wants.Append 0 [] (own_line 1 0 2 ∷ [])))) ∷
     marked 5 (Sent 52 1 (messages.Request (tx 0 2) 1 1 (wants.Append 0 [] (own_line 1 0 2 ∷ [])))) ∷
     marked 5 (Sent 53 2 (messages.Request (tx 0 2) 1 1 (wants.Append 0 [] (own_line 1 0 2 ∷ [])))) ∷ marked 1 (Got 52) ∷
-    marked 1 (Sent 54 5 (messages.Answer 52 (answers.Granted (grant_with 1 0 [])))) ∷ marked 3 (Got 47) ∷
-    marked 3 (Sent 55 7 (messages.Answer 47 (answers.Granted (grant_with 1 0 [])))) ∷ marked 5 (Got 50) ∷
+    marked 1 (Sent 54 5 (messages.Answer 52 (answers.Granted (whole_grant 1 0 [])))) ∷ marked 3 (Got 47) ∷
+    marked 3 (Sent 55 7 (messages.Answer 47 (answers.Granted (whole_grant 1 0 [])))) ∷ marked 5 (Got 50) ∷
     marked 5 (Sent 56 2 (messages.Decision (tx 0 2) outcomes.Active)) ∷ marked 0 (Got 51) ∷ marked 2 (Got 53) ∷
     marked 2 (Sent 57 5 (messages.Answer 53 (answers.Clash (tx 2 2) 1 2))) ∷
     marked 2 (Sent 58 7 (messages.Inquiry (tx 2 2))) ∷ marked 5 (Got 54) ∷ marked 2 (Got 56) ∷
-    marked 0 (Sent 59 5 (messages.Answer 51 (answers.Granted (grant_with 1 0 [])))) ∷ marked 4 (Got 48) ∷
-    marked 4 (Sent 60 7 (messages.Answer 48 (answers.Granted (grant_with 1 0 [])))) ∷ marked 5 (Got 57)
+    marked 0 (Sent 59 5 (messages.Answer 51 (answers.Granted (whole_grant 1 0 [])))) ∷ marked 4 (Got 48) ∷
+    marked 4 (Sent 60 7 (messages.Answer 48 (answers.Granted (whole_grant 1 0 [])))) ∷ marked 5 (Got 57)
     ∷ marked 5 (Got 59) ∷
     marked 5 (Told (replies.Conflict (tx 2 2) 2)) ∷ marked 7 (Got 49) ∷ marked 7 (Got 55) ∷ marked 7 (Got 58) ∷
     marked 7 (Sent 61 2 (messages.Decision (tx 2 2) outcomes.Active)) ∷ marked 5 (Called (commands.Do 1 1)) ∷

@@ -15,7 +15,7 @@ use Rattle.qc_msg.specs.declared.message.Outcome.TheVariants as outcomes
 use Rattle.qc_msg.specs.declared.record.Record.TheVariants as records
 use Rattle.qc_msg.specs.declared.reply.Reply.TheVariants as replies
 use Rattle.qc_msg.specs.declared.message.Want.TheVariants as wants
-use Rattle.qc_msg.specs.Vocabulary.{grant_with, read_of}
+use Rattle.qc_msg.specs.Vocabulary.{whole_grant, first_read}
 
 abbrev pub decl : Declaration
 decl =
@@ -62,28 +62,29 @@ history =
     marked 4 (Called commands.Commit) ∷ marked 4 (Wrote (commit (stamp 1 2) (tx 2 1) [])) ∷
     marked 4 (Told (replies.Committed (stamp 1 2))) ∷ marked 3 (Called commands.Begin) ∷
     marked 3 (Told (replies.Began (tx 1 1))) ∷ marked 3 (Called (commands.Do 0 2)) ∷
-    marked 3 (Sent 0 1 (messages.Request (tx 1 1) 1 0 (wants.Read (read_of 0 2)))) ∷
-    marked 3 (Sent 1 0 (messages.Request (tx 1 1) 1 0 (wants.Read (read_of 0 2)))) ∷ marked 1 (Got 0) ∷ marked 0 (Got 1)
+    marked 3 (Sent 0 1 (messages.Request (tx 1 1) 1 0 (wants.Read (first_read 0 2)))) ∷
+    marked 3 (Sent 1 0 (messages.Request (tx 1 1) 1 0 (wants.Read (first_read 0 2)))) ∷ marked 1 (Got 0) ∷
+    marked 0 (Got 1)
     ∷
-    marked 1 (Sent 2 3 (messages.Answer 0 (answers.Granted (grant_with 1 0 [])))) ∷ marked 3 (Got 2) ∷
-    marked 0 (Sent 3 3 (messages.Answer 1 (answers.Granted (grant_with 1 0 [])))) ∷ marked 2 (Called commands.Begin) ∷
+    marked 1 (Sent 2 3 (messages.Answer 0 (answers.Granted (whole_grant 1 0 [])))) ∷ marked 3 (Got 2) ∷
+    marked 0 (Sent 3 3 (messages.Answer 1 (answers.Granted (whole_grant 1 0 [])))) ∷ marked 2 (Called commands.Begin) ∷
     marked 2 (Told (replies.Began (tx 0 1))) ∷ marked 2 (Called commands.Abort) ∷ marked 2 (Told replies.Dropped) ∷
     marked 3 (Got 3) ∷ marked 3 (Sent 4 1 (messages.Request (tx 1 1) 1 1 (wants.Append 0 [] (own_line 1 0 3 ∷ [])))) ∷
     marked 3 (Sent 5 0 (messages.Request (tx 1 1) 1 1 (wants.Append 0 [] (own_line 1 0 3 ∷ [])))) ∷ marked 1 (Got 4) ∷
-    marked 1 (Sent 6 3 (messages.Answer 4 (answers.Granted (grant_with 1 0 [])))) ∷ marked 0 (Got 5) ∷ marked 3 (Got 6)
+    marked 1 (Sent 6 3 (messages.Answer 4 (answers.Granted (whole_grant 1 0 [])))) ∷ marked 0 (Got 5) ∷ marked 3 (Got 6)
     ∷
-    marked 0 (Sent 7 3 (messages.Answer 5 (answers.Granted (grant_with 1 0 [])))) ∷ marked 3 (Got 7) ∷
+    marked 0 (Sent 7 3 (messages.Answer 5 (answers.Granted (whole_grant 1 0 [])))) ∷ marked 3 (Got 7) ∷
     marked 3 (Told (replies.Response 1)) ∷ marked 3 (Called (commands.Do 0 2)) ∷
-    marked 3 (Sent 8 1 (messages.Request (tx 1 1) 1 1 (wants.Read (read_of 0 2)))) ∷
-    marked 3 (Sent 9 0 (messages.Request (tx 1 1) 1 1 (wants.Read (read_of 0 2)))) ∷ marked 1 (Got 8) ∷
-    marked 1 (Sent 10 3 (messages.Answer 8 (answers.Granted (grant_with 1 0 [])))) ∷ marked 3 (Got 10)
+    marked 3 (Sent 8 1 (messages.Request (tx 1 1) 1 1 (wants.Read (first_read 0 2)))) ∷
+    marked 3 (Sent 9 0 (messages.Request (tx 1 1) 1 1 (wants.Read (first_read 0 2)))) ∷ marked 1 (Got 8) ∷
+    marked 1 (Sent 10 3 (messages.Answer 8 (answers.Granted (whole_grant 1 0 [])))) ∷ marked 3 (Got 10)
     ∷ marked 0 (Got 9) ∷
-    marked 0 (Sent 11 3 (messages.Answer 9 (answers.Granted (grant_with 1 0 [])))) ∷ marked 3 (Got 11) ∷
+    marked 0 (Sent 11 3 (messages.Answer 9 (answers.Granted (whole_grant 1 0 [])))) ∷ marked 3 (Got 11) ∷
     marked 3 (Sent 12 1 (messages.Request (tx 1 1) 1 1 (wants.Append 0 [] (own_line 1 0 3 ∷ own_line 2 0 3 ∷ [])))) ∷
     marked 3 (Sent 13 0 (messages.Request (tx 1 1) 1 1 (wants.Append 0 [] (own_line 1 0 3 ∷ own_line 2 0 3 ∷ [])))) ∷
     marked 1 (Got 12) ∷ marked 0 (Got 13)
-    ∷ marked 1 (Sent 14 3 (messages.Answer 12 (answers.Granted (grant_with 1 0 [])))) ∷
-    marked 3 (Got 14) ∷ marked 0 (Sent 15 3 (messages.Answer 13 (answers.Granted (grant_with 1 0 []))))
+    ∷ marked 1 (Sent 14 3 (messages.Answer 12 (answers.Granted (whole_grant 1 0 [])))) ∷
+    marked 3 (Got 14) ∷ marked 0 (Sent 15 3 (messages.Answer 13 (answers.Granted (whole_grant 1 0 []))))
     ∷ marked 3 (Got 15) ∷
     marked 3 (Told (replies.Response 1)) ∷ marked 3 (Called commands.Commit) ∷
     marked 3 (Sent 16 1 (messages.Request (tx 1 1) 1 1 wants.Prepare)) ∷
@@ -100,29 +101,29 @@ history =
     marked 5 (Called commands.Begin) ∷ marked 5 (Told (replies.Began (tx 3 1))) ∷ marked 3 (Called commands.Begin) ∷
     marked 5 (Called (commands.Do 0 1)) ∷ marked 3 (Told (replies.Began (tx 1 2))) ∷
     marked 3 (Called (commands.Do 0 0))
-    ∷ marked 3 (Sent 22 1 (messages.Request (tx 1 2) 1 0 (wants.Read (read_of 0 0)))) ∷
-    marked 3 (Sent 23 0 (messages.Request (tx 1 2) 1 0 (wants.Read (read_of 0 0)))) ∷
-    marked 5 (Sent 24 1 (messages.Request (tx 3 1) 1 0 (wants.Read (read_of 0 1)))) ∷ marked 0 (Got 23)
+    ∷ marked 3 (Sent 22 1 (messages.Request (tx 1 2) 1 0 (wants.Read (first_read 0 0)))) ∷
+    marked 3 (Sent 23 0 (messages.Request (tx 1 2) 1 0 (wants.Read (first_read 0 0)))) ∷
+    marked 5 (Sent 24 1 (messages.Request (tx 3 1) 1 0 (wants.Read (first_read 0 1)))) ∷ marked 0 (Got 23)
     ∷ marked 1 (Got 22) ∷
     marked 0
-    (Sent 25 3 (messages.Answer 23 (answers.Granted (grant_with 1 1 (line 1 1 1 1 0 3 ∷ line 1 1 1 2 0 3 ∷ []))))) ∷
+    (Sent 25 3 (messages.Answer 23 (answers.Granted (whole_grant 1 1 (line 1 1 1 1 0 3 ∷ line 1 1 1 2 0 3 ∷ []))))) ∷
     marked 3 (Got 25) ∷ marked 2 (Called commands.Begin) ∷
     marked 1
-    (Sent 26 3 (messages.Answer 22 (answers.Granted (grant_with 1 1 (line 1 1 1 1 0 3 ∷ line 1 1 1 2 0 3 ∷ []))))) ∷
+    (Sent 26 3 (messages.Answer 22 (answers.Granted (whole_grant 1 1 (line 1 1 1 1 0 3 ∷ line 1 1 1 2 0 3 ∷ []))))) ∷
     marked 1 (Got 24) ∷ marked 3 (Got 26) ∷
     marked 3 (Sent 27 1 (messages.Request (tx 1 2) 1 1 (wants.Append 0 (line 1 1 1 1 0 3 ∷ line 1 1 1 2 0 3 ∷ [])
     (own_line 1 0 0 ∷ [])))) ∷
     marked 3 (Sent 28 0 (messages.Request (tx 1 2) 1 1 (wants.Append 0 (line 1 1 1 1 0 3 ∷ line 1 1 1 2 0 3 ∷ [])
     (own_line 1 0 0 ∷ [])))) ∷
-    marked 0 (Got 28) ∷ marked 0 (Sent 29 3 (messages.Answer 28 (answers.Granted (grant_with 1 1 []))))
+    marked 0 (Got 28) ∷ marked 0 (Sent 29 3 (messages.Answer 28 (answers.Granted (whole_grant 1 1 []))))
     ∷ marked 3 (Got 29) ∷
     marked 2 (Told (replies.Began (tx 0 2))) ∷ marked 2 (Called (commands.Do 0 1)) ∷
-    marked 2 (Sent 30 0 (messages.Request (tx 0 2) 1 0 (wants.Read (read_of 0 1)))) ∷ marked 0 (Got 30) ∷
+    marked 2 (Sent 30 0 (messages.Request (tx 0 2) 1 0 (wants.Read (first_read 0 1)))) ∷ marked 0 (Got 30) ∷
     marked 0 (Sent 31 2 (messages.Answer 30 (answers.Clash (tx 1 2) 1 0))) ∷
     marked 0 (Sent 32 3 (messages.Inquiry (tx 1 2))) ∷ marked 3 (Got 32) ∷
     marked 3 (Sent 33 0 (messages.Decision (tx 1 2) outcomes.Active)) ∷ marked 2 (Got 31) ∷ marked 0 (Got 33) ∷
     marked 1
-    (Sent 34 5 (messages.Answer 24 (answers.Granted (grant_with 1 1 (line 1 1 1 1 0 3 ∷ line 1 1 1 2 0 3 ∷ []))))) ∷
+    (Sent 34 5 (messages.Answer 24 (answers.Granted (whole_grant 1 1 (line 1 1 1 1 0 3 ∷ line 1 1 1 2 0 3 ∷ []))))) ∷
     marked 1 (Got 27) ∷ marked 5 (Got 34) ∷
     marked 5 (Sent 35 1 (messages.Request (tx 3 1) 1 1 (wants.Append 0 (line 1 1 1 1 0 3 ∷ line 1 1 1 2 0 3 ∷ [])
     (own_line 1 0 2 ∷ [])))) ∷
@@ -137,7 +138,7 @@ history =
     marked 3 (Sent 40 1 (messages.Decision (tx 1 2) outcomes.Aborted)) ∷
     marked 3 (Told (replies.Aborted causes.Doomed)) ∷ marked 3 (Called commands.Begin) ∷
     marked 3 (Told (replies.Began (tx 1 3))) ∷ marked 3 (Called (commands.Do 0 1)) ∷
-    marked 3 (Sent 41 1 (messages.Request (tx 1 3) 1 0 (wants.Read (read_of 0 1)))) ∷
+    marked 3 (Sent 41 1 (messages.Request (tx 1 3) 1 0 (wants.Read (first_read 0 1)))) ∷
     marked 0 (Sent 42 5 (messages.Answer 36 (answers.Clash (tx 1 2) 0 2))) ∷
     marked 0 (Sent 43 3 (messages.Inquiry (tx 1 2))) ∷ marked 3 (Got 43) ∷ marked 0 (Got 39) ∷
     marked 3 (Sent 44 0 (messages.Decision (tx 1 2) outcomes.Aborted)) ∷ marked 5 (Got 38) ∷
@@ -154,16 +155,16 @@ history =
     marked 5 (Sent 51 1 (messages.Decision (tx 3 1) outcomes.Aborted)) ∷
     marked 5 (Told (replies.Aborted causes.Doomed)) ∷ marked 0 (Got 50) ∷ marked 1 (Got 41) ∷
     marked 1
-    (Sent 52 3 (messages.Answer 41 (answers.Granted (grant_with 1 1 (line 1 1 1 1 0 3 ∷ line 1 1 1 2 0 3 ∷ []))))) ∷
+    (Sent 52 3 (messages.Answer 41 (answers.Granted (whole_grant 1 1 (line 1 1 1 1 0 3 ∷ line 1 1 1 2 0 3 ∷ []))))) ∷
     marked 3 (Got 52) ∷
     marked 3 (Sent 53 1 (messages.Request (tx 1 3) 1 1 (wants.Append 0 (line 1 1 1 1 0 3 ∷ line 1 1 1 2 0 3 ∷ [])
     (own_line 1 0 2 ∷ [])))) ∷
     marked 3 (Sent 54 0 (messages.Request (tx 1 3) 1 0 (wants.Append 0 (line 1 1 1 1 0 3 ∷ line 1 1 1 2 0 3 ∷ [])
     (own_line 1 0 2 ∷ [])))) ∷
     marked 1 (Got 45) ∷ marked 0 (Got 54) ∷ marked 1 (Got 49) ∷ marked 2 (Called commands.Commit) ∷
-    marked 0 (Sent 55 3 (messages.Answer 54 (answers.Granted (grant_with 1 1 [])))) ∷ marked 3 (Got 55)
+    marked 0 (Sent 55 3 (messages.Answer 54 (answers.Granted (whole_grant 1 1 [])))) ∷ marked 3 (Got 55)
     ∷ marked 1 (Got 51) ∷
     marked 2 (Wrote (commit (stamp 2 0) (tx 0 3) [])) ∷ marked 2 (Told (replies.Committed (stamp 2 0))) ∷
-    marked 1 (Got 53) ∷ marked 1 (Sent 56 3 (messages.Answer 53 (answers.Granted (grant_with 1 1 []))))
+    marked 1 (Got 53) ∷ marked 1 (Sent 56 3 (messages.Answer 53 (answers.Granted (whole_grant 1 1 []))))
     ∷ marked 3 (Got 56) ∷
     marked 3 (Told (replies.Response 0)) ∷ []

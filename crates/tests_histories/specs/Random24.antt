@@ -16,7 +16,7 @@ use Rattle.qc_msg.specs.declared.message.Outcome.TheVariants as outcomes
 use Rattle.qc_msg.specs.declared.record.Record.TheVariants as records
 use Rattle.qc_msg.specs.declared.reply.Reply.TheVariants as replies
 use Rattle.qc_msg.specs.declared.message.Want.TheVariants as wants
-use Rattle.qc_msg.specs.Vocabulary.{grant_with, read_of}
+use Rattle.qc_msg.specs.Vocabulary.{whole_grant, first_read}
 
 abbrev pub decl : Declaration
 decl =
@@ -57,21 +57,21 @@ abbrev pub history : List Entry
 history =
     marked 8 (Phase 1) ∷ marked 5 (Called commands.Begin) ∷ marked 5 (Told (replies.Began (tx 2 1))) ∷
     marked 6 (Called commands.Begin) ∷ marked 6 (Told (replies.Began (tx 3 1))) ∷ marked 6 (Called (commands.Do 0 2)) ∷
-    marked 6 (Sent 0 0 (messages.Request (tx 3 1) 1 0 (wants.Read (read_of 0 2)))) ∷
-    marked 6 (Sent 1 1 (messages.Request (tx 3 1) 1 0 (wants.Read (read_of 0 2)))) ∷
-    marked 6 (Sent 2 2 (messages.Request (tx 3 1) 1 0 (wants.Read (read_of 0 2)))) ∷ marked 1 (Got 1) ∷
-    marked 1 (Sent 3 6 (messages.Answer 1 (answers.Granted (grant_with 1 0 [])))) ∷ marked 4 (Called commands.Begin) ∷
+    marked 6 (Sent 0 0 (messages.Request (tx 3 1) 1 0 (wants.Read (first_read 0 2)))) ∷
+    marked 6 (Sent 1 1 (messages.Request (tx 3 1) 1 0 (wants.Read (first_read 0 2)))) ∷
+    marked 6 (Sent 2 2 (messages.Request (tx 3 1) 1 0 (wants.Read (first_read 0 2)))) ∷ marked 1 (Got 1) ∷
+    marked 1 (Sent 3 6 (messages.Answer 1 (answers.Granted (whole_grant 1 0 [])))) ∷ marked 4 (Called commands.Begin) ∷
     marked 6 (Got 3) ∷ marked 4 (Told (replies.Began (tx 1 1))) ∷ marked 0 (Got 0) ∷
-    marked 0 (Sent 4 6 (messages.Answer 0 (answers.Granted (grant_with 1 0 [])))) ∷ marked 6 (Lost 0) ∷
+    marked 0 (Sent 4 6 (messages.Answer 0 (answers.Granted (whole_grant 1 0 [])))) ∷ marked 6 (Lost 0) ∷
     marked 4 (Called commands.Commit) ∷ marked 4 (Wrote (commit (stamp 1 1) (tx 1 1) [])) ∷
     marked 4 (Told (replies.Committed (stamp 1 1))) ∷ marked 4 (Called commands.Begin) ∷
     marked 4 (Told (replies.Began (tx 1 2))) ∷ marked 2 (Got 2) ∷
-    marked 2 (Sent 5 6 (messages.Answer 2 (answers.Granted (grant_with 1 0 [])))) ∷ marked 6 (Got 5) ∷
+    marked 2 (Sent 5 6 (messages.Answer 2 (answers.Granted (whole_grant 1 0 [])))) ∷ marked 6 (Got 5) ∷
     marked 6 (Told (replies.Quorum halves.Read 2 4)) ∷ marked 4 (Called commands.Commit) ∷
     marked 4 (Wrote (commit (stamp 2 1) (tx 1 2) [])) ∷ marked 4 (Told (replies.Committed (stamp 2 1))) ∷
     marked 6 (Called (commands.Do 0 1)) ∷
     marked 6 (Sent 6 0 (messages.Request (tx 3 1) 1 0 (wants.Append 0 [] (own_line 1 0 2 ∷ [])))) ∷ marked 0 (Got 6) ∷
-    marked 0 (Sent 7 6 (messages.Answer 6 (answers.Granted (grant_with 1 0 [])))) ∷ marked 6 (Got 7) ∷
+    marked 0 (Sent 7 6 (messages.Answer 6 (answers.Granted (whole_grant 1 0 [])))) ∷ marked 6 (Got 7) ∷
     marked 6 (Told (replies.Response 2)) ∷ marked 6 (Called commands.Commit) ∷
     marked 6 (Sent 8 0 (messages.Request (tx 3 1) 1 1 wants.Prepare)) ∷
     marked 6 (Sent 9 1 (messages.Request (tx 3 1) 1 1 wants.Prepare)) ∷
@@ -86,22 +86,22 @@ history =
     marked 6 (Told (replies.Aborted (causes.NoAnswer 1))) ∷ marked 1 (Got 14) ∷ marked 6 (Called commands.Begin) ∷
     marked 6 (Told (replies.Began (tx 3 2))) ∷ marked 6 (Called (commands.Do 0 1)) ∷
     marked 6 (Sent 16 0 (messages.Request (tx 3 2) 1 0 (wants.Append 0 [] (own_line 1 0 2 ∷ [])))) ∷ marked 0 (Got 13) ∷
-    marked 0 (Got 16) ∷ marked 0 (Sent 17 6 (messages.Answer 16 (answers.Granted (grant_with 1 0 []))))
+    marked 0 (Got 16) ∷ marked 0 (Sent 17 6 (messages.Answer 16 (answers.Granted (whole_grant 1 0 []))))
     ∷ marked 2 (Got 15) ∷
     marked 6 (Got 17) ∷ marked 6 (Told (replies.Response 2)) ∷ marked 6 (Called (commands.Do 0 0)) ∷
-    marked 6 (Sent 18 0 (messages.Request (tx 3 2) 1 1 (wants.Read (read_of 0 0)))) ∷
-    marked 6 (Sent 19 1 (messages.Request (tx 3 2) 1 0 (wants.Read (read_of 0 0)))) ∷ marked 1 (Got 19) ∷
-    marked 1 (Sent 20 6 (messages.Answer 19 (answers.Granted (grant_with 1 0 [])))) ∷ marked 6 (Got 20)
+    marked 6 (Sent 18 0 (messages.Request (tx 3 2) 1 1 (wants.Read (first_read 0 0)))) ∷
+    marked 6 (Sent 19 1 (messages.Request (tx 3 2) 1 0 (wants.Read (first_read 0 0)))) ∷ marked 1 (Got 19) ∷
+    marked 1 (Sent 20 6 (messages.Answer 19 (answers.Granted (whole_grant 1 0 [])))) ∷ marked 6 (Got 20)
     ∷ marked 0 (Got 18) ∷
-    marked 0 (Sent 21 6 (messages.Answer 18 (answers.Granted (grant_with 1 0 [])))) ∷ marked 6 (Got 21) ∷
+    marked 0 (Sent 21 6 (messages.Answer 18 (answers.Granted (whole_grant 1 0 [])))) ∷ marked 6 (Got 21) ∷
     marked 6 (Told (replies.Response 0)) ∷ marked 6 (Called (commands.Do 0 1)) ∷
     marked 6 (Sent 22 0 (messages.Request (tx 3 2) 1 1 (wants.Append 0 [] (own_line 1 0 2 ∷ own_line 3 0 2 ∷ [])))) ∷
     marked 6 (Lost 22) ∷
     marked 6 (Sent 23 1 (messages.Request (tx 3 2) 1 1 (wants.Append 0 [] (own_line 1 0 2 ∷ own_line 3 0 2 ∷ [])))) ∷
-    marked 1 (Got 23) ∷ marked 1 (Sent 24 6 (messages.Answer 23 (answers.Granted (grant_with 1 0 []))))
+    marked 1 (Got 23) ∷ marked 1 (Sent 24 6 (messages.Answer 23 (answers.Granted (whole_grant 1 0 []))))
     ∷ marked 6 (Got 24) ∷
     marked 6 (Sent 25 2 (messages.Request (tx 3 2) 1 0 (wants.Append 0 [] (own_line 1 0 2 ∷ own_line 3 0 2 ∷ [])))) ∷
-    marked 2 (Got 25) ∷ marked 2 (Sent 26 6 (messages.Answer 25 (answers.Granted (grant_with 1 0 []))))
+    marked 2 (Got 25) ∷ marked 2 (Sent 26 6 (messages.Answer 25 (answers.Granted (whole_grant 1 0 []))))
     ∷ marked 6 (Got 26) ∷
     marked 6 (Told (replies.Response 2)) ∷ marked 6 (Called commands.Commit) ∷
     marked 6 (Sent 27 0 (messages.Request (tx 3 2) 1 1 wants.Prepare)) ∷
@@ -123,25 +123,25 @@ history =
     marked 4 (Called commands.Begin) ∷ marked 1 (Sent 36 6 (messages.Answer 9 answers.Stale)) ∷
     marked 4 (Told (replies.Began (tx 1 3))) ∷ marked 1 (Got 34) ∷ marked 0 (Got 22) ∷ marked 6 (Got 4) ∷
     marked 1 (Wrote (records.Done (tx 3 2) 1))
-    ∷ marked 0 (Sent 37 6 (messages.Answer 22 (answers.Granted (grant_with 1 1 [])))) ∷
+    ∷ marked 0 (Sent 37 6 (messages.Answer 22 (answers.Granted (whole_grant 1 1 [])))) ∷
     marked 4 (Called commands.Commit) ∷ marked 4 (Wrote (commit (stamp 3 1) (tx 1 3) [])) ∷
     marked 4 (Told (replies.Committed (stamp 3 1))) ∷ marked 6 (Got 36) ∷ marked 5 (Called (commands.Do 0 1)) ∷
     marked 5 (Sent 38 2 (messages.Request (tx 2 1) 1 0 (wants.Append 0 [] (own_line 1 0 2 ∷ [])))) ∷
     marked 5 (Sent 39 0 (messages.Request (tx 2 1) 1 0 (wants.Append 0 [] (own_line 1 0 2 ∷ [])))) ∷ marked 0 (Got 39) ∷
-    marked 2 (Got 38) ∷ marked 2 (Sent 40 5 (messages.Answer 38 (answers.Granted (grant_with 1 1 []))))
+    marked 2 (Got 38) ∷ marked 2 (Sent 40 5 (messages.Answer 38 (answers.Granted (whole_grant 1 1 []))))
     ∷ marked 6 (Got 37) ∷
-    marked 0 (Sent 41 5 (messages.Answer 39 (answers.Granted (grant_with 1 1 [])))) ∷ marked 5 (Got 40) ∷
+    marked 0 (Sent 41 5 (messages.Answer 39 (answers.Granted (whole_grant 1 1 [])))) ∷ marked 5 (Got 40) ∷
     marked 6 (Called commands.Begin) ∷ marked 5 (Lost 39) ∷
     marked 5 (Sent 42 1 (messages.Request (tx 2 1) 1 0 (wants.Append 0 [] (own_line 1 0 2 ∷ [])))) ∷ marked 1 (Got 42) ∷
-    marked 1 (Sent 43 5 (messages.Answer 42 (answers.Granted (grant_with 1 1 [])))) ∷ marked 5 (Got 43) ∷
+    marked 1 (Sent 43 5 (messages.Answer 42 (answers.Granted (whole_grant 1 1 [])))) ∷ marked 5 (Got 43) ∷
     marked 5 (Told (replies.Response 2)) ∷ marked 5 (Called commands.Abort) ∷
     marked 5 (Sent 44 0 (messages.Decision (tx 2 1) outcomes.Aborted)) ∷
     marked 5 (Sent 45 1 (messages.Decision (tx 2 1) outcomes.Aborted)) ∷
     marked 5 (Sent 46 2 (messages.Decision (tx 2 1) outcomes.Aborted)) ∷ marked 5 (Told replies.Dropped) ∷
     marked 0 (Got 44) ∷ marked 2 (Got 46) ∷ marked 6 (Told (replies.Began (tx 3 3))) ∷
     marked 6 (Called (commands.Do 0 0))
-    ∷ marked 6 (Sent 47 0 (messages.Request (tx 3 3) 1 0 (wants.Read (read_of 0 0)))) ∷
-    marked 6 (Sent 48 1 (messages.Request (tx 3 3) 1 0 (wants.Read (read_of 0 0)))) ∷ marked 0 (Got 47)
+    ∷ marked 6 (Sent 47 0 (messages.Request (tx 3 3) 1 0 (wants.Read (first_read 0 0)))) ∷
+    marked 6 (Sent 48 1 (messages.Request (tx 3 3) 1 0 (wants.Read (first_read 0 0)))) ∷ marked 0 (Got 47)
     ∷ marked 1 (Got 48) ∷
     marked 1 (Sent 49 6 (messages.Answer 48 (answers.Clash (tx 2 1) 0 2))) ∷
     marked 1 (Sent 50 5 (messages.Inquiry (tx 2 1))) ∷ marked 6 (Got 49) ∷

@@ -14,7 +14,7 @@ use Rattle.qc_msg.specs.declared.message.Outcome.TheVariants as outcomes
 use Rattle.qc_msg.specs.declared.record.Record.TheVariants as records
 use Rattle.qc_msg.specs.declared.reply.Reply.TheVariants as replies
 use Rattle.qc_msg.specs.declared.message.Want.TheVariants as wants
-use Rattle.qc_msg.specs.Vocabulary.{grant_with, read_of}
+use Rattle.qc_msg.specs.Vocabulary.{whole_grant, first_read}
 
 abbrev pub decl : Declaration
 decl =
@@ -55,37 +55,38 @@ history =
     marked 4 (Called (commands.Do 0 1)) ∷
     marked 4 (Sent 0 1 (messages.Request (tx 1 1) 1 0 (wants.Append 0 [] (own_line 1 0 2 ∷ [])))) ∷
     marked 4 (Sent 1 2 (messages.Request (tx 1 1) 1 0 (wants.Append 0 [] (own_line 1 0 2 ∷ [])))) ∷ marked 2 (Got 1) ∷
-    marked 2 (Sent 2 4 (messages.Answer 1 (answers.Granted (grant_with 1 0 [])))) ∷ marked 4 (Got 2) ∷ marked 1 (Got 0)
+    marked 2 (Sent 2 4 (messages.Answer 1 (answers.Granted (whole_grant 1 0 [])))) ∷ marked 4 (Got 2) ∷ marked 1 (Got 0)
     ∷
-    marked 1 (Sent 3 4 (messages.Answer 0 (answers.Granted (grant_with 1 0 [])))) ∷ marked 4 (Lost 0) ∷
+    marked 1 (Sent 3 4 (messages.Answer 0 (answers.Granted (whole_grant 1 0 [])))) ∷ marked 4 (Lost 0) ∷
     marked 4 (Sent 4 0 (messages.Request (tx 1 1) 1 0 (wants.Append 0 [] (own_line 1 0 2 ∷ [])))) ∷ marked 0 (Got 4) ∷
-    marked 0 (Sent 5 4 (messages.Answer 4 (answers.Granted (grant_with 1 0 [])))) ∷ marked 4 (Got 5) ∷
+    marked 0 (Sent 5 4 (messages.Answer 4 (answers.Granted (whole_grant 1 0 [])))) ∷ marked 4 (Got 5) ∷
     marked 4 (Told (replies.Response 2)) ∷ marked 4 (Called (commands.Do 0 0)) ∷
-    marked 4 (Sent 6 1 (messages.Request (tx 1 1) 1 0 (wants.Read (read_of 0 0)))) ∷
-    marked 4 (Sent 7 2 (messages.Request (tx 1 1) 1 1 (wants.Read (read_of 0 0)))) ∷ marked 2 (Got 7) ∷ marked 1 (Got 6)
+    marked 4 (Sent 6 1 (messages.Request (tx 1 1) 1 0 (wants.Read (first_read 0 0)))) ∷
+    marked 4 (Sent 7 2 (messages.Request (tx 1 1) 1 1 (wants.Read (first_read 0 0)))) ∷ marked 2 (Got 7) ∷
+    marked 1 (Got 6)
     ∷
-    marked 2 (Sent 8 4 (messages.Answer 7 (answers.Granted (grant_with 1 0 [])))) ∷ marked 4 (Got 8) ∷
-    marked 1 (Sent 9 4 (messages.Answer 6 (answers.Granted (grant_with 1 0 [])))) ∷ marked 4 (Got 9) ∷
+    marked 2 (Sent 8 4 (messages.Answer 7 (answers.Granted (whole_grant 1 0 [])))) ∷ marked 4 (Got 8) ∷
+    marked 1 (Sent 9 4 (messages.Answer 6 (answers.Granted (whole_grant 1 0 [])))) ∷ marked 4 (Got 9) ∷
     marked 4 (Sent 10 1 (messages.Request (tx 1 1) 1 1 (wants.Append 0 [] (own_line 1 0 2 ∷ own_line 2 0 0 ∷ [])))) ∷
     marked 4 (Sent 11 2 (messages.Request (tx 1 1) 1 1 (wants.Append 0 [] (own_line 1 0 2 ∷ own_line 2 0 0 ∷ [])))) ∷
-    marked 2 (Got 11) ∷ marked 2 (Sent 12 4 (messages.Answer 11 (answers.Granted (grant_with 1 0 []))))
+    marked 2 (Got 11) ∷ marked 2 (Sent 12 4 (messages.Answer 11 (answers.Granted (whole_grant 1 0 []))))
     ∷ marked 4 (Got 12) ∷
-    marked 1 (Got 10) ∷ marked 1 (Sent 13 4 (messages.Answer 10 (answers.Granted (grant_with 1 0 []))))
+    marked 1 (Got 10) ∷ marked 1 (Sent 13 4 (messages.Answer 10 (answers.Granted (whole_grant 1 0 []))))
     ∷ marked 4 (Got 13) ∷
     marked 4 (Told (replies.Response 0)) ∷ marked 4 (Called (commands.Do 0 0)) ∷
-    marked 4 (Sent 14 1 (messages.Request (tx 1 1) 1 1 (wants.Read (read_of 0 0)))) ∷
-    marked 4 (Sent 15 2 (messages.Request (tx 1 1) 1 1 (wants.Read (read_of 0 0)))) ∷ marked 2 (Got 15) ∷
-    marked 2 (Sent 16 4 (messages.Answer 15 (answers.Granted (grant_with 1 0 [])))) ∷ marked 4 (Got 16)
+    marked 4 (Sent 14 1 (messages.Request (tx 1 1) 1 1 (wants.Read (first_read 0 0)))) ∷
+    marked 4 (Sent 15 2 (messages.Request (tx 1 1) 1 1 (wants.Read (first_read 0 0)))) ∷ marked 2 (Got 15) ∷
+    marked 2 (Sent 16 4 (messages.Answer 15 (answers.Granted (whole_grant 1 0 [])))) ∷ marked 4 (Got 16)
     ∷ marked 1 (Got 14) ∷
-    marked 1 (Sent 17 4 (messages.Answer 14 (answers.Granted (grant_with 1 0 [])))) ∷ marked 4 (Got 17) ∷
+    marked 1 (Sent 17 4 (messages.Answer 14 (answers.Granted (whole_grant 1 0 [])))) ∷ marked 4 (Got 17) ∷
     marked 4 (Told (replies.Response 1)) ∷ marked 4 (Called (commands.Do 0 1)) ∷
     marked 4 (Sent 18 1 (messages.Request (tx 1 1) 1 1 (wants.Append 0 [] (own_line 1 0 2 ∷ own_line 2 0 0 ∷ own_line 4
     0 2 ∷ [])))) ∷
     marked 4 (Sent 19 2 (messages.Request (tx 1 1) 1 1 (wants.Append 0 [] (own_line 1 0 2 ∷ own_line 2 0 0 ∷ own_line 4
     0 2 ∷ [])))) ∷
     marked 2 (Got 19) ∷ marked 1 (Got 18)
-    ∷ marked 2 (Sent 20 4 (messages.Answer 19 (answers.Granted (grant_with 1 0 [])))) ∷
-    marked 1 (Sent 21 4 (messages.Answer 18 (answers.Granted (grant_with 1 0 [])))) ∷ marked 4 (Got 20)
+    ∷ marked 2 (Sent 20 4 (messages.Answer 19 (answers.Granted (whole_grant 1 0 [])))) ∷
+    marked 1 (Sent 21 4 (messages.Answer 18 (answers.Granted (whole_grant 1 0 [])))) ∷ marked 4 (Got 20)
     ∷ marked 4 (Got 21) ∷
     marked 4 (Told (replies.Response 2)) ∷ marked 4 (Called commands.Abort) ∷
     marked 4 (Sent 22 0 (messages.Decision (tx 1 1) outcomes.Aborted)) ∷
@@ -93,16 +94,16 @@ history =
     marked 4 (Sent 24 2 (messages.Decision (tx 1 1) outcomes.Aborted)) ∷ marked 4 (Told replies.Dropped) ∷
     marked 2 (Got 24) ∷ marked 0 (Got 22) ∷ marked 1 (Got 23) ∷ marked 6 (Phase 2) ∷ marked 4 (Got 3) ∷
     marked 4 (Called commands.Begin) ∷ marked 4 (Told (replies.Began (tx 1 2))) ∷ marked 4 (Called (commands.Do 0 0)) ∷
-    marked 4 (Sent 25 1 (messages.Request (tx 1 2) 1 0 (wants.Read (read_of 0 0)))) ∷
-    marked 4 (Sent 26 2 (messages.Request (tx 1 2) 1 0 (wants.Read (read_of 0 0)))) ∷ marked 1 (Got 25) ∷
-    marked 1 (Sent 27 4 (messages.Answer 25 (answers.Granted (grant_with 1 0 [])))) ∷ marked 2 (Got 26)
+    marked 4 (Sent 25 1 (messages.Request (tx 1 2) 1 0 (wants.Read (first_read 0 0)))) ∷
+    marked 4 (Sent 26 2 (messages.Request (tx 1 2) 1 0 (wants.Read (first_read 0 0)))) ∷ marked 1 (Got 25) ∷
+    marked 1 (Sent 27 4 (messages.Answer 25 (answers.Granted (whole_grant 1 0 [])))) ∷ marked 2 (Got 26)
     ∷ marked 4 (Got 27) ∷
-    marked 2 (Sent 28 4 (messages.Answer 26 (answers.Granted (grant_with 1 0 [])))) ∷ marked 4 (Got 28) ∷
+    marked 2 (Sent 28 4 (messages.Answer 26 (answers.Granted (whole_grant 1 0 [])))) ∷ marked 4 (Got 28) ∷
     marked 4 (Sent 29 1 (messages.Request (tx 1 2) 1 1 (wants.Append 0 [] (own_line 1 0 0 ∷ [])))) ∷
     marked 4 (Sent 30 2 (messages.Request (tx 1 2) 1 1 (wants.Append 0 [] (own_line 1 0 0 ∷ [])))) ∷ marked 1 (Got 29) ∷
-    marked 1 (Sent 31 4 (messages.Answer 29 (answers.Granted (grant_with 1 0 [])))) ∷ marked 4 (Got 31)
+    marked 1 (Sent 31 4 (messages.Answer 29 (answers.Granted (whole_grant 1 0 [])))) ∷ marked 4 (Got 31)
     ∷ marked 2 (Got 30) ∷
-    marked 2 (Sent 32 4 (messages.Answer 30 (answers.Granted (grant_with 1 0 [])))) ∷ marked 4 (Got 32) ∷
+    marked 2 (Sent 32 4 (messages.Answer 30 (answers.Granted (whole_grant 1 0 [])))) ∷ marked 4 (Got 32) ∷
     marked 4 (Told (replies.Response 0)) ∷ marked 4 (Called commands.Commit) ∷
     marked 4 (Sent 33 1 (messages.Request (tx 1 2) 1 1 wants.Prepare)) ∷
     marked 4 (Sent 34 2 (messages.Request (tx 1 2) 1 1 wants.Prepare)) ∷ marked 1 (Got 33) ∷
@@ -118,41 +119,41 @@ history =
     marked 3 (Called commands.Begin) ∷ marked 3 (Told (replies.Began (tx 0 1))) ∷ marked 3 (Called (commands.Do 0 1)) ∷
     marked 3 (Sent 39 0 (messages.Request (tx 0 1) 1 0 (wants.Append 0 [] (own_line 1 0 2 ∷ [])))) ∷
     marked 3 (Sent 40 1 (messages.Request (tx 0 1) 1 0 (wants.Append 0 [] (own_line 1 0 2 ∷ [])))) ∷ marked 1 (Got 40) ∷
-    marked 1 (Sent 41 3 (messages.Answer 40 (answers.Granted (grant_with 1 1 [])))) ∷ marked 3 (Got 41)
+    marked 1 (Sent 41 3 (messages.Answer 40 (answers.Granted (whole_grant 1 1 [])))) ∷ marked 3 (Got 41)
     ∷ marked 3 (Lost 39) ∷
     marked 3 (Sent 42 2 (messages.Request (tx 0 1) 1 0 (wants.Append 0 [] (own_line 1 0 2 ∷ [])))) ∷ marked 2 (Got 42) ∷
-    marked 2 (Sent 43 3 (messages.Answer 42 (answers.Granted (grant_with 1 1 [])))) ∷ marked 3 (Got 43) ∷
+    marked 2 (Sent 43 3 (messages.Answer 42 (answers.Granted (whole_grant 1 1 [])))) ∷ marked 3 (Got 43) ∷
     marked 3 (Told (replies.Response 2)) ∷ marked 3 (Called (commands.Do 0 0)) ∷
-    marked 3 (Sent 44 0 (messages.Request (tx 0 1) 1 0 (wants.Read (read_of 0 0)))) ∷
-    marked 3 (Sent 45 1 (messages.Request (tx 0 1) 1 1 (wants.Read (read_of 0 0)))) ∷ marked 1 (Got 45) ∷
-    marked 1 (Sent 46 3 (messages.Answer 45 (answers.Granted (grant_with 1 1 (line 1 1 2 1 0 0 ∷ [])))))
+    marked 3 (Sent 44 0 (messages.Request (tx 0 1) 1 0 (wants.Read (first_read 0 0)))) ∷
+    marked 3 (Sent 45 1 (messages.Request (tx 0 1) 1 1 (wants.Read (first_read 0 0)))) ∷ marked 1 (Got 45) ∷
+    marked 1 (Sent 46 3 (messages.Answer 45 (answers.Granted (whole_grant 1 1 (line 1 1 2 1 0 0 ∷ [])))))
     ∷ marked 3 (Got 46) ∷
-    marked 3 (Lost 44) ∷ marked 3 (Sent 47 2 (messages.Request (tx 0 1) 1 1 (wants.Read (read_of 0 0))))
+    marked 3 (Lost 44) ∷ marked 3 (Sent 47 2 (messages.Request (tx 0 1) 1 1 (wants.Read (first_read 0 0))))
     ∷ marked 2 (Got 47) ∷
-    marked 2 (Sent 48 3 (messages.Answer 47 (answers.Granted (grant_with 1 1 (line 1 1 2 1 0 0 ∷ [])))))
+    marked 2 (Sent 48 3 (messages.Answer 47 (answers.Granted (whole_grant 1 1 (line 1 1 2 1 0 0 ∷ [])))))
     ∷ marked 3 (Got 48) ∷
     marked 3 (Sent 49 0 (messages.Request (tx 0 1) 1 0 (wants.Append 0 (line 1 1 2 1 0 0 ∷ []) (own_line 1 0 2 ∷
     own_line 2 0 0 ∷ [])))) ∷
     marked 3 (Sent 50 1 (messages.Request (tx 0 1) 1 1 (wants.Append 0 (line 1 1 2 1 0 0 ∷ []) (own_line 1 0 2 ∷
     own_line 2 0 0 ∷ [])))) ∷
-    marked 1 (Got 50) ∷ marked 1 (Sent 51 3 (messages.Answer 50 (answers.Granted (grant_with 1 1 []))))
+    marked 1 (Got 50) ∷ marked 1 (Sent 51 3 (messages.Answer 50 (answers.Granted (whole_grant 1 1 []))))
     ∷ marked 3 (Got 51) ∷
     marked 3 (Lost 49) ∷
     marked 3 (Sent 52 2 (messages.Request (tx 0 1) 1 1 (wants.Append 0 (line 1 1 2 1 0 0 ∷ []) (own_line 1 0 2 ∷
     own_line 2 0 0 ∷ [])))) ∷
-    marked 2 (Got 52) ∷ marked 2 (Sent 53 3 (messages.Answer 52 (answers.Granted (grant_with 1 1 []))))
+    marked 2 (Got 52) ∷ marked 2 (Sent 53 3 (messages.Answer 52 (answers.Granted (whole_grant 1 1 []))))
     ∷ marked 3 (Got 53) ∷
     marked 3 (Told (replies.Response 0)) ∷ marked 3 (Called (commands.Do 0 1)) ∷
     marked 3 (Sent 54 0 (messages.Request (tx 0 1) 1 0 (wants.Append 0 (line 1 1 2 1 0 0 ∷ []) (own_line 1 0 2 ∷
     own_line 2 0 0 ∷ own_line 3 0 2 ∷ [])))) ∷
     marked 3 (Sent 55 1 (messages.Request (tx 0 1) 1 1 (wants.Append 0 (line 1 1 2 1 0 0 ∷ []) (own_line 1 0 2 ∷
     own_line 2 0 0 ∷ own_line 3 0 2 ∷ [])))) ∷
-    marked 1 (Got 55) ∷ marked 1 (Sent 56 3 (messages.Answer 55 (answers.Granted (grant_with 1 1 []))))
+    marked 1 (Got 55) ∷ marked 1 (Sent 56 3 (messages.Answer 55 (answers.Granted (whole_grant 1 1 []))))
     ∷ marked 3 (Got 56) ∷
     marked 3 (Lost 54) ∷
     marked 3 (Sent 57 2 (messages.Request (tx 0 1) 1 1 (wants.Append 0 (line 1 1 2 1 0 0 ∷ []) (own_line 1 0 2 ∷
     own_line 2 0 0 ∷ own_line 3 0 2 ∷ [])))) ∷
-    marked 2 (Got 57) ∷ marked 2 (Sent 58 3 (messages.Answer 57 (answers.Granted (grant_with 1 1 []))))
+    marked 2 (Got 57) ∷ marked 2 (Sent 58 3 (messages.Answer 57 (answers.Granted (whole_grant 1 1 []))))
     ∷ marked 3 (Got 58) ∷
     marked 3 (Told (replies.Response 2)) ∷ marked 3 (Called commands.Commit) ∷
     marked 3 (Sent 59 1 (messages.Request (tx 0 1) 1 1 wants.Prepare)) ∷

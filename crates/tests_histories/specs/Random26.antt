@@ -16,7 +16,7 @@ use Rattle.qc_msg.specs.declared.message.Outcome.TheVariants as outcomes
 use Rattle.qc_msg.specs.declared.record.Record.TheVariants as records
 use Rattle.qc_msg.specs.declared.reply.Reply.TheVariants as replies
 use Rattle.qc_msg.specs.declared.message.Want.TheVariants as wants
-use Rattle.qc_msg.specs.Vocabulary.{grant_with, read_of}
+use Rattle.qc_msg.specs.Vocabulary.{whole_grant, first_read}
 
 abbrev pub decl : Declaration
 decl =
@@ -59,21 +59,22 @@ moves =
 abbrev pub history : List Entry
 history =
     marked 5 (Phase 1) ∷ marked 3 (Called commands.Begin) ∷ marked 3 (Told (replies.Began (tx 1 1))) ∷
-    marked 3 (Called (commands.Do 0 0)) ∷ marked 3 (Sent 0 1 (messages.Request (tx 1 1) 1 0 (wants.Read (read_of 0 0))))
+    marked 3 (Called (commands.Do 0 0)) ∷
+    marked 3 (Sent 0 1 (messages.Request (tx 1 1) 1 0 (wants.Read (first_read 0 0))))
     ∷
-    marked 1 (Got 0) ∷ marked 1 (Sent 1 3 (messages.Answer 0 (answers.Granted (grant_with 1 0 [])))) ∷ marked 3 (Got 1)
+    marked 1 (Got 0) ∷ marked 1 (Sent 1 3 (messages.Answer 0 (answers.Granted (whole_grant 1 0 [])))) ∷ marked 3 (Got 1)
     ∷
     marked 3 (Sent 2 1 (messages.Request (tx 1 1) 1 1 (wants.Append 0 [] (own_line 1 0 1 ∷ [])))) ∷ marked 1 (Got 2) ∷
-    marked 1 (Sent 3 3 (messages.Answer 2 (answers.Granted (grant_with 1 0 [])))) ∷ marked 3 (Got 3) ∷
+    marked 1 (Sent 3 3 (messages.Answer 2 (answers.Granted (whole_grant 1 0 [])))) ∷ marked 3 (Got 3) ∷
     marked 3 (Told (replies.Response 0)) ∷ marked 5 (Phase 2) ∷ marked 3 (Called commands.Commit) ∷
     marked 3 (Sent 4 1 (messages.Request (tx 1 1) 1 1 wants.Prepare)) ∷ marked 3 (Lost 4) ∷
     marked 3 (Sent 5 1 (messages.Decision (tx 1 1) outcomes.Aborted)) ∷
     marked 3 (Told (replies.Aborted (causes.NoAnswer 1))) ∷ marked 1 (Got 5) ∷ marked 3 (Called commands.Begin) ∷
     marked 3 (Told (replies.Began (tx 1 2))) ∷ marked 3 (Called (commands.Do 0 0)) ∷
-    marked 3 (Sent 6 1 (messages.Request (tx 1 2) 1 0 (wants.Read (read_of 0 0)))) ∷ marked 1 (Got 6) ∷
-    marked 1 (Sent 7 3 (messages.Answer 6 (answers.Granted (grant_with 1 0 [])))) ∷ marked 3 (Got 7) ∷
+    marked 3 (Sent 6 1 (messages.Request (tx 1 2) 1 0 (wants.Read (first_read 0 0)))) ∷ marked 1 (Got 6) ∷
+    marked 1 (Sent 7 3 (messages.Answer 6 (answers.Granted (whole_grant 1 0 [])))) ∷ marked 3 (Got 7) ∷
     marked 3 (Sent 8 1 (messages.Request (tx 1 2) 1 1 (wants.Append 0 [] (own_line 1 0 1 ∷ [])))) ∷ marked 1 (Got 8) ∷
-    marked 1 (Sent 9 3 (messages.Answer 8 (answers.Granted (grant_with 1 0 [])))) ∷ marked 3 (Got 9) ∷
+    marked 1 (Sent 9 3 (messages.Answer 8 (answers.Granted (whole_grant 1 0 [])))) ∷ marked 3 (Got 9) ∷
     marked 3 (Told (replies.Response 0)) ∷ marked 3 (Called commands.Commit) ∷
     marked 3 (Sent 10 1 (messages.Request (tx 1 2) 1 1 wants.Prepare)) ∷ marked 1 (Got 10) ∷
     marked 1 (Wrote (prepare (tx 1 2) 1 (read_lock 0 0 ∷ []) (own_line 1 0 1 ∷ []) [])) ∷
@@ -82,13 +83,13 @@ history =
     marked 3 (Sent 12 1 (messages.Decision (tx 1 2) (outcomes.Committed (stamp 1 1)))) ∷
     marked 3 (Told (replies.Committed (stamp 1 1))) ∷ marked 3 (Called commands.Begin) ∷
     marked 3 (Told (replies.Began (tx 1 3))) ∷ marked 3 (Called (commands.Do 1 1)) ∷
-    marked 3 (Sent 13 1 (messages.Request (tx 1 3) 1 0 (wants.Read (read_of 1 1)))) ∷ marked 1 (Got 12) ∷
+    marked 3 (Sent 13 1 (messages.Request (tx 1 3) 1 0 (wants.Read (first_read 1 1)))) ∷ marked 1 (Got 12) ∷
     marked 1 (Wrote (records.Done (tx 1 2) 1)) ∷ marked 1 (Got 13) ∷
-    marked 1 (Sent 14 3 (messages.Answer 13 (answers.Granted (grant_with 1 1 [])))) ∷ marked 3 (Got 14) ∷
+    marked 1 (Sent 14 3 (messages.Answer 13 (answers.Granted (whole_grant 1 1 [])))) ∷ marked 3 (Got 14) ∷
     marked 3 (Sent 15 1 (messages.Request (tx 1 3) 1 1 (wants.Append 1 [] (own_line 1 1 2 ∷ [])))) ∷
     marked 3 (Sent 16 0 (messages.Request (tx 1 3) 1 0 (wants.Append 1 [] (own_line 1 1 2 ∷ [])))) ∷ marked 0 (Got 16) ∷
-    marked 0 (Sent 17 3 (messages.Answer 16 (answers.Granted (grant_with 1 0 [])))) ∷ marked 1 (Got 15) ∷
-    marked 1 (Sent 18 3 (messages.Answer 15 (answers.Granted (grant_with 1 1 [])))) ∷ marked 3 (Got 17)
+    marked 0 (Sent 17 3 (messages.Answer 16 (answers.Granted (whole_grant 1 0 [])))) ∷ marked 1 (Got 15) ∷
+    marked 1 (Sent 18 3 (messages.Answer 15 (answers.Granted (whole_grant 1 1 [])))) ∷ marked 3 (Got 17)
     ∷ marked 3 (Got 18) ∷
     marked 3 (Told (replies.Response 2)) ∷ marked 3 (Called commands.Commit) ∷
     marked 3 (Sent 19 1 (messages.Request (tx 1 3) 1 1 wants.Prepare)) ∷
@@ -104,8 +105,8 @@ history =
     marked 1 (Got 24) ∷ marked 1 (Wrote (records.Done (tx 1 3) 2)) ∷ marked 5 (Phase 3) ∷
     marked 3 (Called commands.Abort) ∷ marked 2 (Called commands.Abort) ∷ marked 3 (Told replies.NoTransaction) ∷
     marked 3 (Called commands.Begin) ∷ marked 3 (Told (replies.Began (tx 1 4))) ∷ marked 3 (Called (commands.Do 0 0)) ∷
-    marked 3 (Sent 25 1 (messages.Request (tx 1 4) 1 0 (wants.Read (read_of 0 0)))) ∷ marked 1 (Got 25) ∷
-    marked 1 (Sent 26 3 (messages.Answer 25 (answers.Granted (grant_with 1 2 (line 1 1 2 1 0 1 ∷ [])))))
+    marked 3 (Sent 25 1 (messages.Request (tx 1 4) 1 0 (wants.Read (first_read 0 0)))) ∷ marked 1 (Got 25) ∷
+    marked 1 (Sent 26 3 (messages.Answer 25 (answers.Granted (whole_grant 1 2 (line 1 1 2 1 0 1 ∷ [])))))
     ∷ marked 3 (Got 26) ∷
     marked 3 (Told replies.Absent) ∷ marked 3 (Called commands.Commit) ∷
     marked 3 (Sent 27 1 (messages.Request (tx 1 4) 1 1 wants.Prepare)) ∷ marked 1 (Got 27) ∷
@@ -116,13 +117,13 @@ history =
     marked 3 (Told (replies.Committed (stamp 3 1))) ∷ marked 1 (Got 29) ∷ marked 3 (Called commands.Begin) ∷
     marked 1 (Wrote (records.Done (tx 1 4) 3)) ∷ marked 3 (Told (replies.Began (tx 1 5))) ∷
     marked 3 (Called (commands.Do 0 1))
-    ∷ marked 3 (Sent 30 1 (messages.Request (tx 1 5) 1 0 (wants.Read (read_of 0 1)))) ∷
+    ∷ marked 3 (Sent 30 1 (messages.Request (tx 1 5) 1 0 (wants.Read (first_read 0 1)))) ∷
     marked 1 (Got 30)
-    ∷ marked 1 (Sent 31 3 (messages.Answer 30 (answers.Granted (grant_with 1 3 (line 1 1 2 1 0 1 ∷ []))))) ∷
+    ∷ marked 1 (Sent 31 3 (messages.Answer 30 (answers.Granted (whole_grant 1 3 (line 1 1 2 1 0 1 ∷ []))))) ∷
     marked 3 (Got 31) ∷
     marked 3 (Sent 32 1 (messages.Request (tx 1 5) 1 1 (wants.Append 0 (line 1 1 2 1 0 1 ∷ []) (own_line 1 0 2 ∷ []))))
     ∷
-    marked 1 (Got 32) ∷ marked 1 (Sent 33 3 (messages.Answer 32 (answers.Granted (grant_with 1 3 []))))
+    marked 1 (Got 32) ∷ marked 1 (Sent 33 3 (messages.Answer 32 (answers.Granted (whole_grant 1 3 []))))
     ∷ marked 3 (Got 33) ∷
     marked 3 (Told (replies.Response 2)) ∷ marked 3 (Called commands.Commit) ∷
     marked 3 (Sent 34 1 (messages.Request (tx 1 5) 1 1 wants.Prepare)) ∷ marked 1 (Got 34) ∷
@@ -133,16 +134,16 @@ history =
     marked 3 (Told (replies.Committed (stamp 4 1))) ∷ marked 1 (Got 36) ∷ marked 1 (Wrote (records.Done (tx 1 5) 4)) ∷
     marked 2 (Told replies.NoTransaction) ∷ marked 2 (Called commands.Begin) ∷
     marked 2 (Told (replies.Began (tx 0 1))) ∷ marked 2 (Called (commands.Do 1 2)) ∷
-    marked 2 (Sent 37 0 (messages.Request (tx 0 1) 1 0 (wants.Read (read_of 1 2)))) ∷ marked 0 (Got 37) ∷
-    marked 0 (Sent 38 2 (messages.Answer 37 (answers.Granted (grant_with 1 2 (line 2 1 3 1 1 2 ∷ [])))))
+    marked 2 (Sent 37 0 (messages.Request (tx 0 1) 1 0 (wants.Read (first_read 1 2)))) ∷ marked 0 (Got 37) ∷
+    marked 0 (Sent 38 2 (messages.Answer 37 (answers.Granted (whole_grant 1 2 (line 2 1 3 1 1 2 ∷ [])))))
     ∷ marked 2 (Got 38) ∷
     marked 2 (Sent 39 0 (messages.Request (tx 0 1) 1 1 (wants.Append 1 (line 2 1 3 1 1 2 ∷ []) (own_line 1 1 3 ∷ []))))
     ∷
     marked 2 (Sent 40 1 (messages.Request (tx 0 1) 1 0 (wants.Append 1 (line 2 1 3 1 1 2 ∷ []) (own_line 1 1 3 ∷ []))))
     ∷
     marked 0 (Got 39) ∷ marked 1 (Got 40)
-    ∷ marked 1 (Sent 41 2 (messages.Answer 40 (answers.Granted (grant_with 1 4 [])))) ∷
-    marked 2 (Got 41) ∷ marked 0 (Sent 42 2 (messages.Answer 39 (answers.Granted (grant_with 1 2 []))))
+    ∷ marked 1 (Sent 41 2 (messages.Answer 40 (answers.Granted (whole_grant 1 4 [])))) ∷
+    marked 2 (Got 41) ∷ marked 0 (Sent 42 2 (messages.Answer 39 (answers.Granted (whole_grant 1 2 []))))
     ∷ marked 2 (Got 42) ∷
     marked 2 (Told (replies.Response 0)) ∷ marked 2 (Called commands.Commit) ∷
     marked 2 (Sent 43 0 (messages.Request (tx 0 1) 1 1 wants.Prepare)) ∷
@@ -158,8 +159,8 @@ history =
     marked 1 (Wrote (records.Done (tx 0 1) 5)) ∷ marked 2 (Called commands.Begin) ∷
     marked 2 (Told (replies.Began (tx 0 2))) ∷ marked 2 (Called (commands.Do 0 2)) ∷
     marked 0 (Wrote (records.Done (tx 0 1) 5))
-    ∷ marked 2 (Sent 49 0 (messages.Request (tx 0 2) 1 0 (wants.Read (read_of 0 2)))) ∷
-    marked 2 (Sent 50 1 (messages.Request (tx 0 2) 1 0 (wants.Read (read_of 0 2)))) ∷ marked 2 (Lost 49)
+    ∷ marked 2 (Sent 49 0 (messages.Request (tx 0 2) 1 0 (wants.Read (first_read 0 2)))) ∷
+    marked 2 (Sent 50 1 (messages.Request (tx 0 2) 1 0 (wants.Read (first_read 0 2)))) ∷ marked 2 (Lost 49)
     ∷ marked 2 (Lost 50) ∷
     marked 2 (Told (replies.Quorum halves.Read 0 3)) ∷ marked 2 (Called commands.Commit) ∷
     marked 2 (Wrote (commit (stamp 6 0) (tx 0 2) [])) ∷

@@ -14,7 +14,7 @@ use Rattle.qc_msg.specs.declared.message.Outcome.TheVariants as outcomes
 use Rattle.qc_msg.specs.declared.record.Record.TheVariants as records
 use Rattle.qc_msg.specs.declared.reply.Reply.TheVariants as replies
 use Rattle.qc_msg.specs.declared.message.Want.TheVariants as wants
-use Rattle.qc_msg.specs.Vocabulary.{grant_with, read_of}
+use Rattle.qc_msg.specs.Vocabulary.{whole_grant, first_read}
 
 abbrev pub decl : Declaration
 decl =
@@ -57,23 +57,24 @@ moves =
 abbrev pub history : List Entry
 history =
     marked 5 (Phase 1) ∷ marked 3 (Called commands.Begin) ∷ marked 3 (Told (replies.Began (tx 0 1))) ∷
-    marked 3 (Called (commands.Do 1 2)) ∷ marked 3 (Sent 0 0 (messages.Request (tx 0 1) 1 0 (wants.Read (read_of 1 2))))
+    marked 3 (Called (commands.Do 1 2)) ∷
+    marked 3 (Sent 0 0 (messages.Request (tx 0 1) 1 0 (wants.Read (first_read 1 2))))
     ∷
-    marked 3 (Sent 1 1 (messages.Request (tx 0 1) 1 0 (wants.Read (read_of 1 2)))) ∷ marked 0 (Got 0) ∷
-    marked 0 (Sent 2 3 (messages.Answer 0 (answers.Granted (grant_with 1 0 [])))) ∷ marked 1 (Got 1) ∷
-    marked 1 (Sent 3 3 (messages.Answer 1 (answers.Granted (grant_with 1 0 [])))) ∷ marked 3 (Got 2) ∷ marked 3 (Got 3)
+    marked 3 (Sent 1 1 (messages.Request (tx 0 1) 1 0 (wants.Read (first_read 1 2)))) ∷ marked 0 (Got 0) ∷
+    marked 0 (Sent 2 3 (messages.Answer 0 (answers.Granted (whole_grant 1 0 [])))) ∷ marked 1 (Got 1) ∷
+    marked 1 (Sent 3 3 (messages.Answer 1 (answers.Granted (whole_grant 1 0 [])))) ∷ marked 3 (Got 2) ∷ marked 3 (Got 3)
     ∷
     marked 3 (Sent 4 0 (messages.Request (tx 0 1) 1 1 (wants.Append 1 [] (own_line 1 1 4 ∷ [])))) ∷ marked 0 (Got 4) ∷
-    marked 0 (Sent 5 3 (messages.Answer 4 (answers.Granted (grant_with 1 0 [])))) ∷ marked 3 (Got 5) ∷
+    marked 0 (Sent 5 3 (messages.Answer 4 (answers.Granted (whole_grant 1 0 [])))) ∷ marked 3 (Got 5) ∷
     marked 3 (Told (replies.Response 2)) ∷ marked 3 (Called (commands.Do 0 1)) ∷
-    marked 3 (Sent 6 0 (messages.Request (tx 0 1) 1 1 (wants.Read (read_of 0 1)))) ∷
-    marked 3 (Sent 7 1 (messages.Request (tx 0 1) 1 1 (wants.Read (read_of 0 1)))) ∷ marked 0 (Got 6) ∷
-    marked 0 (Sent 8 3 (messages.Answer 6 (answers.Granted (grant_with 1 0 [])))) ∷ marked 1 (Got 7) ∷
-    marked 1 (Sent 9 3 (messages.Answer 7 (answers.Granted (grant_with 1 0 [])))) ∷ marked 3 (Got 8) ∷ marked 3 (Got 9)
+    marked 3 (Sent 6 0 (messages.Request (tx 0 1) 1 1 (wants.Read (first_read 0 1)))) ∷
+    marked 3 (Sent 7 1 (messages.Request (tx 0 1) 1 1 (wants.Read (first_read 0 1)))) ∷ marked 0 (Got 6) ∷
+    marked 0 (Sent 8 3 (messages.Answer 6 (answers.Granted (whole_grant 1 0 [])))) ∷ marked 1 (Got 7) ∷
+    marked 1 (Sent 9 3 (messages.Answer 7 (answers.Granted (whole_grant 1 0 [])))) ∷ marked 3 (Got 8) ∷ marked 3 (Got 9)
     ∷
     marked 3 (Told (replies.Response 1)) ∷ marked 3 (Called (commands.Do 1 1)) ∷
-    marked 3 (Sent 10 0 (messages.Request (tx 0 1) 1 1 (wants.Read (read_of 1 1)))) ∷ marked 0 (Got 10) ∷
-    marked 0 (Sent 11 3 (messages.Answer 10 (answers.Granted (grant_with 1 0 [])))) ∷ marked 3 (Got 11) ∷
+    marked 3 (Sent 10 0 (messages.Request (tx 0 1) 1 1 (wants.Read (first_read 1 1)))) ∷ marked 0 (Got 10) ∷
+    marked 0 (Sent 11 3 (messages.Answer 10 (answers.Granted (whole_grant 1 0 [])))) ∷ marked 3 (Got 11) ∷
     marked 3 (Told (replies.Response 1)) ∷ marked 3 (Called commands.Commit) ∷
     marked 3 (Sent 12 0 (messages.Request (tx 0 1) 1 1 wants.Prepare)) ∷
     marked 3 (Sent 13 1 (messages.Request (tx 0 1) 1 1 wants.Prepare)) ∷ marked 0 (Got 12) ∷
@@ -89,23 +90,23 @@ history =
     marked 3 (Told (replies.Committed (stamp 1 0))) ∷ marked 0 (Got 16) ∷ marked 0 (Wrote (records.Done (tx 0 1) 1)) ∷
     marked 1 (Got 17) ∷ marked 1 (Wrote (records.Done (tx 0 1) 1)) ∷ marked 3 (Called commands.Begin) ∷
     marked 3 (Told (replies.Began (tx 0 2))) ∷ marked 3 (Called (commands.Do 0 2)) ∷
-    marked 3 (Sent 18 0 (messages.Request (tx 0 2) 1 0 (wants.Read (read_of 0 2)))) ∷
-    marked 3 (Sent 19 1 (messages.Request (tx 0 2) 1 0 (wants.Read (read_of 0 2)))) ∷ marked 0 (Got 18) ∷
-    marked 0 (Sent 20 3 (messages.Answer 18 (answers.Granted (grant_with 1 1 [])))) ∷ marked 1 (Got 19) ∷
-    marked 1 (Sent 21 3 (messages.Answer 19 (answers.Granted (grant_with 1 1 [])))) ∷ marked 3 (Got 20)
+    marked 3 (Sent 18 0 (messages.Request (tx 0 2) 1 0 (wants.Read (first_read 0 2)))) ∷
+    marked 3 (Sent 19 1 (messages.Request (tx 0 2) 1 0 (wants.Read (first_read 0 2)))) ∷ marked 0 (Got 18) ∷
+    marked 0 (Sent 20 3 (messages.Answer 18 (answers.Granted (whole_grant 1 1 [])))) ∷ marked 1 (Got 19) ∷
+    marked 1 (Sent 21 3 (messages.Answer 19 (answers.Granted (whole_grant 1 1 [])))) ∷ marked 3 (Got 20)
     ∷ marked 3 (Got 21) ∷
     marked 3 (Told (replies.Response 2)) ∷ marked 3 (Called commands.Begin) ∷
     marked 3 (Told (replies.Already (tx 0 2))) ∷ marked 5 (Phase 2) ∷ marked 3 (Called (commands.Do 0 1)) ∷
-    marked 3 (Sent 22 0 (messages.Request (tx 0 2) 1 1 (wants.Read (read_of 0 1)))) ∷
-    marked 3 (Sent 23 1 (messages.Request (tx 0 2) 1 1 (wants.Read (read_of 0 1)))) ∷ marked 0 (Got 22) ∷
-    marked 0 (Sent 24 3 (messages.Answer 22 (answers.Granted (grant_with 1 1 [])))) ∷ marked 1 (Got 23) ∷
-    marked 1 (Sent 25 3 (messages.Answer 23 (answers.Granted (grant_with 1 1 [])))) ∷ marked 3 (Got 24)
+    marked 3 (Sent 22 0 (messages.Request (tx 0 2) 1 1 (wants.Read (first_read 0 1)))) ∷
+    marked 3 (Sent 23 1 (messages.Request (tx 0 2) 1 1 (wants.Read (first_read 0 1)))) ∷ marked 0 (Got 22) ∷
+    marked 0 (Sent 24 3 (messages.Answer 22 (answers.Granted (whole_grant 1 1 [])))) ∷ marked 1 (Got 23) ∷
+    marked 1 (Sent 25 3 (messages.Answer 23 (answers.Granted (whole_grant 1 1 [])))) ∷ marked 3 (Got 24)
     ∷ marked 3 (Got 25) ∷
     marked 3 (Told (replies.Response 1)) ∷ marked 3 (Called (commands.Do 0 2)) ∷
-    marked 3 (Sent 26 0 (messages.Request (tx 0 2) 1 1 (wants.Read (read_of 0 2)))) ∷
-    marked 3 (Sent 27 1 (messages.Request (tx 0 2) 1 1 (wants.Read (read_of 0 2)))) ∷ marked 0 (Got 26) ∷
-    marked 0 (Sent 28 3 (messages.Answer 26 (answers.Granted (grant_with 1 1 [])))) ∷ marked 1 (Got 27) ∷
-    marked 1 (Sent 29 3 (messages.Answer 27 (answers.Granted (grant_with 1 1 [])))) ∷ marked 3 (Got 28)
+    marked 3 (Sent 26 0 (messages.Request (tx 0 2) 1 1 (wants.Read (first_read 0 2)))) ∷
+    marked 3 (Sent 27 1 (messages.Request (tx 0 2) 1 1 (wants.Read (first_read 0 2)))) ∷ marked 0 (Got 26) ∷
+    marked 0 (Sent 28 3 (messages.Answer 26 (answers.Granted (whole_grant 1 1 [])))) ∷ marked 1 (Got 27) ∷
+    marked 1 (Sent 29 3 (messages.Answer 27 (answers.Granted (whole_grant 1 1 [])))) ∷ marked 3 (Got 28)
     ∷ marked 3 (Got 29) ∷
     marked 3 (Told (replies.Response 2)) ∷ marked 3 (Called commands.Commit) ∷
     marked 3 (Sent 30 0 (messages.Request (tx 0 2) 1 1 wants.Prepare)) ∷
@@ -121,26 +122,26 @@ history =
     marked 3 (Told (replies.Committed (stamp 2 0))) ∷ marked 0 (Got 34) ∷ marked 0 (Wrote (records.Done (tx 0 2) 2)) ∷
     marked 1 (Got 35) ∷ marked 1 (Wrote (records.Done (tx 0 2) 2)) ∷ marked 5 (Phase 3) ∷
     marked 3 (Called commands.Begin) ∷ marked 3 (Told (replies.Began (tx 0 3))) ∷ marked 3 (Called (commands.Do 0 0)) ∷
-    marked 3 (Sent 36 0 (messages.Request (tx 0 3) 1 0 (wants.Read (read_of 0 0)))) ∷
-    marked 3 (Sent 37 1 (messages.Request (tx 0 3) 1 0 (wants.Read (read_of 0 0)))) ∷ marked 0 (Got 36) ∷
-    marked 0 (Sent 38 3 (messages.Answer 36 (answers.Granted (grant_with 1 2 [])))) ∷ marked 1 (Got 37) ∷
-    marked 1 (Sent 39 3 (messages.Answer 37 (answers.Granted (grant_with 1 2 [])))) ∷ marked 3 (Got 38)
+    marked 3 (Sent 36 0 (messages.Request (tx 0 3) 1 0 (wants.Read (first_read 0 0)))) ∷
+    marked 3 (Sent 37 1 (messages.Request (tx 0 3) 1 0 (wants.Read (first_read 0 0)))) ∷ marked 0 (Got 36) ∷
+    marked 0 (Sent 38 3 (messages.Answer 36 (answers.Granted (whole_grant 1 2 [])))) ∷ marked 1 (Got 37) ∷
+    marked 1 (Sent 39 3 (messages.Answer 37 (answers.Granted (whole_grant 1 2 [])))) ∷ marked 3 (Got 38)
     ∷ marked 3 (Got 39) ∷
     marked 3 (Sent 40 0 (messages.Request (tx 0 3) 1 1 (wants.Append 0 [] (own_line 1 0 0 ∷ [])))) ∷
     marked 3 (Sent 41 1 (messages.Request (tx 0 3) 1 1 (wants.Append 0 [] (own_line 1 0 0 ∷ [])))) ∷ marked 0 (Got 40) ∷
-    marked 0 (Sent 42 3 (messages.Answer 40 (answers.Granted (grant_with 1 2 [])))) ∷ marked 1 (Got 41) ∷
-    marked 1 (Sent 43 3 (messages.Answer 41 (answers.Granted (grant_with 1 2 [])))) ∷ marked 3 (Got 42)
+    marked 0 (Sent 42 3 (messages.Answer 40 (answers.Granted (whole_grant 1 2 [])))) ∷ marked 1 (Got 41) ∷
+    marked 1 (Sent 43 3 (messages.Answer 41 (answers.Granted (whole_grant 1 2 [])))) ∷ marked 3 (Got 42)
     ∷ marked 3 (Got 43) ∷
     marked 3 (Told (replies.Response 0)) ∷ marked 5 (Phase 4) ∷ marked 3 (Called (commands.Do 1 1)) ∷
-    marked 3 (Sent 44 0 (messages.Request (tx 0 3) 1 1 (wants.Read (read_of 1 1)))) ∷ marked 0 (Got 44) ∷
-    marked 0 (Sent 45 3 (messages.Answer 44 (answers.Granted (grant_with 1 2 (line 1 0 1 1 1 4 ∷ [])))))
+    marked 3 (Sent 44 0 (messages.Request (tx 0 3) 1 1 (wants.Read (first_read 1 1)))) ∷ marked 0 (Got 44) ∷
+    marked 0 (Sent 45 3 (messages.Answer 44 (answers.Granted (whole_grant 1 2 (line 1 0 1 1 1 4 ∷ [])))))
     ∷ marked 3 (Got 45) ∷
     marked 3 (Told (replies.Response 1)) ∷ marked 3 (Called (commands.Do 1 0)) ∷
-    marked 3 (Sent 46 0 (messages.Request (tx 0 3) 1 1 (wants.Read (read_of 1 0)))) ∷
-    marked 3 (Sent 47 1 (messages.Request (tx 0 3) 1 1 (wants.Read (read_of 1 0)))) ∷ marked 0 (Got 46) ∷
-    marked 0 (Sent 48 3 (messages.Answer 46 (answers.Granted (grant_with 1 2 (line 1 0 1 1 1 4 ∷ [])))))
+    marked 3 (Sent 46 0 (messages.Request (tx 0 3) 1 1 (wants.Read (first_read 1 0)))) ∷
+    marked 3 (Sent 47 1 (messages.Request (tx 0 3) 1 1 (wants.Read (first_read 1 0)))) ∷ marked 0 (Got 46) ∷
+    marked 0 (Sent 48 3 (messages.Answer 46 (answers.Granted (whole_grant 1 2 (line 1 0 1 1 1 4 ∷ [])))))
     ∷ marked 1 (Got 47) ∷
-    marked 1 (Sent 49 3 (messages.Answer 47 (answers.Granted (grant_with 1 2 [])))) ∷ marked 3 (Got 48)
+    marked 1 (Sent 49 3 (messages.Answer 47 (answers.Granted (whole_grant 1 2 [])))) ∷ marked 3 (Got 48)
     ∷ marked 3 (Got 49) ∷
     marked 3 (Sent 50 0 (messages.Request (tx 0 3) 1 1 (wants.Append 1 (line 1 0 1 1 1 4 ∷ []) (own_line 3 1 0 ∷ []))))
     ∷
@@ -148,23 +149,23 @@ history =
     ∷
     marked 3 (Sent 52 2 (messages.Request (tx 0 3) 1 0 (wants.Append 1 (line 1 0 1 1 1 4 ∷ []) (own_line 3 1 0 ∷ []))))
     ∷
-    marked 0 (Got 50) ∷ marked 0 (Sent 53 3 (messages.Answer 50 (answers.Granted (grant_with 1 2 []))))
+    marked 0 (Got 50) ∷ marked 0 (Sent 53 3 (messages.Answer 50 (answers.Granted (whole_grant 1 2 []))))
     ∷ marked 1 (Got 51) ∷
-    marked 1 (Sent 54 3 (messages.Answer 51 (answers.Granted (grant_with 1 2 [])))) ∷ marked 2 (Got 52) ∷
-    marked 2 (Sent 55 3 (messages.Answer 52 (answers.Granted (grant_with 1 1 [])))) ∷ marked 3 (Got 53)
+    marked 1 (Sent 54 3 (messages.Answer 51 (answers.Granted (whole_grant 1 2 [])))) ∷ marked 2 (Got 52) ∷
+    marked 2 (Sent 55 3 (messages.Answer 52 (answers.Granted (whole_grant 1 1 [])))) ∷ marked 3 (Got 53)
     ∷ marked 3 (Got 54) ∷
     marked 3 (Got 55) ∷ marked 3 (Told (replies.Response 0)) ∷ marked 5 (Phase 5) ∷
     marked 3 (Called (commands.Do 0 0))
-    ∷ marked 3 (Sent 56 0 (messages.Request (tx 0 3) 1 1 (wants.Read (read_of 0 0)))) ∷
-    marked 3 (Sent 57 1 (messages.Request (tx 0 3) 1 1 (wants.Read (read_of 0 0)))) ∷ marked 0 (Got 56) ∷
-    marked 0 (Sent 58 3 (messages.Answer 56 (answers.Granted (grant_with 1 2 [])))) ∷ marked 1 (Got 57) ∷
-    marked 1 (Sent 59 3 (messages.Answer 57 (answers.Granted (grant_with 1 2 [])))) ∷ marked 3 (Got 58)
+    ∷ marked 3 (Sent 56 0 (messages.Request (tx 0 3) 1 1 (wants.Read (first_read 0 0)))) ∷
+    marked 3 (Sent 57 1 (messages.Request (tx 0 3) 1 1 (wants.Read (first_read 0 0)))) ∷ marked 0 (Got 56) ∷
+    marked 0 (Sent 58 3 (messages.Answer 56 (answers.Granted (whole_grant 1 2 [])))) ∷ marked 1 (Got 57) ∷
+    marked 1 (Sent 59 3 (messages.Answer 57 (answers.Granted (whole_grant 1 2 [])))) ∷ marked 3 (Got 58)
     ∷ marked 3 (Got 59) ∷
     marked 3 (Sent 60 0 (messages.Request (tx 0 3) 1 1 (wants.Append 0 [] (own_line 1 0 0 ∷ own_line 4 0 0 ∷ [])))) ∷
     marked 3 (Sent 61 1 (messages.Request (tx 0 3) 1 1 (wants.Append 0 [] (own_line 1 0 0 ∷ own_line 4 0 0 ∷ [])))) ∷
-    marked 0 (Got 60) ∷ marked 0 (Sent 62 3 (messages.Answer 60 (answers.Granted (grant_with 1 2 []))))
+    marked 0 (Got 60) ∷ marked 0 (Sent 62 3 (messages.Answer 60 (answers.Granted (whole_grant 1 2 []))))
     ∷ marked 1 (Got 61) ∷
-    marked 1 (Sent 63 3 (messages.Answer 61 (answers.Granted (grant_with 1 2 [])))) ∷ marked 3 (Got 62)
+    marked 1 (Sent 63 3 (messages.Answer 61 (answers.Granted (whole_grant 1 2 [])))) ∷ marked 3 (Got 62)
     ∷ marked 3 (Got 63) ∷
     marked 3 (Told (replies.Response 0)) ∷ marked 3 (Called commands.Commit) ∷
     marked 3 (Sent 64 0 (messages.Request (tx 0 3) 1 1 wants.Prepare)) ∷

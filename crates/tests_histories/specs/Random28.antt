@@ -16,7 +16,7 @@ use Rattle.qc_msg.specs.declared.message.Outcome.TheVariants as outcomes
 use Rattle.qc_msg.specs.declared.record.Record.TheVariants as records
 use Rattle.qc_msg.specs.declared.reply.Reply.TheVariants as replies
 use Rattle.qc_msg.specs.declared.message.Want.TheVariants as wants
-use Rattle.qc_msg.specs.Vocabulary.{grant_with, read_of}
+use Rattle.qc_msg.specs.Vocabulary.{whole_grant, first_read}
 
 abbrev pub decl : Declaration
 decl =
@@ -66,22 +66,23 @@ moves =
 abbrev pub history : List Entry
 history =
     marked 7 (Phase 1) ∷ marked 5 (Called commands.Begin) ∷ marked 5 (Told (replies.Began (tx 0 1))) ∷
-    marked 5 (Called (commands.Do 1 2)) ∷ marked 5 (Sent 0 0 (messages.Request (tx 0 1) 1 0 (wants.Read (read_of 1 2))))
+    marked 5 (Called (commands.Do 1 2)) ∷
+    marked 5 (Sent 0 0 (messages.Request (tx 0 1) 1 0 (wants.Read (first_read 1 2))))
     ∷
-    marked 5 (Sent 1 1 (messages.Request (tx 0 1) 1 0 (wants.Read (read_of 1 2)))) ∷
-    marked 5 (Sent 2 2 (messages.Request (tx 0 1) 1 0 (wants.Read (read_of 1 2)))) ∷ marked 2 (Got 2) ∷
-    marked 2 (Sent 3 5 (messages.Answer 2 (answers.Granted (grant_with 1 0 [])))) ∷ marked 5 (Got 3) ∷ marked 1 (Got 1)
+    marked 5 (Sent 1 1 (messages.Request (tx 0 1) 1 0 (wants.Read (first_read 1 2)))) ∷
+    marked 5 (Sent 2 2 (messages.Request (tx 0 1) 1 0 (wants.Read (first_read 1 2)))) ∷ marked 2 (Got 2) ∷
+    marked 2 (Sent 3 5 (messages.Answer 2 (answers.Granted (whole_grant 1 0 [])))) ∷ marked 5 (Got 3) ∷ marked 1 (Got 1)
     ∷
-    marked 1 (Sent 4 5 (messages.Answer 1 (answers.Granted (grant_with 1 0 [])))) ∷ marked 5 (Got 4) ∷ marked 0 (Got 0)
+    marked 1 (Sent 4 5 (messages.Answer 1 (answers.Granted (whole_grant 1 0 [])))) ∷ marked 5 (Got 4) ∷ marked 0 (Got 0)
     ∷
-    marked 0 (Sent 5 5 (messages.Answer 0 (answers.Granted (grant_with 1 0 [])))) ∷ marked 5 (Got 5) ∷
+    marked 0 (Sent 5 5 (messages.Answer 0 (answers.Granted (whole_grant 1 0 [])))) ∷ marked 5 (Got 5) ∷
     marked 5 (Sent 6 0 (messages.Request (tx 0 1) 1 1 (wants.Append 1 [] (own_line 1 1 3 ∷ [])))) ∷
     marked 5 (Sent 7 1 (messages.Request (tx 0 1) 1 1 (wants.Append 1 [] (own_line 1 1 3 ∷ [])))) ∷
     marked 5 (Sent 8 2 (messages.Request (tx 0 1) 1 1 (wants.Append 1 [] (own_line 1 1 3 ∷ [])))) ∷ marked 1 (Got 7) ∷
-    marked 2 (Got 8) ∷ marked 2 (Sent 9 5 (messages.Answer 8 (answers.Granted (grant_with 1 0 [])))) ∷
-    marked 1 (Sent 10 5 (messages.Answer 7 (answers.Granted (grant_with 1 0 [])))) ∷ marked 5 (Got 9)
+    marked 2 (Got 8) ∷ marked 2 (Sent 9 5 (messages.Answer 8 (answers.Granted (whole_grant 1 0 [])))) ∷
+    marked 1 (Sent 10 5 (messages.Answer 7 (answers.Granted (whole_grant 1 0 [])))) ∷ marked 5 (Got 9)
     ∷ marked 5 (Got 10) ∷
-    marked 0 (Got 6) ∷ marked 0 (Sent 11 5 (messages.Answer 6 (answers.Granted (grant_with 1 0 []))))
+    marked 0 (Got 6) ∷ marked 0 (Sent 11 5 (messages.Answer 6 (answers.Granted (whole_grant 1 0 []))))
     ∷ marked 5 (Got 11) ∷
     marked 5 (Told (replies.Response 1)) ∷ marked 5 (Called commands.Commit) ∷
     marked 5 (Sent 12 0 (messages.Request (tx 0 1) 1 1 wants.Prepare)) ∷
@@ -101,16 +102,16 @@ history =
     marked 2 (Wrote (records.Done (tx 0 1) 1)) ∷ marked 1 (Wrote (records.Done (tx 0 1) 1)) ∷ marked 0 (Got 18) ∷
     marked 0 (Wrote (records.Done (tx 0 1) 1)) ∷ marked 7 (Phase 2) ∷ marked 5 (Called commands.Begin) ∷
     marked 5 (Told (replies.Began (tx 0 2))) ∷ marked 5 (Called (commands.Do 1 0)) ∷
-    marked 5 (Sent 21 0 (messages.Request (tx 0 2) 1 0 (wants.Read (read_of 1 0)))) ∷
-    marked 5 (Sent 22 1 (messages.Request (tx 0 2) 1 0 (wants.Read (read_of 1 0)))) ∷
-    marked 5 (Sent 23 2 (messages.Request (tx 0 2) 1 0 (wants.Read (read_of 1 0)))) ∷ marked 0 (Got 21)
+    marked 5 (Sent 21 0 (messages.Request (tx 0 2) 1 0 (wants.Read (first_read 1 0)))) ∷
+    marked 5 (Sent 22 1 (messages.Request (tx 0 2) 1 0 (wants.Read (first_read 1 0)))) ∷
+    marked 5 (Sent 23 2 (messages.Request (tx 0 2) 1 0 (wants.Read (first_read 1 0)))) ∷ marked 0 (Got 21)
     ∷ marked 2 (Got 23) ∷
-    marked 0 (Sent 24 5 (messages.Answer 21 (answers.Granted (grant_with 1 1 (line 1 0 1 1 1 3 ∷ [])))))
+    marked 0 (Sent 24 5 (messages.Answer 21 (answers.Granted (whole_grant 1 1 (line 1 0 1 1 1 3 ∷ [])))))
     ∷ marked 5 (Got 24) ∷
     marked 1 (Got 22)
-    ∷ marked 1 (Sent 25 5 (messages.Answer 22 (answers.Granted (grant_with 1 1 (line 1 0 1 1 1 3 ∷ []))))) ∷
+    ∷ marked 1 (Sent 25 5 (messages.Answer 22 (answers.Granted (whole_grant 1 1 (line 1 0 1 1 1 3 ∷ []))))) ∷
     marked 5 (Got 25)
-    ∷ marked 2 (Sent 26 5 (messages.Answer 23 (answers.Granted (grant_with 1 1 (line 1 0 1 1 1 3 ∷ []))))) ∷
+    ∷ marked 2 (Sent 26 5 (messages.Answer 23 (answers.Granted (whole_grant 1 1 (line 1 0 1 1 1 3 ∷ []))))) ∷
     marked 5 (Got 26) ∷
     marked 5 (Sent 27 0 (messages.Request (tx 0 2) 1 1 (wants.Append 1 (line 1 0 1 1 1 3 ∷ []) (own_line 1 1 7 ∷ []))))
     ∷
@@ -121,11 +122,11 @@ history =
     marked 5 (Lost 27) ∷ marked 5 (Lost 28) ∷ marked 5 (Lost 29) ∷
     marked 5 (Sent 30 3 (messages.Request (tx 0 2) 1 0 (wants.Append 1 (line 1 0 1 1 1 3 ∷ []) (own_line 1 1 7 ∷ []))))
     ∷
-    marked 3 (Got 30) ∷ marked 3 (Sent 31 5 (messages.Answer 30 (answers.Granted (grant_with 1 1 []))))
+    marked 3 (Got 30) ∷ marked 3 (Sent 31 5 (messages.Answer 30 (answers.Granted (whole_grant 1 1 []))))
     ∷ marked 5 (Got 31) ∷
     marked 5 (Sent 32 4 (messages.Request (tx 0 2) 1 0 (wants.Append 1 (line 1 0 1 1 1 3 ∷ []) (own_line 1 1 7 ∷ []))))
     ∷
-    marked 4 (Got 32) ∷ marked 4 (Sent 33 5 (messages.Answer 32 (answers.Granted (grant_with 1 1 []))))
+    marked 4 (Got 32) ∷ marked 4 (Sent 33 5 (messages.Answer 32 (answers.Granted (whole_grant 1 1 []))))
     ∷ marked 5 (Got 33) ∷
     marked 5 (Told (replies.Quorum halves.Append 2 5)) ∷ marked 5 (Called commands.Commit) ∷
     marked 5 (Sent 34 0 (messages.Decision (tx 0 2) outcomes.Aborted)) ∷
@@ -136,29 +137,29 @@ history =
     marked 5 (Told (replies.Aborted causes.Doomed)) ∷ marked 0 (Got 34) ∷ marked 2 (Got 36) ∷ marked 4 (Got 38) ∷
     marked 3 (Got 37) ∷ marked 1 (Got 35) ∷ marked 7 (Phase 3) ∷ marked 1 (Got 28) ∷ marked 5 (Called commands.Begin) ∷
     marked 5 (Told (replies.Began (tx 0 3))) ∷ marked 5 (Called (commands.Do 1 1)) ∷ marked 0 (Got 27) ∷
-    marked 0 (Sent 39 5 (messages.Answer 27 (answers.Granted (grant_with 1 1 [])))) ∷
-    marked 5 (Sent 40 0 (messages.Request (tx 0 3) 1 0 (wants.Read (read_of 1 1)))) ∷
-    marked 5 (Sent 41 1 (messages.Request (tx 0 3) 1 0 (wants.Read (read_of 1 1)))) ∷
-    marked 5 (Sent 42 2 (messages.Request (tx 0 3) 1 0 (wants.Read (read_of 1 1)))) ∷ marked 0 (Got 40) ∷
+    marked 0 (Sent 39 5 (messages.Answer 27 (answers.Granted (whole_grant 1 1 [])))) ∷
+    marked 5 (Sent 40 0 (messages.Request (tx 0 3) 1 0 (wants.Read (first_read 1 1)))) ∷
+    marked 5 (Sent 41 1 (messages.Request (tx 0 3) 1 0 (wants.Read (first_read 1 1)))) ∷
+    marked 5 (Sent 42 2 (messages.Request (tx 0 3) 1 0 (wants.Read (first_read 1 1)))) ∷ marked 0 (Got 40) ∷
     marked 0 (Sent 43 5 (messages.Answer 40 (answers.Clash (tx 0 2) 1 7))) ∷
     marked 0 (Sent 44 5 (messages.Inquiry (tx 0 2))) ∷ marked 5 (Got 39) ∷
-    marked 1 (Sent 45 5 (messages.Answer 28 (answers.Granted (grant_with 1 1 [])))) ∷ marked 1 (Got 41)
+    marked 1 (Sent 45 5 (messages.Answer 28 (answers.Granted (whole_grant 1 1 [])))) ∷ marked 1 (Got 41)
     ∷ marked 5 (Got 44) ∷
     marked 5 (Sent 46 0 (messages.Decision (tx 0 2) outcomes.Aborted)) ∷ marked 5 (Got 45) ∷ marked 0 (Got 46) ∷
     marked 5 (Lost 40) ∷ marked 1 (Sent 47 5 (messages.Answer 41 (answers.Clash (tx 0 2) 1 7))) ∷
     marked 1 (Sent 48 5 (messages.Inquiry (tx 0 2))) ∷ marked 5 (Got 48) ∷
     marked 5 (Sent 49 1 (messages.Decision (tx 0 2) outcomes.Aborted)) ∷ marked 1 (Got 49) ∷ marked 5 (Lost 41) ∷
-    marked 2 (Got 29) ∷ marked 2 (Sent 50 5 (messages.Answer 29 (answers.Granted (grant_with 1 1 []))))
+    marked 2 (Got 29) ∷ marked 2 (Sent 50 5 (messages.Answer 29 (answers.Granted (whole_grant 1 1 []))))
     ∷ marked 5 (Got 50) ∷
     marked 2 (Got 42) ∷ marked 2 (Sent 51 5 (messages.Answer 42 (answers.Clash (tx 0 2) 1 7))) ∷
     marked 2 (Sent 52 5 (messages.Inquiry (tx 0 2))) ∷ marked 5 (Got 52) ∷
     marked 5 (Sent 53 2 (messages.Decision (tx 0 2) outcomes.Aborted)) ∷ marked 5 (Lost 42) ∷
-    marked 5 (Sent 54 3 (messages.Request (tx 0 3) 1 0 (wants.Read (read_of 1 1)))) ∷ marked 3 (Got 54) ∷
-    marked 3 (Sent 55 5 (messages.Answer 54 (answers.Granted (grant_with 1 1 (line 1 0 1 1 1 3 ∷ [])))))
+    marked 5 (Sent 54 3 (messages.Request (tx 0 3) 1 0 (wants.Read (first_read 1 1)))) ∷ marked 3 (Got 54) ∷
+    marked 3 (Sent 55 5 (messages.Answer 54 (answers.Granted (whole_grant 1 1 (line 1 0 1 1 1 3 ∷ [])))))
     ∷ marked 5 (Got 55) ∷
-    marked 5 (Sent 56 4 (messages.Request (tx 0 3) 1 0 (wants.Read (read_of 1 1)))) ∷ marked 2 (Got 53)
+    marked 5 (Sent 56 4 (messages.Request (tx 0 3) 1 0 (wants.Read (first_read 1 1)))) ∷ marked 2 (Got 53)
     ∷ marked 4 (Got 56) ∷
-    marked 4 (Sent 57 5 (messages.Answer 56 (answers.Granted (grant_with 1 1 (line 1 0 1 1 1 3 ∷ [])))))
+    marked 4 (Sent 57 5 (messages.Answer 56 (answers.Granted (whole_grant 1 1 (line 1 0 1 1 1 3 ∷ [])))))
     ∷ marked 5 (Got 57) ∷
     marked 5 (Told (replies.Quorum halves.Read 2 5)) ∷ marked 5 (Called commands.Commit) ∷
     marked 5 (Sent 58 3 (messages.Request (tx 0 3) 1 1 wants.Prepare)) ∷
@@ -176,24 +177,24 @@ history =
     marked 5 (Told (replies.Committed (stamp 2 0))) ∷ marked 0 (Got 62) ∷ marked 4 (Got 66) ∷ marked 1 (Got 63) ∷
     marked 3 (Got 65) ∷ marked 3 (Wrote (records.Done (tx 0 3) 2)) ∷ marked 4 (Wrote (records.Done (tx 0 3) 2)) ∷
     marked 2 (Got 64) ∷ marked 7 (Phase 4) ∷ marked 1 (Got 41) ∷ marked 0 (Got 40) ∷ marked 2 (Got 42) ∷
-    marked 2 (Sent 67 5 (messages.Answer 42 (answers.Granted (grant_with 1 2 (line 1 0 1 1 1 3 ∷ []))))) ∷
-    marked 0 (Sent 68 5 (messages.Answer 40 (answers.Granted (grant_with 1 2 (line 1 0 1 1 1 3 ∷ [])))))
+    marked 2 (Sent 67 5 (messages.Answer 42 (answers.Granted (whole_grant 1 2 (line 1 0 1 1 1 3 ∷ []))))) ∷
+    marked 0 (Sent 68 5 (messages.Answer 40 (answers.Granted (whole_grant 1 2 (line 1 0 1 1 1 3 ∷ [])))))
     ∷ marked 5 (Got 43) ∷
     marked 5 (Got 47) ∷ marked 5 (Got 51) ∷
-    marked 1 (Sent 69 5 (messages.Answer 41 (answers.Granted (grant_with 1 2 (line 1 0 1 1 1 3 ∷ [])))))
+    marked 1 (Sent 69 5 (messages.Answer 41 (answers.Granted (whole_grant 1 2 (line 1 0 1 1 1 3 ∷ [])))))
     ∷ marked 5 (Got 67) ∷
     marked 5 (Got 68) ∷ marked 5 (Got 69) ∷ marked 5 (Called commands.Begin) ∷
     marked 5 (Told (replies.Began (tx 0 4))) ∷ marked 5 (Called (commands.Do 1 0)) ∷
-    marked 5 (Sent 70 0 (messages.Request (tx 0 4) 1 0 (wants.Read (read_of 1 0)))) ∷
-    marked 5 (Sent 71 1 (messages.Request (tx 0 4) 1 0 (wants.Read (read_of 1 0)))) ∷
-    marked 5 (Sent 72 2 (messages.Request (tx 0 4) 1 0 (wants.Read (read_of 1 0)))) ∷ marked 1 (Got 71)
+    marked 5 (Sent 70 0 (messages.Request (tx 0 4) 1 0 (wants.Read (first_read 1 0)))) ∷
+    marked 5 (Sent 71 1 (messages.Request (tx 0 4) 1 0 (wants.Read (first_read 1 0)))) ∷
+    marked 5 (Sent 72 2 (messages.Request (tx 0 4) 1 0 (wants.Read (first_read 1 0)))) ∷ marked 1 (Got 71)
     ∷ marked 2 (Got 72) ∷
-    marked 2 (Sent 73 5 (messages.Answer 72 (answers.Granted (grant_with 1 2 (line 1 0 1 1 1 3 ∷ [])))))
+    marked 2 (Sent 73 5 (messages.Answer 72 (answers.Granted (whole_grant 1 2 (line 1 0 1 1 1 3 ∷ [])))))
     ∷ marked 0 (Got 70) ∷
-    marked 0 (Sent 74 5 (messages.Answer 70 (answers.Granted (grant_with 1 2 (line 1 0 1 1 1 3 ∷ [])))))
+    marked 0 (Sent 74 5 (messages.Answer 70 (answers.Granted (whole_grant 1 2 (line 1 0 1 1 1 3 ∷ [])))))
     ∷ marked 5 (Got 73) ∷
     marked 5 (Got 74)
-    ∷ marked 1 (Sent 75 5 (messages.Answer 71 (answers.Granted (grant_with 1 2 (line 1 0 1 1 1 3 ∷ []))))) ∷
+    ∷ marked 1 (Sent 75 5 (messages.Answer 71 (answers.Granted (whole_grant 1 2 (line 1 0 1 1 1 3 ∷ []))))) ∷
     marked 5 (Got 75) ∷
     marked 5 (Sent 76 0 (messages.Request (tx 0 4) 1 1 (wants.Append 1 (line 1 0 1 1 1 3 ∷ []) (own_line 1 1 7 ∷ []))))
     ∷

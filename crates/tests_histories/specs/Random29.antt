@@ -15,7 +15,7 @@ use Rattle.qc_msg.specs.declared.message.Outcome.TheVariants as outcomes
 use Rattle.qc_msg.specs.declared.record.Record.TheVariants as records
 use Rattle.qc_msg.specs.declared.reply.Reply.TheVariants as replies
 use Rattle.qc_msg.specs.declared.message.Want.TheVariants as wants
-use Rattle.qc_msg.specs.Vocabulary.{grant_with, read_of}
+use Rattle.qc_msg.specs.Vocabulary.{whole_grant, first_read}
 
 abbrev pub decl : Declaration
 decl =
@@ -62,25 +62,25 @@ abbrev pub history : List Entry
 history =
     marked 10 (Phase 1) ∷ marked 8 (Called commands.Begin) ∷ marked 5 (Called commands.Begin) ∷
     marked 5 (Told (replies.Began (tx 0 1))) ∷ marked 5 (Called (commands.Do 0 0)) ∷
-    marked 5 (Sent 0 0 (messages.Request (tx 0 1) 1 0 (wants.Read (read_of 0 0)))) ∷
-    marked 5 (Sent 1 1 (messages.Request (tx 0 1) 1 0 (wants.Read (read_of 0 0)))) ∷
-    marked 5 (Sent 2 2 (messages.Request (tx 0 1) 1 0 (wants.Read (read_of 0 0)))) ∷ marked 2 (Got 2) ∷
-    marked 2 (Sent 3 5 (messages.Answer 2 (answers.Granted (grant_with 1 0 [])))) ∷ marked 5 (Got 3) ∷ marked 1 (Got 1)
+    marked 5 (Sent 0 0 (messages.Request (tx 0 1) 1 0 (wants.Read (first_read 0 0)))) ∷
+    marked 5 (Sent 1 1 (messages.Request (tx 0 1) 1 0 (wants.Read (first_read 0 0)))) ∷
+    marked 5 (Sent 2 2 (messages.Request (tx 0 1) 1 0 (wants.Read (first_read 0 0)))) ∷ marked 2 (Got 2) ∷
+    marked 2 (Sent 3 5 (messages.Answer 2 (answers.Granted (whole_grant 1 0 [])))) ∷ marked 5 (Got 3) ∷ marked 1 (Got 1)
     ∷
-    marked 1 (Sent 4 5 (messages.Answer 1 (answers.Granted (grant_with 1 0 [])))) ∷ marked 5 (Got 4) ∷ marked 0 (Got 0)
+    marked 1 (Sent 4 5 (messages.Answer 1 (answers.Granted (whole_grant 1 0 [])))) ∷ marked 5 (Got 4) ∷ marked 0 (Got 0)
     ∷
-    marked 0 (Sent 5 5 (messages.Answer 0 (answers.Granted (grant_with 1 0 [])))) ∷ marked 5 (Got 5) ∷
+    marked 0 (Sent 5 5 (messages.Answer 0 (answers.Granted (whole_grant 1 0 [])))) ∷ marked 5 (Got 5) ∷
     marked 5 (Sent 6 0 (messages.Request (tx 0 1) 1 1 (wants.Append 0 [] (own_line 1 0 0 ∷ [])))) ∷
     marked 5 (Sent 7 1 (messages.Request (tx 0 1) 1 1 (wants.Append 0 [] (own_line 1 0 0 ∷ [])))) ∷
     marked 5 (Sent 8 2 (messages.Request (tx 0 1) 1 1 (wants.Append 0 [] (own_line 1 0 0 ∷ [])))) ∷
     marked 5 (Sent 9 3 (messages.Request (tx 0 1) 1 0 (wants.Append 0 [] (own_line 1 0 0 ∷ [])))) ∷ marked 2 (Got 8) ∷
-    marked 2 (Sent 10 5 (messages.Answer 8 (answers.Granted (grant_with 1 0 [])))) ∷ marked 1 (Got 7)
+    marked 2 (Sent 10 5 (messages.Answer 8 (answers.Granted (whole_grant 1 0 [])))) ∷ marked 1 (Got 7)
     ∷ marked 5 (Got 10) ∷
-    marked 1 (Sent 11 5 (messages.Answer 7 (answers.Granted (grant_with 1 0 [])))) ∷ marked 5 (Got 11) ∷
+    marked 1 (Sent 11 5 (messages.Answer 7 (answers.Granted (whole_grant 1 0 [])))) ∷ marked 5 (Got 11) ∷
     marked 6 (Called commands.Begin) ∷ marked 6 (Told (replies.Began (tx 1 1))) ∷ marked 0 (Got 6) ∷
-    marked 0 (Sent 12 5 (messages.Answer 6 (answers.Granted (grant_with 1 0 [])))) ∷ marked 3 (Got 9)
+    marked 0 (Sent 12 5 (messages.Answer 6 (answers.Granted (whole_grant 1 0 [])))) ∷ marked 3 (Got 9)
     ∷ marked 5 (Got 12) ∷
-    marked 3 (Sent 13 5 (messages.Answer 9 (answers.Granted (grant_with 1 0 [])))) ∷ marked 5 (Got 13) ∷
+    marked 3 (Sent 13 5 (messages.Answer 9 (answers.Granted (whole_grant 1 0 [])))) ∷ marked 5 (Got 13) ∷
     marked 5 (Told (replies.Response 0)) ∷ marked 5 (Called commands.Commit) ∷
     marked 5 (Sent 14 0 (messages.Request (tx 0 1) 1 1 wants.Prepare)) ∷
     marked 5 (Sent 15 1 (messages.Request (tx 0 1) 1 1 wants.Prepare)) ∷
@@ -103,40 +103,40 @@ history =
     marked 5 (Told (replies.Committed (stamp 1 0))) ∷ marked 2 (Got 24) ∷ marked 2 (Wrote (records.Done (tx 0 1) 1)) ∷
     marked 5 (Called commands.Begin) ∷ marked 5 (Told (replies.Began (tx 0 2))) ∷ marked 1 (Got 23) ∷
     marked 5 (Called (commands.Do 1 0))
-    ∷ marked 5 (Sent 26 0 (messages.Request (tx 0 2) 1 0 (wants.Read (read_of 1 0)))) ∷
-    marked 5 (Sent 27 1 (messages.Request (tx 0 2) 1 0 (wants.Read (read_of 1 0)))) ∷
-    marked 5 (Sent 28 2 (messages.Request (tx 0 2) 1 0 (wants.Read (read_of 1 0)))) ∷
-    marked 5 (Sent 29 3 (messages.Request (tx 0 2) 1 0 (wants.Read (read_of 1 0)))) ∷
-    marked 5 (Sent 30 4 (messages.Request (tx 0 2) 1 0 (wants.Read (read_of 1 0)))) ∷ marked 2 (Got 28) ∷
+    ∷ marked 5 (Sent 26 0 (messages.Request (tx 0 2) 1 0 (wants.Read (first_read 1 0)))) ∷
+    marked 5 (Sent 27 1 (messages.Request (tx 0 2) 1 0 (wants.Read (first_read 1 0)))) ∷
+    marked 5 (Sent 28 2 (messages.Request (tx 0 2) 1 0 (wants.Read (first_read 1 0)))) ∷
+    marked 5 (Sent 29 3 (messages.Request (tx 0 2) 1 0 (wants.Read (first_read 1 0)))) ∷
+    marked 5 (Sent 30 4 (messages.Request (tx 0 2) 1 0 (wants.Read (first_read 1 0)))) ∷ marked 2 (Got 28) ∷
     marked 1 (Wrote (records.Done (tx 0 1) 1))
-    ∷ marked 2 (Sent 31 5 (messages.Answer 28 (answers.Granted (grant_with 1 1 [])))) ∷
-    marked 1 (Got 27) ∷ marked 8 (Sent 32 3 (messages.Request (tx 3 1) 1 0 (wants.Read (read_of 0 1)))) ∷
-    marked 8 (Sent 33 4 (messages.Request (tx 3 1) 1 0 (wants.Read (read_of 0 1)))) ∷
-    marked 8 (Sent 34 0 (messages.Request (tx 3 1) 1 0 (wants.Read (read_of 0 1)))) ∷
-    marked 8 (Sent 35 1 (messages.Request (tx 3 1) 1 0 (wants.Read (read_of 0 1)))) ∷ marked 4 (Got 30)
+    ∷ marked 2 (Sent 31 5 (messages.Answer 28 (answers.Granted (whole_grant 1 1 [])))) ∷
+    marked 1 (Got 27) ∷ marked 8 (Sent 32 3 (messages.Request (tx 3 1) 1 0 (wants.Read (first_read 0 1)))) ∷
+    marked 8 (Sent 33 4 (messages.Request (tx 3 1) 1 0 (wants.Read (first_read 0 1)))) ∷
+    marked 8 (Sent 34 0 (messages.Request (tx 3 1) 1 0 (wants.Read (first_read 0 1)))) ∷
+    marked 8 (Sent 35 1 (messages.Request (tx 3 1) 1 0 (wants.Read (first_read 0 1)))) ∷ marked 4 (Got 30)
     ∷ marked 5 (Got 31) ∷
-    marked 1 (Sent 36 5 (messages.Answer 27 (answers.Granted (grant_with 1 1 [])))) ∷ marked 1 (Got 35) ∷
-    marked 1 (Sent 37 8 (messages.Answer 35 (answers.Granted (grant_with 1 1 (line 1 0 1 1 0 0 ∷ [])))))
+    marked 1 (Sent 36 5 (messages.Answer 27 (answers.Granted (whole_grant 1 1 [])))) ∷ marked 1 (Got 35) ∷
+    marked 1 (Sent 37 8 (messages.Answer 35 (answers.Granted (whole_grant 1 1 (line 1 0 1 1 0 0 ∷ [])))))
     ∷ marked 8 (Got 37) ∷
-    marked 4 (Sent 38 5 (messages.Answer 30 (answers.Granted (grant_with 1 0 [])))) ∷ marked 5 (Got 36)
+    marked 4 (Sent 38 5 (messages.Answer 30 (answers.Granted (whole_grant 1 0 [])))) ∷ marked 5 (Got 36)
     ∷ marked 5 (Got 38) ∷
-    marked 4 (Got 33) ∷ marked 4 (Sent 39 8 (messages.Answer 33 (answers.Granted (grant_with 1 0 []))))
+    marked 4 (Got 33) ∷ marked 4 (Sent 39 8 (messages.Answer 33 (answers.Granted (whole_grant 1 0 []))))
     ∷ marked 8 (Got 39) ∷
     marked 3 (Got 25) ∷ marked 3 (Wrote (records.Done (tx 0 1) 1)) ∷ marked 0 (Got 22) ∷
     marked 0 (Wrote (records.Done (tx 0 1) 1)) ∷ marked 0 (Got 26) ∷
-    marked 0 (Sent 40 5 (messages.Answer 26 (answers.Granted (grant_with 1 1 [])))) ∷ marked 5 (Got 40)
+    marked 0 (Sent 40 5 (messages.Answer 26 (answers.Granted (whole_grant 1 1 [])))) ∷ marked 5 (Got 40)
     ∷ marked 0 (Got 34) ∷
-    marked 0 (Sent 41 8 (messages.Answer 34 (answers.Granted (grant_with 1 1 (line 1 0 1 1 0 0 ∷ []))))) ∷
+    marked 0 (Sent 41 8 (messages.Answer 34 (answers.Granted (whole_grant 1 1 (line 1 0 1 1 0 0 ∷ []))))) ∷
     marked 6 (Called (commands.Do 1 0)) ∷ marked 3 (Got 29) ∷
-    marked 6 (Sent 42 1 (messages.Request (tx 1 1) 1 0 (wants.Read (read_of 1 0)))) ∷
-    marked 6 (Sent 43 2 (messages.Request (tx 1 1) 1 0 (wants.Read (read_of 1 0)))) ∷
-    marked 6 (Sent 44 3 (messages.Request (tx 1 1) 1 0 (wants.Read (read_of 1 0)))) ∷
-    marked 6 (Sent 45 4 (messages.Request (tx 1 1) 1 0 (wants.Read (read_of 1 0)))) ∷
-    marked 6 (Sent 46 0 (messages.Request (tx 1 1) 1 0 (wants.Read (read_of 1 0)))) ∷ marked 2 (Got 43)
+    marked 6 (Sent 42 1 (messages.Request (tx 1 1) 1 0 (wants.Read (first_read 1 0)))) ∷
+    marked 6 (Sent 43 2 (messages.Request (tx 1 1) 1 0 (wants.Read (first_read 1 0)))) ∷
+    marked 6 (Sent 44 3 (messages.Request (tx 1 1) 1 0 (wants.Read (first_read 1 0)))) ∷
+    marked 6 (Sent 45 4 (messages.Request (tx 1 1) 1 0 (wants.Read (first_read 1 0)))) ∷
+    marked 6 (Sent 46 0 (messages.Request (tx 1 1) 1 0 (wants.Read (first_read 1 0)))) ∷ marked 2 (Got 43)
     ∷ marked 1 (Got 42) ∷
-    marked 1 (Sent 47 6 (messages.Answer 42 (answers.Granted (grant_with 1 1 [])))) ∷
-    marked 2 (Sent 48 6 (messages.Answer 43 (answers.Granted (grant_with 1 1 [])))) ∷
-    marked 3 (Sent 49 5 (messages.Answer 29 (answers.Granted (grant_with 1 1 [])))) ∷ marked 5 (Got 49) ∷
+    marked 1 (Sent 47 6 (messages.Answer 42 (answers.Granted (whole_grant 1 1 [])))) ∷
+    marked 2 (Sent 48 6 (messages.Answer 43 (answers.Granted (whole_grant 1 1 [])))) ∷
+    marked 3 (Sent 49 5 (messages.Answer 29 (answers.Granted (whole_grant 1 1 [])))) ∷ marked 5 (Got 49) ∷
     marked 5 (Sent 50 0 (messages.Request (tx 0 2) 1 1 (wants.Append 1 [] (own_line 1 1 0 ∷ [])))) ∷
     marked 5 (Sent 51 1 (messages.Request (tx 0 2) 1 1 (wants.Append 1 [] (own_line 1 1 0 ∷ [])))) ∷
     marked 5 (Sent 52 2 (messages.Request (tx 0 2) 1 1 (wants.Append 1 [] (own_line 1 1 0 ∷ [])))) ∷ marked 2 (Got 52) ∷
@@ -144,11 +144,11 @@ history =
     marked 2 (Sent 54 6 (messages.Inquiry (tx 1 1))) ∷ marked 5 (Got 53) ∷ marked 1 (Got 51) ∷
     marked 1 (Sent 55 5 (messages.Answer 51 (answers.Clash (tx 1 1) 0 0))) ∷
     marked 1 (Sent 56 6 (messages.Inquiry (tx 1 1))) ∷ marked 4 (Got 45) ∷ marked 5 (Got 55) ∷
-    marked 4 (Sent 57 6 (messages.Answer 45 (answers.Granted (grant_with 1 0 [])))) ∷ marked 8 (Got 41)
+    marked 4 (Sent 57 6 (messages.Answer 45 (answers.Granted (whole_grant 1 0 [])))) ∷ marked 8 (Got 41)
     ∷ marked 3 (Got 32) ∷
-    marked 3 (Sent 58 8 (messages.Answer 32 (answers.Granted (grant_with 1 1 (line 1 0 1 1 0 0 ∷ [])))))
+    marked 3 (Sent 58 8 (messages.Answer 32 (answers.Granted (whole_grant 1 1 (line 1 0 1 1 0 0 ∷ [])))))
     ∷ marked 0 (Got 46) ∷
-    marked 0 (Sent 59 6 (messages.Answer 46 (answers.Granted (grant_with 1 1 [])))) ∷ marked 0 (Got 50) ∷
+    marked 0 (Sent 59 6 (messages.Answer 46 (answers.Granted (whole_grant 1 1 [])))) ∷ marked 0 (Got 50) ∷
     marked 0 (Sent 60 5 (messages.Answer 50 (answers.Clash (tx 1 1) 0 0))) ∷
     marked 0 (Sent 61 6 (messages.Inquiry (tx 1 1))) ∷ marked 5 (Got 60) ∷
     marked 5 (Told (replies.Conflict (tx 1 1) 0)) ∷ marked 5 (Called commands.Commit) ∷
@@ -159,7 +159,7 @@ history =
     marked 5 (Sent 66 4 (messages.Decision (tx 0 2) outcomes.Aborted)) ∷
     marked 5 (Told (replies.Aborted causes.Doomed)) ∷ marked 2 (Got 64) ∷ marked 1 (Got 63) ∷ marked 4 (Got 66) ∷
     marked 6 (Got 47) ∷ marked 8 (Got 58) ∷ marked 0 (Got 62) ∷ marked 3 (Got 44) ∷ marked 6 (Got 48) ∷
-    marked 3 (Sent 67 6 (messages.Answer 44 (answers.Granted (grant_with 1 1 [])))) ∷
+    marked 3 (Sent 67 6 (messages.Answer 44 (answers.Granted (whole_grant 1 1 [])))) ∷
     marked 8 (Sent 68 3 (messages.Request (tx 3 1) 1 1 (wants.Append 0 (line 1 0 1 1 0 0 ∷ []) (own_line 1 0 2 ∷ []))))
     ∷
     marked 8 (Sent 69 4 (messages.Request (tx 3 1) 1 1 (wants.Append 0 (line 1 0 1 1 0 0 ∷ []) (own_line 1 0 2 ∷ []))))
@@ -168,15 +168,15 @@ history =
     ∷
     marked 8 (Sent 71 1 (messages.Request (tx 3 1) 1 1 (wants.Append 0 (line 1 0 1 1 0 0 ∷ []) (own_line 1 0 2 ∷ []))))
     ∷
-    marked 1 (Got 71) ∷ marked 1 (Sent 72 8 (messages.Answer 71 (answers.Granted (grant_with 1 1 []))))
+    marked 1 (Got 71) ∷ marked 1 (Sent 72 8 (messages.Answer 71 (answers.Granted (whole_grant 1 1 []))))
     ∷ marked 4 (Got 69) ∷
-    marked 8 (Got 72) ∷ marked 4 (Sent 73 8 (messages.Answer 69 (answers.Granted (grant_with 1 1 []))))
+    marked 8 (Got 72) ∷ marked 4 (Sent 73 8 (messages.Answer 69 (answers.Granted (whole_grant 1 1 []))))
     ∷ marked 3 (Got 65) ∷
     marked 0 (Got 70) ∷ marked 8 (Got 73)
-    ∷ marked 0 (Sent 74 8 (messages.Answer 70 (answers.Granted (grant_with 1 1 [])))) ∷
+    ∷ marked 0 (Sent 74 8 (messages.Answer 70 (answers.Granted (whole_grant 1 1 [])))) ∷
     marked 6 (Got 54) ∷ marked 6 (Sent 75 2 (messages.Decision (tx 1 1) outcomes.Active)) ∷ marked 2 (Got 75) ∷
     marked 8 (Got 74) ∷ marked 3 (Got 68)
-    ∷ marked 3 (Sent 76 8 (messages.Answer 68 (answers.Granted (grant_with 1 1 [])))) ∷
+    ∷ marked 3 (Sent 76 8 (messages.Answer 68 (answers.Granted (whole_grant 1 1 [])))) ∷
     marked 6 (Got 56) ∷ marked 6 (Sent 77 1 (messages.Decision (tx 1 1) outcomes.Active)) ∷ marked 1 (Got 77) ∷
     marked 8 (Got 76) ∷ marked 8 (Told (replies.Response 2)) ∷ marked 8 (Called commands.Commit) ∷ marked 6 (Got 57) ∷
     marked 6 (Got 59) ∷ marked 8 (Sent 78 3 (messages.Request (tx 3 1) 1 1 wants.Prepare)) ∷
@@ -191,8 +191,8 @@ history =
     marked 6 (Sent 84 0 (messages.Decision (tx 1 1) outcomes.Active)) ∷ marked 6 (Got 67) ∷
     marked 6 (Sent 85 1 (messages.Request (tx 1 1) 1 1 (wants.Append 1 [] (own_line 1 1 0 ∷ [])))) ∷
     marked 6 (Sent 86 2 (messages.Request (tx 1 1) 1 1 (wants.Append 1 [] (own_line 1 1 0 ∷ [])))) ∷ marked 1 (Got 85) ∷
-    marked 2 (Got 86) ∷ marked 1 (Sent 87 6 (messages.Answer 85 (answers.Granted (grant_with 1 1 [])))) ∷
-    marked 2 (Sent 88 6 (messages.Answer 86 (answers.Granted (grant_with 1 1 [])))) ∷ marked 0 (Got 80) ∷
+    marked 2 (Got 86) ∷ marked 1 (Sent 87 6 (messages.Answer 85 (answers.Granted (whole_grant 1 1 [])))) ∷
+    marked 2 (Sent 88 6 (messages.Answer 86 (answers.Granted (whole_grant 1 1 [])))) ∷ marked 0 (Got 80) ∷
     marked 0 (Wrote (prepare (tx 3 1) 1 (read_lock 0 1 ∷ []) (own_line 1 0 2 ∷ []) [])) ∷
     marked 0 (Sent 89 8 (messages.Answer 80 (answers.Yes 1))) ∷ marked 3 (Got 78) ∷ marked 8 (Got 83) ∷
     marked 3 (Wrote (prepare (tx 3 1) 1 (read_lock 0 1 ∷ []) (own_line 1 0 2 ∷ []) [])) ∷

@@ -15,7 +15,7 @@ use Rattle.qc_msg.specs.declared.message.Outcome.TheVariants as outcomes
 use Rattle.qc_msg.specs.declared.record.Record.TheVariants as records
 use Rattle.qc_msg.specs.declared.reply.Reply.TheVariants as replies
 use Rattle.qc_msg.specs.declared.message.Want.TheVariants as wants
-use Rattle.qc_msg.specs.Vocabulary.{grant_with, read_of}
+use Rattle.qc_msg.specs.Vocabulary.{whole_grant, first_read}
 
 abbrev pub decl : Declaration
 decl =
@@ -41,10 +41,10 @@ history =
     marked 3 (Phase 1) ∷ marked 1 (Called commands.Begin) ∷ marked 1 (Told (replies.Began (tx 0 1))) ∷
     marked 1 (Called (commands.Do 0 1)) ∷
     marked 1 (Sent 0 0 (messages.Request (tx 0 1) 1 0 (wants.Append 0 [] (own_line 1 0 2 ∷ [])))) ∷ marked 0 (Got 0) ∷
-    marked 0 (Sent 1 1 (messages.Answer 0 (answers.Granted (grant_with 1 0 [])))) ∷ marked 1 (Got 1) ∷
+    marked 0 (Sent 1 1 (messages.Answer 0 (answers.Granted (whole_grant 1 0 [])))) ∷ marked 1 (Got 1) ∷
     marked 1 (Told (replies.Response 2)) ∷ marked 1 (Called (commands.Do 0 1)) ∷
     marked 1 (Sent 2 0 (messages.Request (tx 0 1) 1 1 (wants.Append 0 [] (own_line 1 0 2 ∷ own_line 2 0 2 ∷ [])))) ∷
-    marked 0 (Got 2) ∷ marked 0 (Sent 3 1 (messages.Answer 2 (answers.Granted (grant_with 1 0 [])))) ∷ marked 1 (Got 3)
+    marked 0 (Got 2) ∷ marked 0 (Sent 3 1 (messages.Answer 2 (answers.Granted (whole_grant 1 0 [])))) ∷ marked 1 (Got 3)
     ∷
     marked 1 (Told (replies.Response 2)) ∷ marked 1 (Got 3) ∷ marked 1 (Called commands.Commit) ∷
     marked 1 (Sent 4 0 (messages.Request (tx 0 1) 1 1 wants.Prepare)) ∷ marked 1 (Lost 4) ∷
@@ -52,13 +52,13 @@ history =
     marked 1 (Told (replies.Aborted (causes.NoAnswer 0))) ∷ marked 0 (Got 5) ∷ marked 3 (Phase 2) ∷ marked 0 (Got 4) ∷
     marked 0 (Sent 6 1 (messages.Answer 4 answers.Stale)) ∷ marked 1 (Got 6) ∷ marked 1 (Called commands.Begin) ∷
     marked 1 (Told (replies.Began (tx 0 2))) ∷ marked 1 (Called (commands.Do 0 0)) ∷
-    marked 1 (Sent 7 0 (messages.Request (tx 0 2) 1 0 (wants.Read (read_of 0 0)))) ∷ marked 0 (Got 7) ∷
-    marked 0 (Sent 8 1 (messages.Answer 7 (answers.Granted (grant_with 1 0 [])))) ∷ marked 1 (Got 8) ∷
+    marked 1 (Sent 7 0 (messages.Request (tx 0 2) 1 0 (wants.Read (first_read 0 0)))) ∷ marked 0 (Got 7) ∷
+    marked 0 (Sent 8 1 (messages.Answer 7 (answers.Granted (whole_grant 1 0 [])))) ∷ marked 1 (Got 8) ∷
     marked 1 (Sent 9 0 (messages.Request (tx 0 2) 1 1 (wants.Append 0 [] (own_line 1 0 0 ∷ [])))) ∷ marked 0 (Got 9) ∷
-    marked 0 (Sent 10 1 (messages.Answer 9 (answers.Granted (grant_with 1 0 [])))) ∷ marked 1 (Got 10) ∷
+    marked 0 (Sent 10 1 (messages.Answer 9 (answers.Granted (whole_grant 1 0 [])))) ∷ marked 1 (Got 10) ∷
     marked 1 (Told (replies.Response 0)) ∷ marked 1 (Called (commands.Do 0 1)) ∷
     marked 1 (Sent 11 0 (messages.Request (tx 0 2) 1 1 (wants.Append 0 [] (own_line 1 0 0 ∷ own_line 2 0 2 ∷ [])))) ∷
-    marked 0 (Got 11) ∷ marked 0 (Sent 12 1 (messages.Answer 11 (answers.Granted (grant_with 1 0 []))))
+    marked 0 (Got 11) ∷ marked 0 (Sent 12 1 (messages.Answer 11 (answers.Granted (whole_grant 1 0 []))))
     ∷ marked 1 (Got 12) ∷
     marked 1 (Told (replies.Response 2)) ∷ marked 1 (Called commands.Commit) ∷
     marked 1 (Sent 13 0 (messages.Request (tx 0 2) 1 1 wants.Prepare)) ∷ marked 0 (Got 13) ∷

@@ -16,7 +16,7 @@ use Rattle.qc_msg.specs.declared.message.Outcome.TheVariants as outcomes
 use Rattle.qc_msg.specs.declared.record.Record.TheVariants as records
 use Rattle.qc_msg.specs.declared.reply.Reply.TheVariants as replies
 use Rattle.qc_msg.specs.declared.message.Want.TheVariants as wants
-use Rattle.qc_msg.specs.Vocabulary.{grant_with, read_of}
+use Rattle.qc_msg.specs.Vocabulary.{whole_grant, first_read}
 
 abbrev pub decl : Declaration
 decl =
@@ -66,23 +66,24 @@ history =
     marked 4 (Told (replies.Began (tx 0 1))) ∷ marked 4 (Called commands.Commit) ∷
     marked 4 (Wrote (commit (stamp 1 0) (tx 0 1) [])) ∷ marked 4 (Told (replies.Committed (stamp 1 0))) ∷
     marked 6 (Phase 2) ∷ marked 4 (Called commands.Begin) ∷ marked 4 (Told (replies.Began (tx 0 2))) ∷
-    marked 4 (Called (commands.Do 0 0)) ∷ marked 4 (Sent 0 0 (messages.Request (tx 0 2) 1 0 (wants.Read (read_of 0 0))))
+    marked 4 (Called (commands.Do 0 0)) ∷
+    marked 4 (Sent 0 0 (messages.Request (tx 0 2) 1 0 (wants.Read (first_read 0 0))))
     ∷
-    marked 4 (Sent 1 1 (messages.Request (tx 0 2) 1 0 (wants.Read (read_of 0 0)))) ∷
-    marked 4 (Sent 2 2 (messages.Request (tx 0 2) 1 0 (wants.Read (read_of 0 0)))) ∷ marked 1 (Got 1) ∷
-    marked 1 (Sent 3 4 (messages.Answer 1 (answers.Granted (grant_with 1 0 [])))) ∷ marked 2 (Got 2) ∷
-    marked 2 (Sent 4 4 (messages.Answer 2 (answers.Granted (grant_with 1 0 [])))) ∷ marked 4 (Got 3) ∷ marked 4 (Got 4)
+    marked 4 (Sent 1 1 (messages.Request (tx 0 2) 1 0 (wants.Read (first_read 0 0)))) ∷
+    marked 4 (Sent 2 2 (messages.Request (tx 0 2) 1 0 (wants.Read (first_read 0 0)))) ∷ marked 1 (Got 1) ∷
+    marked 1 (Sent 3 4 (messages.Answer 1 (answers.Granted (whole_grant 1 0 [])))) ∷ marked 2 (Got 2) ∷
+    marked 2 (Sent 4 4 (messages.Answer 2 (answers.Granted (whole_grant 1 0 [])))) ∷ marked 4 (Got 3) ∷ marked 4 (Got 4)
     ∷
-    marked 4 (Lost 0) ∷ marked 4 (Sent 5 3 (messages.Request (tx 0 2) 1 0 (wants.Read (read_of 0 0))))
+    marked 4 (Lost 0) ∷ marked 4 (Sent 5 3 (messages.Request (tx 0 2) 1 0 (wants.Read (first_read 0 0))))
     ∷ marked 3 (Got 5) ∷
-    marked 3 (Sent 6 4 (messages.Answer 5 (answers.Granted (grant_with 1 0 [])))) ∷ marked 4 (Got 6) ∷
+    marked 3 (Sent 6 4 (messages.Answer 5 (answers.Granted (whole_grant 1 0 [])))) ∷ marked 4 (Got 6) ∷
     marked 4 (Sent 7 0 (messages.Request (tx 0 2) 1 0 (wants.Append 0 [] (own_line 1 0 0 ∷ [])))) ∷
     marked 4 (Sent 8 1 (messages.Request (tx 0 2) 1 1 (wants.Append 0 [] (own_line 1 0 0 ∷ [])))) ∷
     marked 4 (Sent 9 2 (messages.Request (tx 0 2) 1 1 (wants.Append 0 [] (own_line 1 0 0 ∷ [])))) ∷
     marked 4 (Sent 10 3 (messages.Request (tx 0 2) 1 1 (wants.Append 0 [] (own_line 1 0 0 ∷ [])))) ∷ marked 1 (Got 8) ∷
-    marked 1 (Sent 11 4 (messages.Answer 8 (answers.Granted (grant_with 1 0 [])))) ∷ marked 2 (Got 9) ∷
-    marked 2 (Sent 12 4 (messages.Answer 9 (answers.Granted (grant_with 1 0 [])))) ∷ marked 3 (Got 10) ∷
-    marked 3 (Sent 13 4 (messages.Answer 10 (answers.Granted (grant_with 1 0 [])))) ∷ marked 4 (Got 11)
+    marked 1 (Sent 11 4 (messages.Answer 8 (answers.Granted (whole_grant 1 0 [])))) ∷ marked 2 (Got 9) ∷
+    marked 2 (Sent 12 4 (messages.Answer 9 (answers.Granted (whole_grant 1 0 [])))) ∷ marked 3 (Got 10) ∷
+    marked 3 (Sent 13 4 (messages.Answer 10 (answers.Granted (whole_grant 1 0 [])))) ∷ marked 4 (Got 11)
     ∷ marked 4 (Got 12) ∷
     marked 4 (Got 13) ∷ marked 4 (Lost 7) ∷ marked 4 (Told (replies.Quorum halves.Append 3 4)) ∷
     marked 4 (Called (commands.Do 0 0)) ∷ marked 4 (Told replies.Doomed) ∷ marked 4 (Called (commands.Do 0 0)) ∷
@@ -96,18 +97,18 @@ history =
     marked 4 (Told (replies.Began (tx 0 3))) ∷ marked 4 (Called commands.Commit) ∷
     marked 4 (Wrote (commit (stamp 2 0) (tx 0 3) [])) ∷ marked 4 (Told (replies.Committed (stamp 2 0))) ∷
     marked 4 (Called commands.Begin) ∷ marked 4 (Told (replies.Began (tx 0 4))) ∷ marked 4 (Called (commands.Do 1 0)) ∷
-    marked 4 (Sent 18 0 (messages.Request (tx 0 4) 1 0 (wants.Read (read_of 1 0)))) ∷
-    marked 4 (Sent 19 1 (messages.Request (tx 0 4) 1 0 (wants.Read (read_of 1 0)))) ∷
-    marked 4 (Sent 20 2 (messages.Request (tx 0 4) 1 0 (wants.Read (read_of 1 0)))) ∷
-    marked 4 (Sent 21 3 (messages.Request (tx 0 4) 1 0 (wants.Read (read_of 1 0)))) ∷ marked 0 (Got 18) ∷
-    marked 0 (Sent 22 4 (messages.Answer 18 (answers.Granted (grant_with 1 0 [])))) ∷ marked 1 (Got 19) ∷
-    marked 1 (Sent 23 4 (messages.Answer 19 (answers.Granted (grant_with 1 0 [])))) ∷ marked 2 (Got 20) ∷
-    marked 2 (Sent 24 4 (messages.Answer 20 (answers.Granted (grant_with 1 0 [])))) ∷ marked 3 (Got 21) ∷
-    marked 3 (Sent 25 4 (messages.Answer 21 (answers.Granted (grant_with 1 0 [])))) ∷ marked 4 (Got 22)
+    marked 4 (Sent 18 0 (messages.Request (tx 0 4) 1 0 (wants.Read (first_read 1 0)))) ∷
+    marked 4 (Sent 19 1 (messages.Request (tx 0 4) 1 0 (wants.Read (first_read 1 0)))) ∷
+    marked 4 (Sent 20 2 (messages.Request (tx 0 4) 1 0 (wants.Read (first_read 1 0)))) ∷
+    marked 4 (Sent 21 3 (messages.Request (tx 0 4) 1 0 (wants.Read (first_read 1 0)))) ∷ marked 0 (Got 18) ∷
+    marked 0 (Sent 22 4 (messages.Answer 18 (answers.Granted (whole_grant 1 0 [])))) ∷ marked 1 (Got 19) ∷
+    marked 1 (Sent 23 4 (messages.Answer 19 (answers.Granted (whole_grant 1 0 [])))) ∷ marked 2 (Got 20) ∷
+    marked 2 (Sent 24 4 (messages.Answer 20 (answers.Granted (whole_grant 1 0 [])))) ∷ marked 3 (Got 21) ∷
+    marked 3 (Sent 25 4 (messages.Answer 21 (answers.Granted (whole_grant 1 0 [])))) ∷ marked 4 (Got 22)
     ∷ marked 4 (Got 23) ∷
     marked 4 (Got 24) ∷ marked 4 (Got 25) ∷
     marked 4 (Sent 26 0 (messages.Request (tx 0 4) 1 1 (wants.Append 1 [] (own_line 1 1 0 ∷ [])))) ∷ marked 0 (Got 26) ∷
-    marked 0 (Sent 27 4 (messages.Answer 26 (answers.Granted (grant_with 1 0 [])))) ∷ marked 4 (Got 27) ∷
+    marked 0 (Sent 27 4 (messages.Answer 26 (answers.Granted (whole_grant 1 0 [])))) ∷ marked 4 (Got 27) ∷
     marked 4 (Told (replies.Response 0)) ∷ marked 4 (Called commands.Commit) ∷
     marked 4 (Sent 28 0 (messages.Request (tx 0 4) 1 1 wants.Prepare)) ∷
     marked 4 (Sent 29 1 (messages.Request (tx 0 4) 1 1 wants.Prepare)) ∷
@@ -132,16 +133,16 @@ history =
     marked 2 (Wrote (records.Done (tx 0 4) 3)) ∷ marked 3 (Got 39) ∷ marked 3 (Wrote (records.Done (tx 0 4) 3)) ∷
     marked 6 (Phase 4) ∷ marked 4 (Called commands.Begin) ∷ marked 4 (Told (replies.Began (tx 0 5))) ∷
     marked 4 (Called (commands.Do 0 1))
-    ∷ marked 4 (Sent 40 0 (messages.Request (tx 0 5) 1 0 (wants.Read (read_of 0 1)))) ∷
-    marked 4 (Sent 41 1 (messages.Request (tx 0 5) 1 0 (wants.Read (read_of 0 1)))) ∷
-    marked 4 (Sent 42 2 (messages.Request (tx 0 5) 1 0 (wants.Read (read_of 0 1)))) ∷ marked 0 (Got 40) ∷
-    marked 0 (Sent 43 4 (messages.Answer 40 (answers.Granted (grant_with 1 3 [])))) ∷ marked 1 (Got 41) ∷
-    marked 1 (Sent 44 4 (messages.Answer 41 (answers.Granted (grant_with 1 3 [])))) ∷ marked 2 (Got 42) ∷
-    marked 2 (Sent 45 4 (messages.Answer 42 (answers.Granted (grant_with 1 3 [])))) ∷ marked 4 (Got 43)
+    ∷ marked 4 (Sent 40 0 (messages.Request (tx 0 5) 1 0 (wants.Read (first_read 0 1)))) ∷
+    marked 4 (Sent 41 1 (messages.Request (tx 0 5) 1 0 (wants.Read (first_read 0 1)))) ∷
+    marked 4 (Sent 42 2 (messages.Request (tx 0 5) 1 0 (wants.Read (first_read 0 1)))) ∷ marked 0 (Got 40) ∷
+    marked 0 (Sent 43 4 (messages.Answer 40 (answers.Granted (whole_grant 1 3 [])))) ∷ marked 1 (Got 41) ∷
+    marked 1 (Sent 44 4 (messages.Answer 41 (answers.Granted (whole_grant 1 3 [])))) ∷ marked 2 (Got 42) ∷
+    marked 2 (Sent 45 4 (messages.Answer 42 (answers.Granted (whole_grant 1 3 [])))) ∷ marked 4 (Got 43)
     ∷ marked 4 (Got 44) ∷
     marked 4 (Got 45) ∷ marked 4 (Told replies.Absent) ∷ marked 4 (Called (commands.Do 1 1)) ∷
     marked 4 (Sent 46 0 (messages.Request (tx 0 5) 1 1 (wants.Append 1 [] (own_line 2 1 2 ∷ [])))) ∷ marked 0 (Got 46) ∷
-    marked 0 (Sent 47 4 (messages.Answer 46 (answers.Granted (grant_with 1 3 [])))) ∷ marked 4 (Got 47) ∷
+    marked 0 (Sent 47 4 (messages.Answer 46 (answers.Granted (whole_grant 1 3 [])))) ∷ marked 4 (Got 47) ∷
     marked 4 (Told (replies.Response 2)) ∷ marked 4 (Called commands.Commit) ∷
     marked 4 (Sent 48 0 (messages.Request (tx 0 5) 1 1 wants.Prepare)) ∷
     marked 4 (Sent 49 1 (messages.Request (tx 0 5) 1 1 wants.Prepare)) ∷
@@ -158,7 +159,7 @@ history =
     marked 4 (Got 56) ∷ marked 4 (Called commands.Begin) ∷ marked 4 (Told (replies.Began (tx 0 6))) ∷
     marked 4 (Called (commands.Do 1 1)) ∷
     marked 4 (Sent 57 0 (messages.Request (tx 0 6) 1 0 (wants.Append 1 [] (own_line 1 1 2 ∷ [])))) ∷ marked 0 (Got 57) ∷
-    marked 0 (Sent 58 4 (messages.Answer 57 (answers.Granted (grant_with 1 3 [])))) ∷ marked 4 (Got 58) ∷
+    marked 0 (Sent 58 4 (messages.Answer 57 (answers.Granted (whole_grant 1 3 [])))) ∷ marked 4 (Got 58) ∷
     marked 4 (Told (replies.Response 2)) ∷ marked 4 (Called commands.Commit) ∷
     marked 4 (Sent 59 0 (messages.Request (tx 0 6) 1 1 wants.Prepare)) ∷ marked 0 (Got 59) ∷
     marked 0 (Wrote (prepare (tx 0 6) 1 [] (own_line 1 1 2 ∷ []) [])) ∷
@@ -168,21 +169,21 @@ history =
     marked 4 (Told (replies.Committed (stamp 4 0))) ∷ marked 0 (Got 61) ∷ marked 0 (Wrote (records.Done (tx 0 6) 4)) ∷
     marked 6 (Phase 6) ∷ marked 4 (Called commands.Begin) ∷ marked 4 (Told (replies.Began (tx 0 7))) ∷
     marked 4 (Called (commands.Do 1 0))
-    ∷ marked 4 (Sent 62 0 (messages.Request (tx 0 7) 1 0 (wants.Read (read_of 1 0)))) ∷
-    marked 4 (Sent 63 1 (messages.Request (tx 0 7) 1 0 (wants.Read (read_of 1 0)))) ∷
-    marked 4 (Sent 64 2 (messages.Request (tx 0 7) 1 0 (wants.Read (read_of 1 0)))) ∷
-    marked 4 (Sent 65 3 (messages.Request (tx 0 7) 1 0 (wants.Read (read_of 1 0)))) ∷ marked 0 (Got 62) ∷
+    ∷ marked 4 (Sent 62 0 (messages.Request (tx 0 7) 1 0 (wants.Read (first_read 1 0)))) ∷
+    marked 4 (Sent 63 1 (messages.Request (tx 0 7) 1 0 (wants.Read (first_read 1 0)))) ∷
+    marked 4 (Sent 64 2 (messages.Request (tx 0 7) 1 0 (wants.Read (first_read 1 0)))) ∷
+    marked 4 (Sent 65 3 (messages.Request (tx 0 7) 1 0 (wants.Read (first_read 1 0)))) ∷ marked 0 (Got 62) ∷
     marked 0
-    (Sent 66 4 (messages.Answer 62 (answers.Granted (grant_with 1 4 (line 3 0 4 1 1 0 ∷ line 4 0 6 1 1 2 ∷ []))))) ∷
-    marked 1 (Got 63) ∷ marked 1 (Sent 67 4 (messages.Answer 63 (answers.Granted (grant_with 1 3 []))))
+    (Sent 66 4 (messages.Answer 62 (answers.Granted (whole_grant 1 4 (line 3 0 4 1 1 0 ∷ line 4 0 6 1 1 2 ∷ []))))) ∷
+    marked 1 (Got 63) ∷ marked 1 (Sent 67 4 (messages.Answer 63 (answers.Granted (whole_grant 1 3 []))))
     ∷ marked 2 (Got 64) ∷
-    marked 2 (Sent 68 4 (messages.Answer 64 (answers.Granted (grant_with 1 3 [])))) ∷ marked 3 (Got 65) ∷
-    marked 3 (Sent 69 4 (messages.Answer 65 (answers.Granted (grant_with 1 3 [])))) ∷ marked 4 (Got 66)
+    marked 2 (Sent 68 4 (messages.Answer 64 (answers.Granted (whole_grant 1 3 [])))) ∷ marked 3 (Got 65) ∷
+    marked 3 (Sent 69 4 (messages.Answer 65 (answers.Granted (whole_grant 1 3 [])))) ∷ marked 4 (Got 66)
     ∷ marked 4 (Got 67) ∷
     marked 4 (Got 68) ∷ marked 4 (Got 69) ∷
     marked 4 (Sent 70 0 (messages.Request (tx 0 7) 1 1 (wants.Append 1 (line 3 0 4 1 1 0 ∷ line 4 0 6 1 1 2 ∷ [])
     (own_line 1 1 0 ∷ [])))) ∷
-    marked 0 (Got 70) ∷ marked 0 (Sent 71 4 (messages.Answer 70 (answers.Granted (grant_with 1 4 []))))
+    marked 0 (Got 70) ∷ marked 0 (Sent 71 4 (messages.Answer 70 (answers.Granted (whole_grant 1 4 []))))
     ∷ marked 4 (Got 71) ∷
     marked 4 (Told (replies.Response 0)) ∷ marked 4 (Called commands.Commit) ∷
     marked 4 (Sent 72 0 (messages.Request (tx 0 7) 1 1 wants.Prepare)) ∷

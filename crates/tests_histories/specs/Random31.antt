@@ -15,7 +15,7 @@ use Rattle.qc_msg.specs.declared.message.Outcome.TheVariants as outcomes
 use Rattle.qc_msg.specs.declared.record.Record.TheVariants as records
 use Rattle.qc_msg.specs.declared.reply.Reply.TheVariants as replies
 use Rattle.qc_msg.specs.declared.message.Want.TheVariants as wants
-use Rattle.qc_msg.specs.Vocabulary.{grant_with, read_of}
+use Rattle.qc_msg.specs.Vocabulary.{whole_grant, first_read}
 
 abbrev pub decl : Declaration
 decl =
@@ -71,37 +71,40 @@ history =
     marked 5 (Told (replies.Committed (stamp 1 0))) ∷ marked 9 (Phase 2) ∷ marked 9 (Cut 0 4) ∷
     marked 6 (Called commands.Begin) ∷ marked 5 (Called commands.Begin) ∷ marked 6 (Told (replies.Began (tx 1 2))) ∷
     marked 7 (Called commands.Begin) ∷ marked 6 (Called (commands.Do 0 0)) ∷ marked 7 (Told (replies.Began (tx 2 1))) ∷
-    marked 6 (Sent 0 1 (messages.Request (tx 1 2) 1 0 (wants.Read (read_of 0 0)))) ∷
-    marked 6 (Sent 1 2 (messages.Request (tx 1 2) 1 0 (wants.Read (read_of 0 0)))) ∷
-    marked 6 (Sent 2 3 (messages.Request (tx 1 2) 1 0 (wants.Read (read_of 0 0)))) ∷
-    marked 6 (Sent 3 4 (messages.Request (tx 1 2) 1 0 (wants.Read (read_of 0 0)))) ∷ marked 7 (Called (commands.Do 0 2))
+    marked 6 (Sent 0 1 (messages.Request (tx 1 2) 1 0 (wants.Read (first_read 0 0)))) ∷
+    marked 6 (Sent 1 2 (messages.Request (tx 1 2) 1 0 (wants.Read (first_read 0 0)))) ∷
+    marked 6 (Sent 2 3 (messages.Request (tx 1 2) 1 0 (wants.Read (first_read 0 0)))) ∷
+    marked 6 (Sent 3 4 (messages.Request (tx 1 2) 1 0 (wants.Read (first_read 0 0)))) ∷
+    marked 7 (Called (commands.Do 0 2))
     ∷
-    marked 1 (Got 0) ∷ marked 4 (Got 3) ∷ marked 7 (Sent 4 2 (messages.Request (tx 2 1) 1 0 (wants.Read (read_of 0 2))))
+    marked 1 (Got 0) ∷ marked 4 (Got 3) ∷
+    marked 7 (Sent 4 2 (messages.Request (tx 2 1) 1 0 (wants.Read (first_read 0 2))))
     ∷
-    marked 7 (Sent 5 3 (messages.Request (tx 2 1) 1 0 (wants.Read (read_of 0 2)))) ∷
-    marked 7 (Sent 6 4 (messages.Request (tx 2 1) 1 0 (wants.Read (read_of 0 2)))) ∷
-    marked 1 (Sent 7 6 (messages.Answer 0 (answers.Granted (grant_with 1 0 [])))) ∷ marked 6 (Got 7) ∷
-    marked 4 (Sent 8 6 (messages.Answer 3 (answers.Granted (grant_with 1 0 []))))
+    marked 7 (Sent 5 3 (messages.Request (tx 2 1) 1 0 (wants.Read (first_read 0 2)))) ∷
+    marked 7 (Sent 6 4 (messages.Request (tx 2 1) 1 0 (wants.Read (first_read 0 2)))) ∷
+    marked 1 (Sent 7 6 (messages.Answer 0 (answers.Granted (whole_grant 1 0 [])))) ∷ marked 6 (Got 7) ∷
+    marked 4 (Sent 8 6 (messages.Answer 3 (answers.Granted (whole_grant 1 0 []))))
     ∷ marked 5 (Told (replies.Began (tx 0 2))) ∷
     marked 2 (Got 1) ∷ marked 5 (Called (commands.Do 0 2)) ∷
-    marked 2 (Sent 9 6 (messages.Answer 1 (answers.Granted (grant_with 1 0 [])))) ∷
-    marked 5 (Sent 10 0 (messages.Request (tx 0 2) 1 0 (wants.Read (read_of 0 2)))) ∷
-    marked 5 (Sent 11 1 (messages.Request (tx 0 2) 1 0 (wants.Read (read_of 0 2)))) ∷
-    marked 5 (Sent 12 2 (messages.Request (tx 0 2) 1 0 (wants.Read (read_of 0 2)))) ∷
-    marked 5 (Sent 13 3 (messages.Request (tx 0 2) 1 0 (wants.Read (read_of 0 2)))) ∷ marked 3 (Got 2)
+    marked 2 (Sent 9 6 (messages.Answer 1 (answers.Granted (whole_grant 1 0 [])))) ∷
+    marked 5 (Sent 10 0 (messages.Request (tx 0 2) 1 0 (wants.Read (first_read 0 2)))) ∷
+    marked 5 (Sent 11 1 (messages.Request (tx 0 2) 1 0 (wants.Read (first_read 0 2)))) ∷
+    marked 5 (Sent 12 2 (messages.Request (tx 0 2) 1 0 (wants.Read (first_read 0 2)))) ∷
+    marked 5 (Sent 13 3 (messages.Request (tx 0 2) 1 0 (wants.Read (first_read 0 2)))) ∷ marked 3 (Got 2)
     ∷ marked 1 (Got 11) ∷
-    marked 4 (Got 6) ∷ marked 1 (Sent 14 5 (messages.Answer 11 (answers.Granted (grant_with 1 0 []))))
+    marked 4 (Got 6) ∷ marked 1 (Sent 14 5 (messages.Answer 11 (answers.Granted (whole_grant 1 0 []))))
     ∷ marked 5 (Got 14) ∷
-    marked 3 (Sent 15 6 (messages.Answer 2 (answers.Granted (grant_with 1 0 [])))) ∷ marked 2 (Got 4) ∷ marked 3 (Got 5)
+    marked 3 (Sent 15 6 (messages.Answer 2 (answers.Granted (whole_grant 1 0 [])))) ∷ marked 2 (Got 4) ∷
+    marked 3 (Got 5)
     ∷
-    marked 4 (Sent 16 7 (messages.Answer 6 (answers.Granted (grant_with 1 0 [])))) ∷ marked 6 (Got 8)
+    marked 4 (Sent 16 7 (messages.Answer 6 (answers.Granted (whole_grant 1 0 [])))) ∷ marked 6 (Got 8)
     ∷ marked 0 (Got 10) ∷
-    marked 0 (Sent 17 5 (messages.Answer 10 (answers.Granted (grant_with 1 0 [])))) ∷ marked 7 (Got 16) ∷
-    marked 3 (Sent 18 7 (messages.Answer 5 (answers.Granted (grant_with 1 0 [])))) ∷
-    marked 2 (Sent 19 7 (messages.Answer 4 (answers.Granted (grant_with 1 0 [])))) ∷ marked 3 (Got 13)
+    marked 0 (Sent 17 5 (messages.Answer 10 (answers.Granted (whole_grant 1 0 [])))) ∷ marked 7 (Got 16) ∷
+    marked 3 (Sent 18 7 (messages.Answer 5 (answers.Granted (whole_grant 1 0 [])))) ∷
+    marked 2 (Sent 19 7 (messages.Answer 4 (answers.Granted (whole_grant 1 0 [])))) ∷ marked 3 (Got 13)
     ∷ marked 5 (Got 17) ∷
-    marked 3 (Sent 20 5 (messages.Answer 13 (answers.Granted (grant_with 1 0 [])))) ∷ marked 2 (Got 12) ∷
-    marked 2 (Sent 21 5 (messages.Answer 12 (answers.Granted (grant_with 1 0 [])))) ∷ marked 7 (Got 18)
+    marked 3 (Sent 20 5 (messages.Answer 13 (answers.Granted (whole_grant 1 0 [])))) ∷ marked 2 (Got 12) ∷
+    marked 2 (Sent 21 5 (messages.Answer 12 (answers.Granted (whole_grant 1 0 [])))) ∷ marked 7 (Got 18)
     ∷ marked 6 (Got 9) ∷
     marked 5 (Got 20) ∷ marked 5 (Got 21) ∷
     marked 5 (Sent 22 0 (messages.Request (tx 0 2) 1 1 (wants.Append 0 [] (own_line 1 0 4 ∷ [])))) ∷
@@ -114,7 +117,7 @@ history =
     marked 6 (Sent 29 2 (messages.Request (tx 1 2) 1 1 (wants.Append 0 [] (own_line 1 0 0 ∷ [])))) ∷
     marked 6 (Sent 30 3 (messages.Request (tx 1 2) 1 1 (wants.Append 0 [] (own_line 1 0 0 ∷ [])))) ∷
     marked 6 (Sent 31 4 (messages.Request (tx 1 2) 1 1 (wants.Append 0 [] (own_line 1 0 0 ∷ [])))) ∷ marked 4 (Got 31) ∷
-    marked 0 (Got 22) ∷ marked 4 (Sent 32 6 (messages.Answer 31 (answers.Granted (grant_with 1 0 []))))
+    marked 0 (Got 22) ∷ marked 4 (Sent 32 6 (messages.Answer 31 (answers.Granted (whole_grant 1 0 []))))
     ∷ marked 7 (Got 19) ∷
     marked 5 (Got 26) ∷ marked 1 (Got 23) ∷ marked 6 (Got 27) ∷
     marked 6 (Sent 33 3 (messages.Decision (tx 1 2) outcomes.Active)) ∷
@@ -125,12 +128,12 @@ history =
     marked 7 (Sent 38 4 (messages.Request (tx 2 1) 1 1 (wants.Append 0 [] (own_line 1 0 4 ∷ [])))) ∷ marked 3 (Got 30) ∷
     marked 2 (Sent 39 5 (messages.Answer 24 (answers.Clash (tx 1 2) 0 4))) ∷
     marked 2 (Sent 40 6 (messages.Inquiry (tx 1 2))) ∷ marked 5 (Got 34) ∷
-    marked 1 (Sent 41 6 (messages.Answer 28 (answers.Granted (grant_with 1 0 [])))) ∷ marked 2 (Got 29) ∷
-    marked 0 (Sent 42 5 (messages.Answer 22 (answers.Granted (grant_with 1 0 [])))) ∷ marked 4 (Got 38) ∷
+    marked 1 (Sent 41 6 (messages.Answer 28 (answers.Granted (whole_grant 1 0 [])))) ∷ marked 2 (Got 29) ∷
+    marked 0 (Sent 42 5 (messages.Answer 22 (answers.Granted (whole_grant 1 0 [])))) ∷ marked 4 (Got 38) ∷
     marked 4 (Sent 43 7 (messages.Answer 38 (answers.Clash (tx 1 2) 0 4))) ∷
     marked 4 (Sent 44 6 (messages.Inquiry (tx 1 2))) ∷
-    marked 3 (Sent 45 6 (messages.Answer 30 (answers.Granted (grant_with 1 0 [])))) ∷
-    marked 2 (Sent 46 6 (messages.Answer 29 (answers.Granted (grant_with 1 0 [])))) ∷ marked 2 (Got 36)
+    marked 3 (Sent 45 6 (messages.Answer 30 (answers.Granted (whole_grant 1 0 [])))) ∷
+    marked 2 (Sent 46 6 (messages.Answer 29 (answers.Granted (whole_grant 1 0 [])))) ∷ marked 2 (Got 36)
     ∷ marked 3 (Got 33) ∷
     marked 6 (Got 32) ∷ marked 7 (Got 43) ∷ marked 6 (Got 35) ∷
     marked 2 (Sent 47 7 (messages.Answer 36 (answers.Clash (tx 1 2) 0 4))) ∷
@@ -153,18 +156,18 @@ history =
     marked 7 (Told (replies.Aborted causes.Doomed)) ∷ marked 1 (Got 54) ∷ marked 5 (Called commands.Begin) ∷
     marked 0 (Got 53) ∷ marked 5 (Told (replies.Began (tx 0 3))) ∷ marked 3 (Got 58) ∷
     marked 5 (Called (commands.Do 0 2)) ∷ marked 4 (Got 59) ∷
-    marked 5 (Sent 60 0 (messages.Request (tx 0 3) 1 0 (wants.Read (read_of 0 2)))) ∷
-    marked 5 (Sent 61 1 (messages.Request (tx 0 3) 1 0 (wants.Read (read_of 0 2)))) ∷
-    marked 5 (Sent 62 2 (messages.Request (tx 0 3) 1 0 (wants.Read (read_of 0 2)))) ∷
-    marked 5 (Sent 63 3 (messages.Request (tx 0 3) 1 0 (wants.Read (read_of 0 2)))) ∷ marked 6 (Got 44) ∷
+    marked 5 (Sent 60 0 (messages.Request (tx 0 3) 1 0 (wants.Read (first_read 0 2)))) ∷
+    marked 5 (Sent 61 1 (messages.Request (tx 0 3) 1 0 (wants.Read (first_read 0 2)))) ∷
+    marked 5 (Sent 62 2 (messages.Request (tx 0 3) 1 0 (wants.Read (first_read 0 2)))) ∷
+    marked 5 (Sent 63 3 (messages.Request (tx 0 3) 1 0 (wants.Read (first_read 0 2)))) ∷ marked 6 (Got 44) ∷
     marked 6 (Sent 64 4 (messages.Decision (tx 1 2) outcomes.Active)) ∷ marked 0 (Got 60) ∷ marked 6 (Got 45) ∷
     marked 4 (Got 64) ∷ marked 2 (Got 55)
-    ∷ marked 0 (Sent 65 5 (messages.Answer 60 (answers.Granted (grant_with 1 0 [])))) ∷
+    ∷ marked 0 (Sent 65 5 (messages.Answer 60 (answers.Granted (whole_grant 1 0 [])))) ∷
     marked 6 (Got 46) ∷ marked 5 (Got 65) ∷ marked 6 (Told (replies.Response 0)) ∷ marked 1 (Got 61) ∷
     marked 6 (Got 48) ∷ marked 2 (Got 57)
-    ∷ marked 1 (Sent 66 5 (messages.Answer 61 (answers.Granted (grant_with 1 0 [])))) ∷
+    ∷ marked 1 (Sent 66 5 (messages.Answer 61 (answers.Granted (whole_grant 1 0 [])))) ∷
     marked 6 (Sent 67 2 (messages.Decision (tx 1 2) outcomes.Active)) ∷ marked 3 (Got 63) ∷ marked 6 (Got 51) ∷
-    marked 3 (Sent 68 5 (messages.Answer 63 (answers.Granted (grant_with 1 0 [])))) ∷ marked 2 (Got 62)
+    marked 3 (Sent 68 5 (messages.Answer 63 (answers.Granted (whole_grant 1 0 [])))) ∷ marked 2 (Got 62)
     ∷ marked 5 (Got 66) ∷
     marked 6 (Sent 69 3 (messages.Decision (tx 1 2) outcomes.Active)) ∷ marked 3 (Got 69) ∷
     marked 6 (Called commands.Commit) ∷ marked 6 (Sent 70 1 (messages.Request (tx 1 2) 1 1 wants.Prepare)) ∷
@@ -177,7 +180,7 @@ history =
     marked 1 (Sent 75 6 (messages.Answer 70 (answers.Yes 0))) ∷ marked 6 (Got 74) ∷
     marked 3 (Wrote (prepare (tx 1 2) 1 (read_lock 0 0 ∷ []) (own_line 1 0 0 ∷ []) [])) ∷
     marked 3 (Sent 76 6 (messages.Answer 72 (answers.Yes 0))) ∷
-    marked 2 (Sent 77 5 (messages.Answer 62 (answers.Granted (grant_with 1 0 [])))) ∷ marked 2 (Got 67)
+    marked 2 (Sent 77 5 (messages.Answer 62 (answers.Granted (whole_grant 1 0 [])))) ∷ marked 2 (Got 67)
     ∷ marked 5 (Got 77) ∷
     marked 2 (Got 71) ∷ marked 6 (Got 75) ∷ marked 6 (Got 76) ∷
     marked 5 (Sent 78 0 (messages.Request (tx 0 3) 1 1 (wants.Append 0 [] (own_line 1 0 4 ∷ [])))) ∷
@@ -185,7 +188,7 @@ history =
     marked 5 (Sent 80 2 (messages.Request (tx 0 3) 1 1 (wants.Append 0 [] (own_line 1 0 4 ∷ [])))) ∷
     marked 5 (Sent 81 3 (messages.Request (tx 0 3) 1 1 (wants.Append 0 [] (own_line 1 0 4 ∷ [])))) ∷ marked 0 (Got 78) ∷
     marked 3 (Got 81) ∷ marked 1 (Got 79)
-    ∷ marked 0 (Sent 82 5 (messages.Answer 78 (answers.Granted (grant_with 1 0 [])))) ∷
+    ∷ marked 0 (Sent 82 5 (messages.Answer 78 (answers.Granted (whole_grant 1 0 [])))) ∷
     marked 2 (Wrote (prepare (tx 1 2) 1 (read_lock 0 0 ∷ []) (own_line 1 0 0 ∷ []) [])) ∷
     marked 2 (Sent 83 6 (messages.Answer 71 (answers.Yes 0))) ∷
     marked 1 (Sent 84 5 (messages.Answer 79 (answers.Clash (tx 1 2) 0 4))) ∷

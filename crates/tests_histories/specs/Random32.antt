@@ -17,7 +17,7 @@ use Rattle.qc_msg.specs.declared.message.Outcome.TheVariants as outcomes
 use Rattle.qc_msg.specs.declared.record.Record.TheVariants as records
 use Rattle.qc_msg.specs.declared.reply.Reply.TheVariants as replies
 use Rattle.qc_msg.specs.declared.message.Want.TheVariants as wants
-use Rattle.qc_msg.specs.Vocabulary.{grant_with, read_of}
+use Rattle.qc_msg.specs.Vocabulary.{whole_grant, first_read}
 
 abbrev pub decl : Declaration
 decl =
@@ -72,26 +72,26 @@ history =
     marked 6 (Phase 1) ∷ marked 6 (Cut 3 1) ∷ marked 3 (Called commands.Begin) ∷
     marked 3 (Told (replies.Began (tx 0 1))) ∷ marked 4 (Called commands.Begin) ∷
     marked 4 (Told (replies.Began (tx 1 1))) ∷ marked 3 (Called (commands.Do 0 1)) ∷
-    marked 3 (Sent 0 0 (messages.Request (tx 0 1) 1 0 (wants.Read (read_of 0 1)))) ∷ marked 0 (Got 0) ∷
-    marked 0 (Sent 1 3 (messages.Answer 0 (answers.Granted (grant_with 1 0 [])))) ∷ marked 3 (Got 1) ∷
+    marked 3 (Sent 0 0 (messages.Request (tx 0 1) 1 0 (wants.Read (first_read 0 1)))) ∷ marked 0 (Got 0) ∷
+    marked 0 (Sent 1 3 (messages.Answer 0 (answers.Granted (whole_grant 1 0 [])))) ∷ marked 3 (Got 1) ∷
     marked 3 (Sent 2 0 (messages.Request (tx 0 1) 1 1 (wants.Append 0 [] (own_line 1 0 1 ∷ [])))) ∷
     marked 3 (Sent 3 1 (messages.Request (tx 0 1) 1 0 (wants.Append 0 [] (own_line 1 0 1 ∷ [])))) ∷
     marked 3 (Sent 4 2 (messages.Request (tx 0 1) 1 0 (wants.Append 0 [] (own_line 1 0 1 ∷ [])))) ∷ marked 0 (Got 2) ∷
-    marked 0 (Sent 5 3 (messages.Answer 2 (answers.Granted (grant_with 1 0 [])))) ∷ marked 2 (Got 4) ∷
-    marked 2 (Sent 6 3 (messages.Answer 4 (answers.Granted (grant_with 1 0 [])))) ∷ marked 3 (Got 5) ∷ marked 3 (Got 6)
+    marked 0 (Sent 5 3 (messages.Answer 2 (answers.Granted (whole_grant 1 0 [])))) ∷ marked 2 (Got 4) ∷
+    marked 2 (Sent 6 3 (messages.Answer 4 (answers.Granted (whole_grant 1 0 [])))) ∷ marked 3 (Got 5) ∷ marked 3 (Got 6)
     ∷
     marked 3 (Lost 3) ∷ marked 3 (Told (replies.Quorum halves.Append 2 3)) ∷ marked 4 (Called (commands.Do 0 0)) ∷
-    marked 4 (Sent 7 1 (messages.Request (tx 1 1) 1 0 (wants.Read (read_of 0 0)))) ∷
-    marked 4 (Sent 8 2 (messages.Request (tx 1 1) 1 0 (wants.Read (read_of 0 0)))) ∷
-    marked 4 (Sent 9 0 (messages.Request (tx 1 1) 1 0 (wants.Read (read_of 0 0)))) ∷ marked 1 (Got 7) ∷
-    marked 1 (Sent 10 4 (messages.Answer 7 (answers.Granted (grant_with 1 0 [])))) ∷ marked 2 (Got 8) ∷
-    marked 2 (Sent 11 4 (messages.Answer 8 (answers.Granted (grant_with 1 0 [])))) ∷ marked 0 (Got 9) ∷
-    marked 0 (Sent 12 4 (messages.Answer 9 (answers.Granted (grant_with 1 0 [])))) ∷ marked 4 (Got 10)
+    marked 4 (Sent 7 1 (messages.Request (tx 1 1) 1 0 (wants.Read (first_read 0 0)))) ∷
+    marked 4 (Sent 8 2 (messages.Request (tx 1 1) 1 0 (wants.Read (first_read 0 0)))) ∷
+    marked 4 (Sent 9 0 (messages.Request (tx 1 1) 1 0 (wants.Read (first_read 0 0)))) ∷ marked 1 (Got 7) ∷
+    marked 1 (Sent 10 4 (messages.Answer 7 (answers.Granted (whole_grant 1 0 [])))) ∷ marked 2 (Got 8) ∷
+    marked 2 (Sent 11 4 (messages.Answer 8 (answers.Granted (whole_grant 1 0 [])))) ∷ marked 0 (Got 9) ∷
+    marked 0 (Sent 12 4 (messages.Answer 9 (answers.Granted (whole_grant 1 0 [])))) ∷ marked 4 (Got 10)
     ∷ marked 4 (Got 11) ∷
     marked 4 (Got 12) ∷ marked 4 (Sent 13 1 (messages.Request (tx 1 1) 1 1 (wants.Append 0 [] (own_line 1 0 0 ∷ [])))) ∷
     marked 4 (Sent 14 2 (messages.Request (tx 1 1) 1 1 (wants.Append 0 [] (own_line 1 0 0 ∷ [])))) ∷ marked 1 (Got 13) ∷
-    marked 1 (Sent 15 4 (messages.Answer 13 (answers.Granted (grant_with 1 0 [])))) ∷ marked 2 (Got 14) ∷
-    marked 2 (Sent 16 4 (messages.Answer 14 (answers.Granted (grant_with 1 0 [])))) ∷ marked 4 (Got 15)
+    marked 1 (Sent 15 4 (messages.Answer 13 (answers.Granted (whole_grant 1 0 [])))) ∷ marked 2 (Got 14) ∷
+    marked 2 (Sent 16 4 (messages.Answer 14 (answers.Granted (whole_grant 1 0 [])))) ∷ marked 4 (Got 15)
     ∷ marked 4 (Got 16) ∷
     marked 4 (Told (replies.Response 0)) ∷ marked 3 (Called commands.Abort) ∷
     marked 3 (Sent 17 0 (messages.Decision (tx 0 1) outcomes.Aborted)) ∷
@@ -102,23 +102,23 @@ history =
     marked 4 (Sent 21 1 (messages.Decision (tx 1 1) outcomes.Aborted)) ∷
     marked 4 (Sent 22 2 (messages.Decision (tx 1 1) outcomes.Aborted)) ∷ marked 4 (Told replies.Dropped) ∷
     marked 0 (Got 20) ∷ marked 2 (Got 22) ∷ marked 6 (Phase 2) ∷ marked 6 (Heal 3 1) ∷ marked 1 (Got 7) ∷
-    marked 1 (Sent 23 4 (messages.Answer 7 (answers.Granted (grant_with 1 0 [])))) ∷ marked 1 (Got 21)
+    marked 1 (Sent 23 4 (messages.Answer 7 (answers.Granted (whole_grant 1 0 [])))) ∷ marked 1 (Got 21)
     ∷ marked 4 (Got 23) ∷
     marked 3 (Called commands.Begin) ∷ marked 3 (Told (replies.Began (tx 0 2))) ∷ marked 4 (Called commands.Begin) ∷
     marked 4 (Told (replies.Began (tx 1 2))) ∷ marked 3 (Called (commands.Do 0 2)) ∷
-    marked 3 (Sent 24 0 (messages.Request (tx 0 2) 1 0 (wants.Read (read_of 0 2)))) ∷
-    marked 3 (Sent 25 1 (messages.Request (tx 0 2) 1 0 (wants.Read (read_of 0 2)))) ∷
-    marked 3 (Sent 26 2 (messages.Request (tx 0 2) 1 0 (wants.Read (read_of 0 2)))) ∷ marked 0 (Got 24) ∷
-    marked 0 (Sent 27 3 (messages.Answer 24 (answers.Granted (grant_with 1 0 [])))) ∷ marked 2 (Got 26) ∷
-    marked 2 (Sent 28 3 (messages.Answer 26 (answers.Granted (grant_with 1 0 [])))) ∷ marked 3 (Got 27)
+    marked 3 (Sent 24 0 (messages.Request (tx 0 2) 1 0 (wants.Read (first_read 0 2)))) ∷
+    marked 3 (Sent 25 1 (messages.Request (tx 0 2) 1 0 (wants.Read (first_read 0 2)))) ∷
+    marked 3 (Sent 26 2 (messages.Request (tx 0 2) 1 0 (wants.Read (first_read 0 2)))) ∷ marked 0 (Got 24) ∷
+    marked 0 (Sent 27 3 (messages.Answer 24 (answers.Granted (whole_grant 1 0 [])))) ∷ marked 2 (Got 26) ∷
+    marked 2 (Sent 28 3 (messages.Answer 26 (answers.Granted (whole_grant 1 0 [])))) ∷ marked 3 (Got 27)
     ∷ marked 3 (Got 28) ∷
     marked 3 (Lost 25) ∷ marked 3 (Told (replies.Quorum halves.Read 2 3)) ∷ marked 4 (Called (commands.Do 0 1)) ∷
-    marked 4 (Sent 29 1 (messages.Request (tx 1 2) 1 0 (wants.Read (read_of 0 1)))) ∷ marked 1 (Got 29) ∷
-    marked 1 (Sent 30 4 (messages.Answer 29 (answers.Granted (grant_with 1 0 [])))) ∷ marked 4 (Got 30) ∷
+    marked 4 (Sent 29 1 (messages.Request (tx 1 2) 1 0 (wants.Read (first_read 0 1)))) ∷ marked 1 (Got 29) ∷
+    marked 1 (Sent 30 4 (messages.Answer 29 (answers.Granted (whole_grant 1 0 [])))) ∷ marked 4 (Got 30) ∷
     marked 4 (Sent 31 1 (messages.Request (tx 1 2) 1 1 (wants.Append 0 [] (own_line 1 0 1 ∷ [])))) ∷
     marked 4 (Sent 32 2 (messages.Request (tx 1 2) 1 0 (wants.Append 0 [] (own_line 1 0 1 ∷ [])))) ∷
     marked 4 (Sent 33 0 (messages.Request (tx 1 2) 1 0 (wants.Append 0 [] (own_line 1 0 1 ∷ [])))) ∷ marked 1 (Got 31) ∷
-    marked 1 (Sent 34 4 (messages.Answer 31 (answers.Granted (grant_with 1 0 [])))) ∷ marked 2 (Got 32) ∷
+    marked 1 (Sent 34 4 (messages.Answer 31 (answers.Granted (whole_grant 1 0 [])))) ∷ marked 2 (Got 32) ∷
     marked 2 (Sent 35 4 (messages.Answer 32 (answers.Clash (tx 0 2) 2 1))) ∷
     marked 2 (Sent 36 3 (messages.Inquiry (tx 0 2))) ∷ marked 0 (Got 33) ∷
     marked 0 (Sent 37 4 (messages.Answer 33 (answers.Clash (tx 0 2) 2 1))) ∷
@@ -130,14 +130,14 @@ history =
     marked 4 (Sent 42 1 (messages.Decision (tx 1 2) outcomes.Aborted)) ∷
     marked 4 (Sent 43 2 (messages.Decision (tx 1 2) outcomes.Aborted)) ∷ marked 4 (Told replies.Dropped) ∷
     marked 0 (Got 41) ∷ marked 1 (Got 42) ∷ marked 2 (Got 43) ∷ marked 6 (Phase 3) ∷ marked 1 (Got 25) ∷
-    marked 1 (Sent 44 3 (messages.Answer 25 (answers.Granted (grant_with 1 0 [])))) ∷ marked 3 (Got 44) ∷
+    marked 1 (Sent 44 3 (messages.Answer 25 (answers.Granted (whole_grant 1 0 [])))) ∷ marked 3 (Got 44) ∷
     marked 4 (Called commands.Begin) ∷ marked 4 (Told (replies.Began (tx 1 3))) ∷ marked 4 (Called (commands.Do 0 0)) ∷
-    marked 4 (Sent 45 1 (messages.Request (tx 1 3) 1 0 (wants.Read (read_of 0 0)))) ∷
-    marked 4 (Sent 46 2 (messages.Request (tx 1 3) 1 0 (wants.Read (read_of 0 0)))) ∷
-    marked 4 (Sent 47 0 (messages.Request (tx 1 3) 1 0 (wants.Read (read_of 0 0)))) ∷ marked 1 (Got 45) ∷
-    marked 1 (Sent 48 4 (messages.Answer 45 (answers.Granted (grant_with 1 0 [])))) ∷ marked 2 (Got 46) ∷
-    marked 2 (Sent 49 4 (messages.Answer 46 (answers.Granted (grant_with 1 0 [])))) ∷ marked 0 (Got 47) ∷
-    marked 0 (Sent 50 4 (messages.Answer 47 (answers.Granted (grant_with 1 0 [])))) ∷ marked 4 (Got 48)
+    marked 4 (Sent 45 1 (messages.Request (tx 1 3) 1 0 (wants.Read (first_read 0 0)))) ∷
+    marked 4 (Sent 46 2 (messages.Request (tx 1 3) 1 0 (wants.Read (first_read 0 0)))) ∷
+    marked 4 (Sent 47 0 (messages.Request (tx 1 3) 1 0 (wants.Read (first_read 0 0)))) ∷ marked 1 (Got 45) ∷
+    marked 1 (Sent 48 4 (messages.Answer 45 (answers.Granted (whole_grant 1 0 [])))) ∷ marked 2 (Got 46) ∷
+    marked 2 (Sent 49 4 (messages.Answer 46 (answers.Granted (whole_grant 1 0 [])))) ∷ marked 0 (Got 47) ∷
+    marked 0 (Sent 50 4 (messages.Answer 47 (answers.Granted (whole_grant 1 0 [])))) ∷ marked 4 (Got 48)
     ∷ marked 4 (Got 49) ∷
     marked 4 (Got 50) ∷ marked 4 (Sent 51 1 (messages.Request (tx 1 3) 1 1 (wants.Append 0 [] (own_line 1 0 0 ∷ [])))) ∷
     marked 4 (Sent 52 2 (messages.Request (tx 1 3) 1 1 (wants.Append 0 [] (own_line 1 0 0 ∷ [])))) ∷ marked 1 (Got 51) ∷
@@ -166,25 +166,25 @@ history =
     marked 3 (Told (replies.Committed (stamp 1 0))) ∷ marked 0 (Got 66) ∷ marked 0 (Wrote (records.Done (tx 0 2) 1)) ∷
     marked 1 (Got 67) ∷ marked 2 (Got 68) ∷ marked 2 (Wrote (records.Done (tx 0 2) 1)) ∷
     marked 4 (Called commands.Begin) ∷ marked 4 (Told (replies.Began (tx 1 4))) ∷ marked 4 (Called (commands.Do 0 2)) ∷
-    marked 4 (Sent 69 1 (messages.Request (tx 1 4) 1 0 (wants.Read (read_of 0 2)))) ∷
-    marked 4 (Sent 70 2 (messages.Request (tx 1 4) 1 0 (wants.Read (read_of 0 2)))) ∷
-    marked 4 (Sent 71 0 (messages.Request (tx 1 4) 1 0 (wants.Read (read_of 0 2)))) ∷ marked 1 (Got 69) ∷
-    marked 1 (Sent 72 4 (messages.Answer 69 (answers.Granted (grant_with 1 1 [])))) ∷ marked 2 (Got 70) ∷
-    marked 2 (Sent 73 4 (messages.Answer 70 (answers.Granted (grant_with 1 1 [])))) ∷ marked 0 (Got 71) ∷
-    marked 0 (Sent 74 4 (messages.Answer 71 (answers.Granted (grant_with 1 1 [])))) ∷ marked 4 (Got 72)
+    marked 4 (Sent 69 1 (messages.Request (tx 1 4) 1 0 (wants.Read (first_read 0 2)))) ∷
+    marked 4 (Sent 70 2 (messages.Request (tx 1 4) 1 0 (wants.Read (first_read 0 2)))) ∷
+    marked 4 (Sent 71 0 (messages.Request (tx 1 4) 1 0 (wants.Read (first_read 0 2)))) ∷ marked 1 (Got 69) ∷
+    marked 1 (Sent 72 4 (messages.Answer 69 (answers.Granted (whole_grant 1 1 [])))) ∷ marked 2 (Got 70) ∷
+    marked 2 (Sent 73 4 (messages.Answer 70 (answers.Granted (whole_grant 1 1 [])))) ∷ marked 0 (Got 71) ∷
+    marked 0 (Sent 74 4 (messages.Answer 71 (answers.Granted (whole_grant 1 1 [])))) ∷ marked 4 (Got 72)
     ∷ marked 4 (Got 73) ∷
     marked 4 (Got 74) ∷ marked 4 (Told replies.Absent) ∷ marked 4 (Called (commands.Do 0 0)) ∷
-    marked 4 (Sent 75 1 (messages.Request (tx 1 4) 1 1 (wants.Read (read_of 0 0)))) ∷
-    marked 4 (Sent 76 2 (messages.Request (tx 1 4) 1 1 (wants.Read (read_of 0 0)))) ∷
-    marked 4 (Sent 77 0 (messages.Request (tx 1 4) 1 1 (wants.Read (read_of 0 0)))) ∷ marked 1 (Got 75) ∷
-    marked 1 (Sent 78 4 (messages.Answer 75 (answers.Granted (grant_with 1 1 [])))) ∷ marked 2 (Got 76) ∷
-    marked 2 (Sent 79 4 (messages.Answer 76 (answers.Granted (grant_with 1 1 [])))) ∷ marked 0 (Got 77) ∷
-    marked 0 (Sent 80 4 (messages.Answer 77 (answers.Granted (grant_with 1 1 [])))) ∷ marked 4 (Got 78)
+    marked 4 (Sent 75 1 (messages.Request (tx 1 4) 1 1 (wants.Read (first_read 0 0)))) ∷
+    marked 4 (Sent 76 2 (messages.Request (tx 1 4) 1 1 (wants.Read (first_read 0 0)))) ∷
+    marked 4 (Sent 77 0 (messages.Request (tx 1 4) 1 1 (wants.Read (first_read 0 0)))) ∷ marked 1 (Got 75) ∷
+    marked 1 (Sent 78 4 (messages.Answer 75 (answers.Granted (whole_grant 1 1 [])))) ∷ marked 2 (Got 76) ∷
+    marked 2 (Sent 79 4 (messages.Answer 76 (answers.Granted (whole_grant 1 1 [])))) ∷ marked 0 (Got 77) ∷
+    marked 0 (Sent 80 4 (messages.Answer 77 (answers.Granted (whole_grant 1 1 [])))) ∷ marked 4 (Got 78)
     ∷ marked 4 (Got 79) ∷
     marked 4 (Got 80) ∷ marked 4 (Sent 81 1 (messages.Request (tx 1 4) 1 1 (wants.Append 0 [] (own_line 2 0 0 ∷ [])))) ∷
     marked 4 (Sent 82 2 (messages.Request (tx 1 4) 1 1 (wants.Append 0 [] (own_line 2 0 0 ∷ [])))) ∷ marked 1 (Got 81) ∷
-    marked 1 (Sent 83 4 (messages.Answer 81 (answers.Granted (grant_with 1 1 [])))) ∷ marked 2 (Got 82) ∷
-    marked 2 (Sent 84 4 (messages.Answer 82 (answers.Granted (grant_with 1 1 [])))) ∷ marked 4 (Got 83)
+    marked 1 (Sent 83 4 (messages.Answer 81 (answers.Granted (whole_grant 1 1 [])))) ∷ marked 2 (Got 82) ∷
+    marked 2 (Sent 84 4 (messages.Answer 82 (answers.Granted (whole_grant 1 1 [])))) ∷ marked 4 (Got 83)
     ∷ marked 4 (Got 84) ∷
     marked 4 (Told (replies.Response 0)) ∷ marked 4 (Called commands.Commit) ∷
     marked 4 (Sent 85 1 (messages.Request (tx 1 4) 1 1 wants.Prepare)) ∷
@@ -205,13 +205,13 @@ history =
     marked 1 (Got 92) ∷ marked 1 (Wrote (records.Done (tx 1 4) 2)) ∷ marked 2 (Got 93) ∷
     marked 2 (Wrote (records.Done (tx 1 4) 2)) ∷ marked 4 (Called commands.Begin) ∷
     marked 4 (Told (replies.Began (tx 1 5))) ∷ marked 4 (Called (commands.Do 0 0)) ∷
-    marked 4 (Sent 94 1 (messages.Request (tx 1 5) 1 0 (wants.Read (read_of 0 0)))) ∷
-    marked 4 (Sent 95 2 (messages.Request (tx 1 5) 1 0 (wants.Read (read_of 0 0)))) ∷
-    marked 4 (Sent 96 0 (messages.Request (tx 1 5) 1 0 (wants.Read (read_of 0 0)))) ∷ marked 1 (Got 94) ∷
-    marked 1 (Sent 97 4 (messages.Answer 94 (answers.Granted (grant_with 1 2 (line 2 1 4 2 0 0 ∷ [])))))
+    marked 4 (Sent 94 1 (messages.Request (tx 1 5) 1 0 (wants.Read (first_read 0 0)))) ∷
+    marked 4 (Sent 95 2 (messages.Request (tx 1 5) 1 0 (wants.Read (first_read 0 0)))) ∷
+    marked 4 (Sent 96 0 (messages.Request (tx 1 5) 1 0 (wants.Read (first_read 0 0)))) ∷ marked 1 (Got 94) ∷
+    marked 1 (Sent 97 4 (messages.Answer 94 (answers.Granted (whole_grant 1 2 (line 2 1 4 2 0 0 ∷ [])))))
     ∷ marked 2 (Got 95) ∷
-    marked 2 (Sent 98 4 (messages.Answer 95 (answers.Granted (grant_with 1 2 (line 2 1 4 2 0 0 ∷ [])))))
+    marked 2 (Sent 98 4 (messages.Answer 95 (answers.Granted (whole_grant 1 2 (line 2 1 4 2 0 0 ∷ [])))))
     ∷ marked 0 (Got 96) ∷
-    marked 0 (Sent 99 4 (messages.Answer 96 (answers.Granted (grant_with 1 2 [])))) ∷ marked 4 (Got 97)
+    marked 0 (Sent 99 4 (messages.Answer 96 (answers.Granted (whole_grant 1 2 [])))) ∷ marked 4 (Got 97)
     ∷ marked 4 (Got 98) ∷
     marked 4 (Got 99) ∷ marked 4 (Told replies.Absent) ∷ []

@@ -15,7 +15,7 @@ use Rattle.qc_msg.specs.declared.message.Message.TheVariants as messages
 use Rattle.qc_msg.specs.declared.message.Outcome.TheVariants as outcomes
 use Rattle.qc_msg.specs.declared.reply.Reply.TheVariants as replies
 use Rattle.qc_msg.specs.declared.message.Want.TheVariants as wants
-use Rattle.qc_msg.specs.Vocabulary.{grant_with, read_of}
+use Rattle.qc_msg.specs.Vocabulary.{whole_grant, first_read}
 
 abbrev pub decl : Declaration
 decl =
@@ -75,25 +75,26 @@ history =
     marked 9 (Phase 1) ∷ marked 6 (Called commands.Begin) ∷ marked 7 (Called commands.Begin) ∷
     marked 5 (Called commands.Begin) ∷ marked 6 (Told (replies.Began (tx 2 1))) ∷ marked 6 (Called (commands.Do 1 0)) ∷
     marked 5 (Told (replies.Began (tx 1 1))) ∷ marked 5 (Called (commands.Do 1 2)) ∷
-    marked 5 (Sent 0 1 (messages.Request (tx 1 1) 1 0 (wants.Read (read_of 1 2)))) ∷
-    marked 5 (Sent 1 2 (messages.Request (tx 1 1) 1 0 (wants.Read (read_of 1 2)))) ∷
-    marked 5 (Sent 2 3 (messages.Request (tx 1 1) 1 0 (wants.Read (read_of 1 2)))) ∷ marked 3 (Got 2) ∷ marked 1 (Got 0)
+    marked 5 (Sent 0 1 (messages.Request (tx 1 1) 1 0 (wants.Read (first_read 1 2)))) ∷
+    marked 5 (Sent 1 2 (messages.Request (tx 1 1) 1 0 (wants.Read (first_read 1 2)))) ∷
+    marked 5 (Sent 2 3 (messages.Request (tx 1 1) 1 0 (wants.Read (first_read 1 2)))) ∷ marked 3 (Got 2) ∷
+    marked 1 (Got 0)
     ∷
     marked 2 (Got 1) ∷ marked 7 (Told (replies.Began (tx 3 1))) ∷ marked 7 (Called (commands.Do 1 2)) ∷
-    marked 7 (Sent 3 3 (messages.Request (tx 3 1) 1 0 (wants.Read (read_of 1 2)))) ∷
-    marked 7 (Sent 4 0 (messages.Request (tx 3 1) 1 0 (wants.Read (read_of 1 2)))) ∷
-    marked 7 (Sent 5 1 (messages.Request (tx 3 1) 1 0 (wants.Read (read_of 1 2)))) ∷ marked 0 (Got 4) ∷
-    marked 6 (Sent 6 2 (messages.Request (tx 2 1) 1 0 (wants.Read (read_of 1 0)))) ∷
-    marked 1 (Sent 7 5 (messages.Answer 0 (answers.Granted (grant_with 1 0 [])))) ∷ marked 1 (Got 5) ∷ marked 5 (Got 7)
+    marked 7 (Sent 3 3 (messages.Request (tx 3 1) 1 0 (wants.Read (first_read 1 2)))) ∷
+    marked 7 (Sent 4 0 (messages.Request (tx 3 1) 1 0 (wants.Read (first_read 1 2)))) ∷
+    marked 7 (Sent 5 1 (messages.Request (tx 3 1) 1 0 (wants.Read (first_read 1 2)))) ∷ marked 0 (Got 4) ∷
+    marked 6 (Sent 6 2 (messages.Request (tx 2 1) 1 0 (wants.Read (first_read 1 0)))) ∷
+    marked 1 (Sent 7 5 (messages.Answer 0 (answers.Granted (whole_grant 1 0 [])))) ∷ marked 1 (Got 5) ∷ marked 5 (Got 7)
     ∷
-    marked 2 (Sent 8 5 (messages.Answer 1 (answers.Granted (grant_with 1 0 [])))) ∷ marked 2 (Got 6) ∷
-    marked 3 (Sent 9 5 (messages.Answer 2 (answers.Granted (grant_with 1 0 [])))) ∷ marked 3 (Got 3) ∷ marked 5 (Got 8)
+    marked 2 (Sent 8 5 (messages.Answer 1 (answers.Granted (whole_grant 1 0 [])))) ∷ marked 2 (Got 6) ∷
+    marked 3 (Sent 9 5 (messages.Answer 2 (answers.Granted (whole_grant 1 0 [])))) ∷ marked 3 (Got 3) ∷ marked 5 (Got 8)
     ∷
-    marked 2 (Sent 10 6 (messages.Answer 6 (answers.Granted (grant_with 1 0 [])))) ∷
-    marked 1 (Sent 11 7 (messages.Answer 5 (answers.Granted (grant_with 1 0 [])))) ∷ marked 7 (Got 11)
+    marked 2 (Sent 10 6 (messages.Answer 6 (answers.Granted (whole_grant 1 0 [])))) ∷
+    marked 1 (Sent 11 7 (messages.Answer 5 (answers.Granted (whole_grant 1 0 [])))) ∷ marked 7 (Got 11)
     ∷ marked 6 (Got 10) ∷
-    marked 0 (Sent 12 7 (messages.Answer 4 (answers.Granted (grant_with 1 0 [])))) ∷ marked 7 (Got 12) ∷
-    marked 3 (Sent 13 7 (messages.Answer 3 (answers.Granted (grant_with 1 0 [])))) ∷ marked 5 (Got 9) ∷
+    marked 0 (Sent 12 7 (messages.Answer 4 (answers.Granted (whole_grant 1 0 [])))) ∷ marked 7 (Got 12) ∷
+    marked 3 (Sent 13 7 (messages.Answer 3 (answers.Granted (whole_grant 1 0 [])))) ∷ marked 5 (Got 9) ∷
     marked 6 (Sent 14 2 (messages.Request (tx 2 1) 1 1 (wants.Append 1 [] (own_line 1 1 0 ∷ [])))) ∷
     marked 6 (Sent 15 3 (messages.Request (tx 2 1) 1 0 (wants.Append 1 [] (own_line 1 1 0 ∷ [])))) ∷
     marked 6 (Sent 16 0 (messages.Request (tx 2 1) 1 0 (wants.Append 1 [] (own_line 1 1 0 ∷ [])))) ∷
@@ -142,31 +143,31 @@ history =
     marked 5 (Told replies.NoTransaction) ∷ marked 5 (Called commands.Commit) ∷ marked 5 (Told replies.NoTransaction) ∷
     marked 9 (Phase 3) ∷ marked 9 (Cut 4 6) ∷ marked 5 (Called commands.Begin) ∷ marked 4 (Called commands.Begin) ∷
     marked 5 (Told (replies.Began (tx 1 2))) ∷ marked 5 (Called (commands.Do 0 1)) ∷
-    marked 5 (Sent 47 1 (messages.Request (tx 1 2) 1 0 (wants.Read (read_of 0 1)))) ∷
-    marked 5 (Sent 48 2 (messages.Request (tx 1 2) 1 0 (wants.Read (read_of 0 1)))) ∷
-    marked 5 (Sent 49 3 (messages.Request (tx 1 2) 1 0 (wants.Read (read_of 0 1)))) ∷ marked 1 (Got 47)
+    marked 5 (Sent 47 1 (messages.Request (tx 1 2) 1 0 (wants.Read (first_read 0 1)))) ∷
+    marked 5 (Sent 48 2 (messages.Request (tx 1 2) 1 0 (wants.Read (first_read 0 1)))) ∷
+    marked 5 (Sent 49 3 (messages.Request (tx 1 2) 1 0 (wants.Read (first_read 0 1)))) ∷ marked 1 (Got 47)
     ∷ marked 3 (Got 49) ∷
-    marked 2 (Got 48) ∷ marked 1 (Sent 50 5 (messages.Answer 47 (answers.Granted (grant_with 1 0 []))))
+    marked 2 (Got 48) ∷ marked 1 (Sent 50 5 (messages.Answer 47 (answers.Granted (whole_grant 1 0 []))))
     ∷ marked 5 (Lost 47) ∷
-    marked 3 (Sent 51 5 (messages.Answer 49 (answers.Granted (grant_with 1 0 [])))) ∷
-    marked 2 (Sent 52 5 (messages.Answer 48 (answers.Granted (grant_with 1 0 [])))) ∷ marked 5 (Lost 48) ∷
+    marked 3 (Sent 51 5 (messages.Answer 49 (answers.Granted (whole_grant 1 0 [])))) ∷
+    marked 2 (Sent 52 5 (messages.Answer 48 (answers.Granted (whole_grant 1 0 [])))) ∷ marked 5 (Lost 48) ∷
     marked 4 (Told (replies.Began (tx 0 1))) ∷ marked 5 (Lost 49) ∷
-    marked 5 (Sent 53 0 (messages.Request (tx 1 2) 1 0 (wants.Read (read_of 0 1))))
+    marked 5 (Sent 53 0 (messages.Request (tx 1 2) 1 0 (wants.Read (first_read 0 1))))
     ∷ marked 4 (Called (commands.Do 0 2)) ∷
-    marked 0 (Got 53) ∷ marked 0 (Sent 54 5 (messages.Answer 53 (answers.Granted (grant_with 1 0 []))))
+    marked 0 (Got 53) ∷ marked 0 (Sent 54 5 (messages.Answer 53 (answers.Granted (whole_grant 1 0 []))))
     ∷ marked 5 (Got 54) ∷
     marked 5 (Told (replies.Quorum halves.Read 1 4)) ∷ marked 5 (Called commands.Commit) ∷
-    marked 4 (Sent 55 0 (messages.Request (tx 0 1) 1 0 (wants.Read (read_of 0 2)))) ∷
+    marked 4 (Sent 55 0 (messages.Request (tx 0 1) 1 0 (wants.Read (first_read 0 2)))) ∷
     marked 5 (Sent 56 0 (messages.Request (tx 1 2) 1 1 wants.Prepare)) ∷ marked 0 (Got 55) ∷
-    marked 0 (Sent 57 4 (messages.Answer 55 (answers.Granted (grant_with 1 0 [])))) ∷ marked 0 (Got 56)
+    marked 0 (Sent 57 4 (messages.Answer 55 (answers.Granted (whole_grant 1 0 [])))) ∷ marked 0 (Got 56)
     ∷ marked 4 (Got 57) ∷
     marked 0 (Wrote (prepare (tx 1 2) 1 (read_lock 0 1 ∷ []) [] [])) ∷
     marked 0 (Sent 58 5 (messages.Answer 56 (answers.Yes 0))) ∷ marked 4 (Told (replies.Response 3)) ∷
     marked 4 (Called (commands.Do 1 2)) ∷ marked 5 (Got 58) ∷
-    marked 4 (Sent 59 0 (messages.Request (tx 0 1) 1 1 (wants.Read (read_of 1 2)))) ∷
-    marked 4 (Sent 60 1 (messages.Request (tx 0 1) 1 0 (wants.Read (read_of 1 2)))) ∷
-    marked 4 (Sent 61 2 (messages.Request (tx 0 1) 1 0 (wants.Read (read_of 1 2)))) ∷
-    marked 4 (Sent 62 3 (messages.Request (tx 0 1) 1 0 (wants.Read (read_of 1 2)))) ∷
+    marked 4 (Sent 59 0 (messages.Request (tx 0 1) 1 1 (wants.Read (first_read 1 2)))) ∷
+    marked 4 (Sent 60 1 (messages.Request (tx 0 1) 1 0 (wants.Read (first_read 1 2)))) ∷
+    marked 4 (Sent 61 2 (messages.Request (tx 0 1) 1 0 (wants.Read (first_read 1 2)))) ∷
+    marked 4 (Sent 62 3 (messages.Request (tx 0 1) 1 0 (wants.Read (first_read 1 2)))) ∷
     marked 5 (Wrote (commit (stamp 1 1) (tx 1 2) [])) ∷
     marked 5 (Sent 63 0 (messages.Decision (tx 1 2) (outcomes.Committed (stamp 1 1)))) ∷
     marked 5 (Sent 64 1 (messages.Decision (tx 1 2) (outcomes.Committed (stamp 1 1)))) ∷
@@ -175,43 +176,43 @@ history =
     marked 5 (Told (replies.Committed (stamp 1 1))) ∷ marked 3 (Got 62) ∷ marked 0 (Got 59) ∷ marked 1 (Got 60) ∷
     marked 5 (Called commands.Begin) ∷ marked 2 (Got 61) ∷ marked 5 (Told (replies.Began (tx 1 3))) ∷
     marked 5 (Called (commands.Do 0 2))
-    ∷ marked 0 (Sent 67 4 (messages.Answer 59 (answers.Granted (grant_with 1 0 [])))) ∷
-    marked 2 (Sent 68 4 (messages.Answer 61 (answers.Granted (grant_with 1 0 [])))) ∷ marked 2 (Got 65)
+    ∷ marked 0 (Sent 67 4 (messages.Answer 59 (answers.Granted (whole_grant 1 0 [])))) ∷
+    marked 2 (Sent 68 4 (messages.Answer 61 (answers.Granted (whole_grant 1 0 [])))) ∷ marked 2 (Got 65)
     ∷ marked 4 (Got 67) ∷
-    marked 3 (Sent 69 4 (messages.Answer 62 (answers.Granted (grant_with 1 0 [])))) ∷ marked 3 (Got 66) ∷
-    marked 1 (Sent 70 4 (messages.Answer 60 (answers.Granted (grant_with 1 0 [])))) ∷ marked 1 (Got 64)
+    marked 3 (Sent 69 4 (messages.Answer 62 (answers.Granted (whole_grant 1 0 [])))) ∷ marked 3 (Got 66) ∷
+    marked 1 (Sent 70 4 (messages.Answer 60 (answers.Granted (whole_grant 1 0 [])))) ∷ marked 1 (Got 64)
     ∷ marked 4 (Got 68) ∷
-    marked 5 (Sent 71 1 (messages.Request (tx 1 3) 1 0 (wants.Read (read_of 0 2)))) ∷ marked 1 (Got 71)
+    marked 5 (Sent 71 1 (messages.Request (tx 1 3) 1 0 (wants.Read (first_read 0 2)))) ∷ marked 1 (Got 71)
     ∷ marked 4 (Got 69) ∷
-    marked 1 (Sent 72 5 (messages.Answer 71 (answers.Granted (grant_with 1 1 [])))) ∷ marked 5 (Got 72) ∷
+    marked 1 (Sent 72 5 (messages.Answer 71 (answers.Granted (whole_grant 1 1 [])))) ∷ marked 5 (Got 72) ∷
     marked 5 (Told (replies.Response 3)) ∷ marked 5 (Called (commands.Do 0 0)) ∷
-    marked 5 (Sent 73 1 (messages.Request (tx 1 3) 1 1 (wants.Read (read_of 0 0)))) ∷
-    marked 5 (Sent 74 2 (messages.Request (tx 1 3) 1 0 (wants.Read (read_of 0 0)))) ∷
-    marked 5 (Sent 75 3 (messages.Request (tx 1 3) 1 0 (wants.Read (read_of 0 0)))) ∷ marked 3 (Got 75)
+    marked 5 (Sent 73 1 (messages.Request (tx 1 3) 1 1 (wants.Read (first_read 0 0)))) ∷
+    marked 5 (Sent 74 2 (messages.Request (tx 1 3) 1 0 (wants.Read (first_read 0 0)))) ∷
+    marked 5 (Sent 75 3 (messages.Request (tx 1 3) 1 0 (wants.Read (first_read 0 0)))) ∷ marked 3 (Got 75)
     ∷ marked 1 (Got 73) ∷
-    marked 1 (Sent 76 5 (messages.Answer 73 (answers.Granted (grant_with 1 1 [])))) ∷ marked 2 (Got 74) ∷
-    marked 2 (Sent 77 5 (messages.Answer 74 (answers.Granted (grant_with 1 1 [])))) ∷ marked 5 (Got 76) ∷
-    marked 3 (Sent 78 5 (messages.Answer 75 (answers.Granted (grant_with 1 1 [])))) ∷ marked 5 (Got 77)
+    marked 1 (Sent 76 5 (messages.Answer 73 (answers.Granted (whole_grant 1 1 [])))) ∷ marked 2 (Got 74) ∷
+    marked 2 (Sent 77 5 (messages.Answer 74 (answers.Granted (whole_grant 1 1 [])))) ∷ marked 5 (Got 76) ∷
+    marked 3 (Sent 78 5 (messages.Answer 75 (answers.Granted (whole_grant 1 1 [])))) ∷ marked 5 (Got 77)
     ∷ marked 4 (Got 70) ∷
     marked 5 (Got 78) ∷ marked 4 (Told (replies.Response 3)) ∷ marked 4 (Called (commands.Do 1 1)) ∷
-    marked 4 (Sent 79 0 (messages.Request (tx 0 1) 1 1 (wants.Read (read_of 1 1)))) ∷
-    marked 4 (Sent 80 1 (messages.Request (tx 0 1) 1 1 (wants.Read (read_of 1 1)))) ∷
-    marked 4 (Sent 81 2 (messages.Request (tx 0 1) 1 1 (wants.Read (read_of 1 1)))) ∷ marked 1 (Got 80)
+    marked 4 (Sent 79 0 (messages.Request (tx 0 1) 1 1 (wants.Read (first_read 1 1)))) ∷
+    marked 4 (Sent 80 1 (messages.Request (tx 0 1) 1 1 (wants.Read (first_read 1 1)))) ∷
+    marked 4 (Sent 81 2 (messages.Request (tx 0 1) 1 1 (wants.Read (first_read 1 1)))) ∷ marked 1 (Got 80)
     ∷ marked 4 (Lost 79) ∷
-    marked 2 (Got 81) ∷ marked 1 (Sent 82 4 (messages.Answer 80 (answers.Granted (grant_with 1 1 [])))) ∷
-    marked 2 (Sent 83 4 (messages.Answer 81 (answers.Granted (grant_with 1 1 [])))) ∷
+    marked 2 (Got 81) ∷ marked 1 (Sent 82 4 (messages.Answer 80 (answers.Granted (whole_grant 1 1 [])))) ∷
+    marked 2 (Sent 83 4 (messages.Answer 81 (answers.Granted (whole_grant 1 1 [])))) ∷
     marked 5 (Sent 84 1 (messages.Request (tx 1 3) 1 1 (wants.Append 0 [] (own_line 2 0 0 ∷ [])))) ∷
     marked 5 (Sent 85 2 (messages.Request (tx 1 3) 1 1 (wants.Append 0 [] (own_line 2 0 0 ∷ [])))) ∷
     marked 5 (Sent 86 3 (messages.Request (tx 1 3) 1 1 (wants.Append 0 [] (own_line 2 0 0 ∷ [])))) ∷
     marked 5 (Sent 87 0 (messages.Request (tx 1 3) 1 0 (wants.Append 0 [] (own_line 2 0 0 ∷ [])))) ∷ marked 3 (Got 86) ∷
     marked 2 (Got 85) ∷ marked 0 (Got 87) ∷ marked 1 (Got 84) ∷
-    marked 1 (Sent 88 5 (messages.Answer 84 (answers.Granted (grant_with 1 1 [])))) ∷ marked 5 (Got 88) ∷
-    marked 3 (Sent 89 5 (messages.Answer 86 (answers.Granted (grant_with 1 1 [])))) ∷ marked 5 (Got 89) ∷
-    marked 2 (Sent 90 5 (messages.Answer 85 (answers.Granted (grant_with 1 1 [])))) ∷ marked 5 (Got 90)
+    marked 1 (Sent 88 5 (messages.Answer 84 (answers.Granted (whole_grant 1 1 [])))) ∷ marked 5 (Got 88) ∷
+    marked 3 (Sent 89 5 (messages.Answer 86 (answers.Granted (whole_grant 1 1 [])))) ∷ marked 5 (Got 89) ∷
+    marked 2 (Sent 90 5 (messages.Answer 85 (answers.Granted (whole_grant 1 1 [])))) ∷ marked 5 (Got 90)
     ∷ marked 4 (Got 82) ∷
-    marked 4 (Got 83) ∷ marked 4 (Sent 91 3 (messages.Request (tx 0 1) 1 1 (wants.Read (read_of 1 1))))
+    marked 4 (Got 83) ∷ marked 4 (Sent 91 3 (messages.Request (tx 0 1) 1 1 (wants.Read (first_read 1 1))))
     ∷ marked 3 (Got 91) ∷
-    marked 3 (Sent 92 4 (messages.Answer 91 (answers.Granted (grant_with 1 1 [])))) ∷
+    marked 3 (Sent 92 4 (messages.Answer 91 (answers.Granted (whole_grant 1 1 [])))) ∷
     marked 0 (Sent 93 5 (messages.Answer 87 (answers.Clash (tx 0 1) 2 0))) ∷
     marked 0 (Sent 94 4 (messages.Inquiry (tx 0 1))) ∷ marked 5 (Lost 87) ∷ marked 4 (Got 92) ∷
     marked 5 (Told (replies.Quorum halves.Append 6 7)) ∷
@@ -226,7 +227,7 @@ history =
     marked 5 (Sent 101 2 (messages.Decision (tx 1 3) outcomes.Aborted)) ∷
     marked 5 (Sent 102 3 (messages.Decision (tx 1 3) outcomes.Aborted)) ∷
     marked 5 (Told (replies.Aborted causes.Doomed)) ∷ marked 1 (Got 100) ∷ marked 2 (Got 101) ∷ marked 3 (Got 102) ∷
-    marked 4 (Lost 98) ∷ marked 0 (Sent 103 4 (messages.Answer 95 (answers.Granted (grant_with 1 0 []))))
+    marked 4 (Lost 98) ∷ marked 0 (Sent 103 4 (messages.Answer 95 (answers.Granted (whole_grant 1 0 []))))
     ∷ marked 4 (Got 103) ∷
     marked 4 (Told (replies.Quorum halves.Append 1 7)) ∷ marked 0 (Got 99) ∷ marked 4 (Called commands.Commit) ∷
     marked 4 (Sent 104 0 (messages.Decision (tx 0 1) outcomes.Aborted)) ∷

@@ -16,7 +16,7 @@ use Rattle.qc_msg.specs.declared.message.Outcome.TheVariants as outcomes
 use Rattle.qc_msg.specs.declared.record.Record.TheVariants as records
 use Rattle.qc_msg.specs.declared.reply.Reply.TheVariants as replies
 use Rattle.qc_msg.specs.declared.message.Want.TheVariants as wants
-use Rattle.qc_msg.specs.Vocabulary.{grant_with, read_of}
+use Rattle.qc_msg.specs.Vocabulary.{whole_grant, first_read}
 
 abbrev pub decl : Declaration
 decl =
@@ -73,24 +73,26 @@ moves =
 abbrev pub history : List Entry
 history =
     marked 7 (Phase 1) ∷ marked 5 (Called commands.Begin) ∷ marked 5 (Told (replies.Began (tx 2 1))) ∷
-    marked 5 (Called (commands.Do 1 1)) ∷ marked 5 (Sent 0 2 (messages.Request (tx 2 1) 1 0 (wants.Read (read_of 1 1))))
+    marked 5 (Called (commands.Do 1 1)) ∷
+    marked 5 (Sent 0 2 (messages.Request (tx 2 1) 1 0 (wants.Read (first_read 1 1))))
     ∷
-    marked 2 (Got 0) ∷ marked 2 (Sent 1 5 (messages.Answer 0 (answers.Granted (grant_with 1 0 [])))) ∷ marked 5 (Got 1)
+    marked 2 (Got 0) ∷ marked 2 (Sent 1 5 (messages.Answer 0 (answers.Granted (whole_grant 1 0 [])))) ∷ marked 5 (Got 1)
     ∷
     marked 2 (Got 0) ∷ marked 5 (Sent 2 2 (messages.Request (tx 2 1) 1 1 (wants.Append 1 [] (own_line 1 1 2 ∷ [])))) ∷
     marked 5 (Sent 3 0 (messages.Request (tx 2 1) 1 0 (wants.Append 1 [] (own_line 1 1 2 ∷ [])))) ∷
     marked 5 (Sent 4 1 (messages.Request (tx 2 1) 1 0 (wants.Append 1 [] (own_line 1 1 2 ∷ [])))) ∷ marked 1 (Got 4) ∷
-    marked 1 (Sent 5 5 (messages.Answer 4 (answers.Granted (grant_with 1 0 [])))) ∷ marked 0 (Got 3) ∷ marked 5 (Got 5)
+    marked 1 (Sent 5 5 (messages.Answer 4 (answers.Granted (whole_grant 1 0 [])))) ∷ marked 0 (Got 3) ∷ marked 5 (Got 5)
     ∷
-    marked 1 (Got 4) ∷ marked 2 (Sent 6 5 (messages.Answer 0 (answers.Granted (grant_with 1 0 [])))) ∷ marked 2 (Got 2)
+    marked 1 (Got 4) ∷ marked 2 (Sent 6 5 (messages.Answer 0 (answers.Granted (whole_grant 1 0 [])))) ∷ marked 2 (Got 2)
     ∷
-    marked 5 (Got 6) ∷ marked 0 (Sent 7 5 (messages.Answer 3 (answers.Granted (grant_with 1 0 [])))) ∷ marked 0 (Got 3)
+    marked 5 (Got 6) ∷ marked 0 (Sent 7 5 (messages.Answer 3 (answers.Granted (whole_grant 1 0 [])))) ∷ marked 0 (Got 3)
     ∷
-    marked 1 (Sent 8 5 (messages.Answer 4 (answers.Granted (grant_with 1 0 [])))) ∷
-    marked 2 (Sent 9 5 (messages.Answer 2 (answers.Granted (grant_with 1 0 [])))) ∷ marked 2 (Got 2) ∷
-    marked 0 (Sent 10 5 (messages.Answer 3 (answers.Granted (grant_with 1 0 [])))) ∷ marked 5 (Got 7) ∷ marked 5 (Got 8)
+    marked 1 (Sent 8 5 (messages.Answer 4 (answers.Granted (whole_grant 1 0 [])))) ∷
+    marked 2 (Sent 9 5 (messages.Answer 2 (answers.Granted (whole_grant 1 0 [])))) ∷ marked 2 (Got 2) ∷
+    marked 0 (Sent 10 5 (messages.Answer 3 (answers.Granted (whole_grant 1 0 [])))) ∷ marked 5 (Got 7) ∷
+    marked 5 (Got 8)
     ∷
-    marked 2 (Sent 11 5 (messages.Answer 2 (answers.Granted (grant_with 1 0 [])))) ∷ marked 5 (Got 9) ∷
+    marked 2 (Sent 11 5 (messages.Answer 2 (answers.Granted (whole_grant 1 0 [])))) ∷ marked 5 (Got 9) ∷
     marked 5 (Told (replies.Response 2)) ∷ marked 5 (Got 10) ∷ marked 5 (Got 11) ∷ marked 5 (Called commands.Commit) ∷
     marked 5 (Sent 12 2 (messages.Request (tx 2 1) 1 1 wants.Prepare)) ∷
     marked 5 (Sent 13 0 (messages.Request (tx 2 1) 1 1 wants.Prepare)) ∷
@@ -115,33 +117,33 @@ history =
     marked 3 (Called commands.Begin) ∷ marked 4 (Called (commands.Do 0 0)) ∷ marked 3 (Told (replies.Began (tx 0 1))) ∷
     marked 3 (Called (commands.Do 1 1)) ∷ marked 5 (Told (replies.Began (tx 2 2))) ∷
     marked 5 (Called (commands.Do 1 1))
-    ∷ marked 3 (Sent 24 0 (messages.Request (tx 0 1) 1 0 (wants.Read (read_of 1 1)))) ∷
-    marked 3 (Lost 24) ∷ marked 4 (Sent 25 1 (messages.Request (tx 1 1) 1 0 (wants.Read (read_of 0 0)))) ∷
-    marked 4 (Sent 26 2 (messages.Request (tx 1 1) 1 0 (wants.Read (read_of 0 0)))) ∷
-    marked 4 (Sent 27 0 (messages.Request (tx 1 1) 1 0 (wants.Read (read_of 0 0)))) ∷ marked 0 (Got 27)
+    ∷ marked 3 (Sent 24 0 (messages.Request (tx 0 1) 1 0 (wants.Read (first_read 1 1)))) ∷
+    marked 3 (Lost 24) ∷ marked 4 (Sent 25 1 (messages.Request (tx 1 1) 1 0 (wants.Read (first_read 0 0)))) ∷
+    marked 4 (Sent 26 2 (messages.Request (tx 1 1) 1 0 (wants.Read (first_read 0 0)))) ∷
+    marked 4 (Sent 27 0 (messages.Request (tx 1 1) 1 0 (wants.Read (first_read 0 0)))) ∷ marked 0 (Got 27)
     ∷ marked 2 (Got 26) ∷
-    marked 1 (Got 25) ∷ marked 3 (Sent 28 1 (messages.Request (tx 0 1) 1 0 (wants.Read (read_of 1 1))))
+    marked 1 (Got 25) ∷ marked 3 (Sent 28 1 (messages.Request (tx 0 1) 1 0 (wants.Read (first_read 1 1))))
     ∷ marked 3 (Lost 28) ∷
-    marked 5 (Sent 29 2 (messages.Request (tx 2 2) 1 0 (wants.Read (read_of 1 1)))) ∷
-    marked 3 (Sent 30 2 (messages.Request (tx 0 1) 1 0 (wants.Read (read_of 1 1)))) ∷ marked 3 (Lost 30) ∷
-    marked 0 (Sent 31 4 (messages.Answer 27 (answers.Granted (grant_with 1 1 [])))) ∷ marked 4 (Got 31) ∷
-    marked 1 (Sent 32 4 (messages.Answer 25 (answers.Granted (grant_with 1 1 [])))) ∷
+    marked 5 (Sent 29 2 (messages.Request (tx 2 2) 1 0 (wants.Read (first_read 1 1)))) ∷
+    marked 3 (Sent 30 2 (messages.Request (tx 0 1) 1 0 (wants.Read (first_read 1 1)))) ∷ marked 3 (Lost 30) ∷
+    marked 0 (Sent 31 4 (messages.Answer 27 (answers.Granted (whole_grant 1 1 [])))) ∷ marked 4 (Got 31) ∷
+    marked 1 (Sent 32 4 (messages.Answer 25 (answers.Granted (whole_grant 1 1 [])))) ∷
     marked 3 (Told (replies.Quorum halves.Read 0 1)) ∷ marked 3 (Called (commands.Do 0 0)) ∷
-    marked 3 (Sent 33 0 (messages.Request (tx 0 1) 1 0 (wants.Read (read_of 0 0)))) ∷
-    marked 3 (Sent 34 1 (messages.Request (tx 0 1) 1 0 (wants.Read (read_of 0 0)))) ∷ marked 1 (Got 34) ∷
-    marked 1 (Sent 35 3 (messages.Answer 34 (answers.Granted (grant_with 1 1 [])))) ∷ marked 0 (Got 33)
+    marked 3 (Sent 33 0 (messages.Request (tx 0 1) 1 0 (wants.Read (first_read 0 0)))) ∷
+    marked 3 (Sent 34 1 (messages.Request (tx 0 1) 1 0 (wants.Read (first_read 0 0)))) ∷ marked 1 (Got 34) ∷
+    marked 1 (Sent 35 3 (messages.Answer 34 (answers.Granted (whole_grant 1 1 [])))) ∷ marked 0 (Got 33)
     ∷ marked 3 (Got 35) ∷
-    marked 2 (Sent 36 4 (messages.Answer 26 (answers.Granted (grant_with 1 1 [])))) ∷ marked 2 (Got 29) ∷
-    marked 0 (Sent 37 3 (messages.Answer 33 (answers.Granted (grant_with 1 1 [])))) ∷ marked 3 (Got 37)
+    marked 2 (Sent 36 4 (messages.Answer 26 (answers.Granted (whole_grant 1 1 [])))) ∷ marked 2 (Got 29) ∷
+    marked 0 (Sent 37 3 (messages.Answer 33 (answers.Granted (whole_grant 1 1 [])))) ∷ marked 3 (Got 37)
     ∷ marked 4 (Got 32) ∷
     marked 4 (Got 36)
-    ∷ marked 2 (Sent 38 5 (messages.Answer 29 (answers.Granted (grant_with 1 1 (line 1 2 1 1 1 2 ∷ []))))) ∷
+    ∷ marked 2 (Sent 38 5 (messages.Answer 29 (answers.Granted (whole_grant 1 1 (line 1 2 1 1 1 2 ∷ []))))) ∷
     marked 3 (Sent 39 0 (messages.Request (tx 0 1) 1 1 (wants.Append 0 [] (own_line 1 0 0 ∷ [])))) ∷ marked 0 (Got 39) ∷
     marked 2 (Got 29) ∷ marked 4 (Sent 40 1 (messages.Request (tx 1 1) 1 1 (wants.Append 0 [] (own_line 1 0 0 ∷ [])))) ∷
     marked 4 (Sent 41 2 (messages.Request (tx 1 1) 1 1 (wants.Append 0 [] (own_line 1 0 0 ∷ [])))) ∷ marked 5 (Got 38) ∷
     marked 1 (Got 40) ∷ marked 1 (Sent 42 4 (messages.Answer 40 (answers.Clash (tx 0 1) 0 0))) ∷
     marked 1 (Sent 43 3 (messages.Inquiry (tx 0 1))) ∷ marked 3 (Got 43) ∷ marked 4 (Got 42) ∷
-    marked 2 (Sent 44 5 (messages.Answer 29 (answers.Granted (grant_with 1 1 (line 1 2 1 1 1 2 ∷ []))))) ∷
+    marked 2 (Sent 44 5 (messages.Answer 29 (answers.Granted (whole_grant 1 1 (line 1 2 1 1 1 2 ∷ []))))) ∷
     marked 5 (Sent 45 2 (messages.Request (tx 2 2) 1 1 (wants.Append 1 (line 1 2 1 1 1 2 ∷ []) (own_line 1 1 2 ∷ []))))
     ∷
     marked 5 (Sent 46 0 (messages.Request (tx 2 2) 1 0 (wants.Append 1 (line 1 2 1 1 1 2 ∷ []) (own_line 1 1 2 ∷ []))))
@@ -150,23 +152,23 @@ history =
     ∷
     marked 5 (Got 44) ∷ marked 1 (Got 47) ∷ marked 2 (Got 41) ∷
     marked 3 (Sent 48 1 (messages.Decision (tx 0 1) outcomes.Active)) ∷
-    marked 2 (Sent 49 4 (messages.Answer 41 (answers.Granted (grant_with 1 1 [])))) ∷ marked 2 (Got 45)
+    marked 2 (Sent 49 4 (messages.Answer 41 (answers.Granted (whole_grant 1 1 [])))) ∷ marked 2 (Got 45)
     ∷ marked 4 (Got 49) ∷
     marked 0 (Sent 50 3 (messages.Answer 39 (answers.Clash (tx 1 1) 0 0))) ∷
     marked 0 (Sent 51 4 (messages.Inquiry (tx 1 1))) ∷ marked 0 (Got 46) ∷
-    marked 2 (Sent 52 5 (messages.Answer 45 (answers.Granted (grant_with 1 1 [])))) ∷ marked 3 (Got 50)
+    marked 2 (Sent 52 5 (messages.Answer 45 (answers.Granted (whole_grant 1 1 [])))) ∷ marked 3 (Got 50)
     ∷ marked 5 (Got 52) ∷
     marked 2 (Got 45) ∷ marked 3 (Told (replies.Conflict (tx 1 1) 0)) ∷ marked 3 (Called (commands.Do 0 0)) ∷
-    marked 0 (Sent 53 5 (messages.Answer 46 (answers.Granted (grant_with 1 1 [])))) ∷ marked 0 (Got 46) ∷
-    marked 0 (Sent 54 5 (messages.Answer 46 (answers.Granted (grant_with 1 1 [])))) ∷ marked 3 (Told replies.Doomed) ∷
+    marked 0 (Sent 53 5 (messages.Answer 46 (answers.Granted (whole_grant 1 1 [])))) ∷ marked 0 (Got 46) ∷
+    marked 0 (Sent 54 5 (messages.Answer 46 (answers.Granted (whole_grant 1 1 [])))) ∷ marked 3 (Told replies.Doomed) ∷
     marked 3 (Called commands.Commit) ∷ marked 5 (Got 53) ∷
-    marked 2 (Sent 55 5 (messages.Answer 45 (answers.Granted (grant_with 1 1 []))))
+    marked 2 (Sent 55 5 (messages.Answer 45 (answers.Granted (whole_grant 1 1 []))))
     ∷ marked 4 (Told (replies.Conflict (tx 0 1) 1)) ∷
-    marked 4 (Got 51) ∷ marked 1 (Sent 56 5 (messages.Answer 47 (answers.Granted (grant_with 1 1 []))))
+    marked 4 (Got 51) ∷ marked 1 (Sent 56 5 (messages.Answer 47 (answers.Granted (whole_grant 1 1 []))))
     ∷ marked 5 (Got 54) ∷
     marked 1 (Got 47) ∷ marked 5 (Got 55) ∷ marked 4 (Sent 57 0 (messages.Decision (tx 1 1) outcomes.Active)) ∷
     marked 4 (Called (commands.Do 1 0)) ∷ marked 0 (Got 57) ∷
-    marked 1 (Sent 58 5 (messages.Answer 47 (answers.Granted (grant_with 1 1 [])))) ∷ marked 1 (Got 48) ∷
+    marked 1 (Sent 58 5 (messages.Answer 47 (answers.Granted (whole_grant 1 1 [])))) ∷ marked 1 (Got 48) ∷
     marked 4 (Told replies.Doomed) ∷ marked 4 (Called (commands.Do 0 1)) ∷ marked 4 (Told replies.Doomed) ∷
     marked 4 (Called commands.Commit) ∷ marked 4 (Sent 59 0 (messages.Decision (tx 1 1) outcomes.Aborted)) ∷
     marked 4 (Sent 60 1 (messages.Decision (tx 1 1) outcomes.Aborted)) ∷
@@ -179,26 +181,26 @@ history =
     marked 0 (Got 62) ∷ marked 1 (Got 60) ∷ marked 1 (Got 63) ∷ marked 5 (Told (replies.Response 2)) ∷
     marked 5 (Got 58) ∷ marked 5 (Called (commands.Do 0 0)) ∷ marked 3 (Told (replies.Began (tx 0 2))) ∷
     marked 3 (Called (commands.Do 0 1))
-    ∷ marked 5 (Sent 65 2 (messages.Request (tx 2 2) 1 1 (wants.Read (read_of 0 0)))) ∷
-    marked 5 (Sent 66 0 (messages.Request (tx 2 2) 1 1 (wants.Read (read_of 0 0)))) ∷ marked 0 (Got 66)
+    ∷ marked 5 (Sent 65 2 (messages.Request (tx 2 2) 1 1 (wants.Read (first_read 0 0)))) ∷
+    marked 5 (Sent 66 0 (messages.Request (tx 2 2) 1 1 (wants.Read (first_read 0 0)))) ∷ marked 0 (Got 66)
     ∷ marked 2 (Got 65) ∷
-    marked 0 (Sent 67 5 (messages.Answer 66 (answers.Granted (grant_with 1 1 [])))) ∷ marked 0 (Got 66)
+    marked 0 (Sent 67 5 (messages.Answer 66 (answers.Granted (whole_grant 1 1 [])))) ∷ marked 0 (Got 66)
     ∷ marked 5 (Got 67) ∷
     marked 3 (Sent 68 0 (messages.Request (tx 0 2) 1 0 (wants.Append 0 [] (own_line 1 0 2 ∷ [])))) ∷
-    marked 2 (Sent 69 5 (messages.Answer 65 (answers.Granted (grant_with 1 1 [])))) ∷
-    marked 0 (Sent 70 5 (messages.Answer 66 (answers.Granted (grant_with 1 1 [])))) ∷ marked 2 (Got 65)
+    marked 2 (Sent 69 5 (messages.Answer 65 (answers.Granted (whole_grant 1 1 [])))) ∷
+    marked 0 (Sent 70 5 (messages.Answer 66 (answers.Granted (whole_grant 1 1 [])))) ∷ marked 2 (Got 65)
     ∷ marked 0 (Got 68) ∷
     marked 5 (Got 69) ∷ marked 5 (Sent 71 2 (messages.Request (tx 2 2) 1 1 (wants.Append 0 [] (own_line 2 0 0 ∷ [])))) ∷
     marked 5 (Sent 72 0 (messages.Request (tx 2 2) 1 1 (wants.Append 0 [] (own_line 2 0 0 ∷ [])))) ∷
-    marked 2 (Sent 73 5 (messages.Answer 65 (answers.Granted (grant_with 1 1 [])))) ∷ marked 2 (Got 71)
+    marked 2 (Sent 73 5 (messages.Answer 65 (answers.Granted (whole_grant 1 1 [])))) ∷ marked 2 (Got 71)
     ∷ marked 5 (Got 70) ∷
     marked 0 (Sent 74 3 (messages.Answer 68 (answers.Clash (tx 2 2) 0 2))) ∷
     marked 0 (Sent 75 5 (messages.Inquiry (tx 2 2))) ∷ marked 3 (Got 74) ∷ marked 0 (Got 72) ∷
-    marked 2 (Sent 76 5 (messages.Answer 71 (answers.Granted (grant_with 1 1 [])))) ∷ marked 2 (Got 71) ∷
-    marked 2 (Sent 77 5 (messages.Answer 71 (answers.Granted (grant_with 1 1 []))))
+    marked 2 (Sent 76 5 (messages.Answer 71 (answers.Granted (whole_grant 1 1 [])))) ∷ marked 2 (Got 71) ∷
+    marked 2 (Sent 77 5 (messages.Answer 71 (answers.Granted (whole_grant 1 1 []))))
     ∷ marked 3 (Told (replies.Conflict (tx 2 2) 0)) ∷
-    marked 0 (Sent 78 5 (messages.Answer 72 (answers.Granted (grant_with 1 1 [])))) ∷ marked 0 (Got 72) ∷
-    marked 0 (Sent 79 5 (messages.Answer 72 (answers.Granted (grant_with 1 1 [])))) ∷ marked 5 (Got 73)
+    marked 0 (Sent 78 5 (messages.Answer 72 (answers.Granted (whole_grant 1 1 [])))) ∷ marked 0 (Got 72) ∷
+    marked 0 (Sent 79 5 (messages.Answer 72 (answers.Granted (whole_grant 1 1 [])))) ∷ marked 5 (Got 73)
     ∷ marked 5 (Got 75) ∷
     marked 5 (Sent 80 0 (messages.Decision (tx 2 2) outcomes.Active)) ∷ marked 0 (Got 80) ∷ marked 5 (Got 76) ∷
     marked 5 (Got 77) ∷ marked 0 (Got 80) ∷ marked 5 (Got 78) ∷ marked 5 (Told (replies.Response 0)) ∷
@@ -206,13 +208,13 @@ history =
     marked 5 (Sent 81 2 (messages.Request (tx 2 2) 1 1 (wants.Append 0 [] (own_line 2 0 0 ∷ own_line 3 0 2 ∷ [])))) ∷
     marked 5 (Sent 82 0 (messages.Request (tx 2 2) 1 1 (wants.Append 0 [] (own_line 2 0 0 ∷ own_line 3 0 2 ∷ [])))) ∷
     marked 0 (Got 82) ∷ marked 2 (Got 81)
-    ∷ marked 0 (Sent 83 5 (messages.Answer 82 (answers.Granted (grant_with 1 1 [])))) ∷
+    ∷ marked 0 (Sent 83 5 (messages.Answer 82 (answers.Granted (whole_grant 1 1 [])))) ∷
     marked 0 (Got 82) ∷ marked 5 (Got 83)
-    ∷ marked 2 (Sent 84 5 (messages.Answer 81 (answers.Granted (grant_with 1 1 [])))) ∷
-    marked 0 (Sent 85 5 (messages.Answer 82 (answers.Granted (grant_with 1 1 [])))) ∷ marked 2 (Got 81)
+    ∷ marked 2 (Sent 84 5 (messages.Answer 81 (answers.Granted (whole_grant 1 1 [])))) ∷
+    marked 0 (Sent 85 5 (messages.Answer 82 (answers.Granted (whole_grant 1 1 [])))) ∷ marked 2 (Got 81)
     ∷ marked 5 (Got 84) ∷
     marked 5 (Told (replies.Response 2))
-    ∷ marked 2 (Sent 86 5 (messages.Answer 81 (answers.Granted (grant_with 1 1 [])))) ∷
+    ∷ marked 2 (Sent 86 5 (messages.Answer 81 (answers.Granted (whole_grant 1 1 [])))) ∷
     marked 5 (Got 85) ∷ marked 5 (Got 86) ∷ marked 5 (Called commands.Commit) ∷
     marked 5 (Sent 87 2 (messages.Request (tx 2 2) 1 1 wants.Prepare)) ∷
     marked 5 (Sent 88 0 (messages.Request (tx 2 2) 1 1 wants.Prepare)) ∷

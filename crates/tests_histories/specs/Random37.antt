@@ -17,7 +17,7 @@ use Rattle.qc_msg.specs.declared.message.Outcome.TheVariants as outcomes
 use Rattle.qc_msg.specs.declared.record.Record.TheVariants as records
 use Rattle.qc_msg.specs.declared.reply.Reply.TheVariants as replies
 use Rattle.qc_msg.specs.declared.message.Want.TheVariants as wants
-use Rattle.qc_msg.specs.Vocabulary.{grant_with, read_of}
+use Rattle.qc_msg.specs.Vocabulary.{whole_grant, first_read}
 
 abbrev pub decl : Declaration
 decl =
@@ -85,26 +85,28 @@ history =
     marked 2 (Called commands.Begin) ∷ marked 3 (Called commands.Begin) ∷ marked 2 (Told (replies.Began (tx 1 1))) ∷
     marked 3 (Told (replies.Began (tx 2 1))) ∷ marked 1 (Called (commands.Do 0 2)) ∷
     marked 1 (Sent 0 0 (messages.Request (tx 0 1) 1 0 (wants.Append 0 [] (own_line 1 0 4 ∷ [])))) ∷
-    marked 3 (Called (commands.Do 0 0)) ∷ marked 3 (Sent 1 0 (messages.Request (tx 2 1) 1 0 (wants.Read (read_of 0 0))))
+    marked 3 (Called (commands.Do 0 0)) ∷
+    marked 3 (Sent 1 0 (messages.Request (tx 2 1) 1 0 (wants.Read (first_read 0 0))))
     ∷
-    marked 0 (Got 0) ∷ marked 0 (Sent 2 1 (messages.Answer 0 (answers.Granted (grant_with 1 0 [])))) ∷ marked 0 (Got 1)
+    marked 0 (Got 0) ∷ marked 0 (Sent 2 1 (messages.Answer 0 (answers.Granted (whole_grant 1 0 [])))) ∷ marked 0 (Got 1)
     ∷
     marked 2 (Called (commands.Do 0 0)) ∷ marked 0 (Sent 3 3 (messages.Answer 1 (answers.Clash (tx 0 1) 0 4))) ∷
     marked 0 (Sent 4 1 (messages.Inquiry (tx 0 1))) ∷
-    marked 2 (Sent 5 0 (messages.Request (tx 1 1) 1 0 (wants.Read (read_of 0 0)))) ∷ marked 1 (Got 2) ∷
+    marked 2 (Sent 5 0 (messages.Request (tx 1 1) 1 0 (wants.Read (first_read 0 0)))) ∷ marked 1 (Got 2) ∷
     marked 1 (Told (replies.Response 2)) ∷ marked 1 (Got 4) ∷
     marked 1 (Sent 6 0 (messages.Decision (tx 0 1) outcomes.Active)) ∷ marked 3 (Got 3) ∷
     marked 3 (Told (replies.Conflict (tx 0 1) 0)) ∷ marked 1 (Called (commands.Do 0 1)) ∷
-    marked 1 (Sent 7 0 (messages.Request (tx 0 1) 1 1 (wants.Read (read_of 0 1)))) ∷ marked 3 (Called (commands.Do 0 0))
+    marked 1 (Sent 7 0 (messages.Request (tx 0 1) 1 1 (wants.Read (first_read 0 1)))) ∷
+    marked 3 (Called (commands.Do 0 0))
     ∷
-    marked 3 (Sent 8 0 (messages.Request (tx 2 1) 1 0 (wants.Read (read_of 0 0)))) ∷ marked 0 (Got 5) ∷
+    marked 3 (Sent 8 0 (messages.Request (tx 2 1) 1 0 (wants.Read (first_read 0 0)))) ∷ marked 0 (Got 5) ∷
     marked 0 (Sent 9 2 (messages.Answer 5 (answers.Clash (tx 0 1) 0 4))) ∷
     marked 0 (Sent 10 1 (messages.Inquiry (tx 0 1))) ∷ marked 2 (Got 9) ∷
     marked 2 (Told (replies.Conflict (tx 0 1) 0)) ∷ marked 0 (Got 6) ∷ marked 1 (Got 10) ∷
     marked 1 (Sent 11 0 (messages.Decision (tx 0 1) outcomes.Active)) ∷ marked 0 (Got 7) ∷
-    marked 0 (Sent 12 1 (messages.Answer 7 (answers.Granted (grant_with 1 0 [])))) ∷ marked 1 (Got 12) ∷
+    marked 0 (Sent 12 1 (messages.Answer 7 (answers.Granted (whole_grant 1 0 [])))) ∷ marked 1 (Got 12) ∷
     marked 1 (Told replies.Absent) ∷ marked 0 (Got 8) ∷ marked 1 (Called (commands.Do 0 1)) ∷
-    marked 1 (Sent 13 0 (messages.Request (tx 0 1) 1 1 (wants.Read (read_of 0 1)))) ∷
+    marked 1 (Sent 13 0 (messages.Request (tx 0 1) 1 1 (wants.Read (first_read 0 1)))) ∷
     marked 0 (Sent 14 3 (messages.Answer 8 (answers.Clash (tx 0 1) 0 4))) ∷
     marked 0 (Sent 15 1 (messages.Inquiry (tx 0 1))) ∷ marked 0 (Got 11) ∷ marked 3 (Got 14) ∷
     marked 3 (Told (replies.Conflict (tx 0 1) 0)) ∷ marked 1 (Got 15) ∷
@@ -122,19 +124,19 @@ history =
     marked 3 (Sent 21 0 (messages.Decision (tx 2 1) (outcomes.Committed (stamp 1 2)))) ∷
     marked 3 (Told (replies.Committed (stamp 1 2))) ∷ marked 0 (Got 21) ∷ marked 1 (Got 20) ∷ marked 5 (Phase 2) ∷
     marked 0 (Got 7)
-    ∷ marked 0 (Sent 22 1 (messages.Answer 7 (answers.Granted (grant_with 1 1 (line 1 0 1 1 0 4 ∷ []))))) ∷
+    ∷ marked 0 (Sent 22 1 (messages.Answer 7 (answers.Granted (whole_grant 1 1 (line 1 0 1 1 0 4 ∷ []))))) ∷
     marked 1 (Got 10) ∷ marked 1 (Sent 23 0 (messages.Decision (tx 0 1) (outcomes.Committed (stamp 1 0)))) ∷
     marked 0 (Got 21) ∷ marked 2 (Called (commands.Do 0 1)) ∷
-    marked 2 (Sent 24 0 (messages.Request (tx 1 1) 1 0 (wants.Read (read_of 0 1)))) ∷ marked 1 (Got 22)
+    marked 2 (Sent 24 0 (messages.Request (tx 1 1) 1 0 (wants.Read (first_read 0 1)))) ∷ marked 1 (Got 22)
     ∷ marked 0 (Got 23) ∷
     marked 3 (Called commands.Begin) ∷ marked 0 (Got 24) ∷
-    marked 0 (Sent 25 2 (messages.Answer 24 (answers.Granted (grant_with 1 1 (line 1 0 1 1 0 4 ∷ []))))) ∷
+    marked 0 (Sent 25 2 (messages.Answer 24 (answers.Granted (whole_grant 1 1 (line 1 0 1 1 0 4 ∷ []))))) ∷
     marked 3 (Told (replies.Began (tx 2 2))) ∷ marked 1 (Called commands.Begin) ∷
     marked 1 (Told (replies.Began (tx 0 2))) ∷ marked 2 (Got 25) ∷ marked 2 (Told replies.Absent) ∷
     marked 2 (Called (commands.Do 0 2)) ∷
     marked 2 (Sent 26 0 (messages.Request (tx 1 1) 1 1 (wants.Append 0 (line 1 0 1 1 0 4 ∷ []) (own_line 2 0 4 ∷ []))))
     ∷
-    marked 0 (Got 26) ∷ marked 0 (Sent 27 2 (messages.Answer 26 (answers.Granted (grant_with 1 1 []))))
+    marked 0 (Got 26) ∷ marked 0 (Sent 27 2 (messages.Answer 26 (answers.Granted (whole_grant 1 1 []))))
     ∷ marked 2 (Got 27) ∷
     marked 2 (Told (replies.Response 2)) ∷ marked 1 (Called (commands.Do 0 2)) ∷
     marked 1 (Sent 28 0 (messages.Request (tx 0 2) 1 0 (wants.Append 0 [] (own_line 1 0 4 ∷ [])))) ∷ marked 0 (Got 28) ∷
@@ -146,16 +148,16 @@ history =
     marked 2 (Sent 32 0 (messages.Request (tx 1 1) 1 1 wants.Prepare)) ∷ marked 2 (Lost 32) ∷
     marked 2 (Sent 33 0 (messages.Decision (tx 1 1) outcomes.Aborted)) ∷
     marked 2 (Told (replies.Aborted (causes.NoAnswer 0))) ∷ marked 0 (Got 33) ∷ marked 5 (Phase 3) ∷ marked 0 (Got 26) ∷
-    marked 0 (Sent 34 2 (messages.Answer 26 (answers.Granted (grant_with 1 1 [])))) ∷ marked 2 (Got 27) ∷
+    marked 0 (Sent 34 2 (messages.Answer 26 (answers.Granted (whole_grant 1 1 [])))) ∷ marked 2 (Got 27) ∷
     marked 1 (Called commands.Commit) ∷ marked 1 (Sent 35 0 (messages.Decision (tx 0 2) outcomes.Aborted)) ∷
     marked 1 (Told (replies.Aborted causes.Doomed)) ∷ marked 0 (Got 35) ∷ marked 2 (Got 34) ∷
     marked 3 (Called (commands.Do 0 1))
-    ∷ marked 3 (Sent 36 0 (messages.Request (tx 2 2) 1 0 (wants.Read (read_of 0 1)))) ∷
+    ∷ marked 3 (Sent 36 0 (messages.Request (tx 2 2) 1 0 (wants.Read (first_read 0 1)))) ∷
     marked 2 (Called commands.Begin) ∷ marked 2 (Told (replies.Began (tx 1 2))) ∷ marked 1 (Called commands.Begin) ∷
     marked 1 (Told (replies.Began (tx 0 3))) ∷ marked 1 (Called commands.Commit) ∷
     marked 1 (Wrote (commit (stamp 2 0) (tx 0 3) [])) ∷ marked 1 (Told (replies.Committed (stamp 2 0))) ∷
     marked 2 (Called (commands.Do 0 1))
-    ∷ marked 2 (Sent 37 0 (messages.Request (tx 1 2) 1 0 (wants.Read (read_of 0 1)))) ∷
+    ∷ marked 2 (Sent 37 0 (messages.Request (tx 1 2) 1 0 (wants.Read (first_read 0 1)))) ∷
     marked 0 (Got 36) ∷ marked 0 (Sent 38 3 (messages.Answer 36 (answers.Clash (tx 1 1) 1 4))) ∷
     marked 0 (Sent 39 2 (messages.Inquiry (tx 1 1))) ∷ marked 3 (Got 38) ∷
     marked 3 (Told (replies.Conflict (tx 1 1) 0)) ∷ marked 3 (Called commands.Commit) ∷
@@ -163,7 +165,7 @@ history =
     marked 3 (Sent 40 0 (messages.Decision (tx 2 2) (outcomes.Committed (stamp 2 2)))) ∷
     marked 3 (Told (replies.Committed (stamp 2 2))) ∷ marked 3 (Called commands.Begin) ∷
     marked 3 (Told (replies.Began (tx 2 3))) ∷ marked 3 (Called (commands.Do 0 0)) ∷
-    marked 3 (Sent 41 0 (messages.Request (tx 2 3) 1 0 (wants.Read (read_of 0 0)))) ∷ marked 0 (Got 37) ∷
+    marked 3 (Sent 41 0 (messages.Request (tx 2 3) 1 0 (wants.Read (first_read 0 0)))) ∷ marked 0 (Got 37) ∷
     marked 0 (Sent 42 2 (messages.Answer 37 (answers.Clash (tx 1 1) 1 4))) ∷
     marked 0 (Sent 43 2 (messages.Inquiry (tx 1 1))) ∷ marked 2 (Got 39) ∷ marked 0 (Got 37) ∷
     marked 2 (Sent 44 0 (messages.Decision (tx 1 1) outcomes.Aborted)) ∷
@@ -190,7 +192,8 @@ history =
     marked 3 (Wrote (commit (stamp 4 2) (tx 2 4) [])) ∷ marked 3 (Told (replies.Committed (stamp 4 2))) ∷
     marked 1 (Told (replies.Began (tx 0 4))) ∷ marked 1 (Called (commands.Do 0 2)) ∷
     marked 1 (Sent 54 0 (messages.Request (tx 0 4) 1 0 (wants.Append 0 [] (own_line 1 0 4 ∷ [])))) ∷ marked 0 (Got 54) ∷
-    marked 0 (Sent 55 1 (messages.Answer 54 (answers.Granted (grant_with 1 3 [])))) ∷ marked 2 (Called commands.Begin) ∷
+    marked 0 (Sent 55 1 (messages.Answer 54 (answers.Granted (whole_grant 1 3 [])))) ∷
+    marked 2 (Called commands.Begin) ∷
     marked 2 (Told (replies.Began (tx 1 4))) ∷ marked 1 (Got 55) ∷ marked 1 (Told (replies.Response 2)) ∷
     marked 1 (Called commands.Commit) ∷ marked 2 (Called commands.Begin) ∷ marked 2 (Told (replies.Already (tx 1 4))) ∷
     marked 1 (Sent 56 0 (messages.Request (tx 0 4) 1 1 wants.Prepare)) ∷ marked 0 (Got 56) ∷
@@ -201,21 +204,21 @@ history =
     marked 1 (Told (replies.Committed (stamp 4 0))) ∷ marked 1 (Called commands.Begin) ∷ marked 0 (Got 58) ∷
     marked 0 (Wrote (records.Done (tx 0 4) 4)) ∷ marked 1 (Told (replies.Began (tx 0 5))) ∷
     marked 1 (Called (commands.Do 0 0))
-    ∷ marked 1 (Sent 59 0 (messages.Request (tx 0 5) 1 0 (wants.Read (read_of 0 0)))) ∷
+    ∷ marked 1 (Sent 59 0 (messages.Request (tx 0 5) 1 0 (wants.Read (first_read 0 0)))) ∷
     marked 0 (Got 59) ∷
     marked 0
-    (Sent 60 1 (messages.Answer 59 (answers.Granted (grant_with 1 4 (line 1 0 1 1 0 4 ∷ line 4 0 4 1 0 4 ∷ []))))) ∷
+    (Sent 60 1 (messages.Answer 59 (answers.Granted (whole_grant 1 4 (line 1 0 1 1 0 4 ∷ line 4 0 4 1 0 4 ∷ []))))) ∷
     marked 1 (Got 60) ∷
     marked 1 (Sent 61 0 (messages.Request (tx 0 5) 1 1 (wants.Append 0 (line 1 0 1 1 0 4 ∷ line 4 0 4 1 0 4 ∷ [])
     (own_line 1 0 0 ∷ [])))) ∷
-    marked 0 (Got 61) ∷ marked 0 (Sent 62 1 (messages.Answer 61 (answers.Granted (grant_with 1 4 []))))
+    marked 0 (Got 61) ∷ marked 0 (Sent 62 1 (messages.Answer 61 (answers.Granted (whole_grant 1 4 []))))
     ∷ marked 1 (Got 62) ∷
     marked 1 (Told (replies.Response 0)) ∷ marked 5 (Phase 6) ∷ marked 5 (Heal 1 3) ∷
     marked 1 (Called (commands.Do 0 1))
-    ∷ marked 1 (Sent 63 0 (messages.Request (tx 0 5) 1 1 (wants.Read (read_of 0 1)))) ∷
+    ∷ marked 1 (Sent 63 0 (messages.Request (tx 0 5) 1 1 (wants.Read (first_read 0 1)))) ∷
     marked 0 (Got 63) ∷
     marked 0
-    (Sent 64 1 (messages.Answer 63 (answers.Granted (grant_with 1 4 (line 1 0 1 1 0 4 ∷ line 4 0 4 1 0 4 ∷ []))))) ∷
+    (Sent 64 1 (messages.Answer 63 (answers.Granted (whole_grant 1 4 (line 1 0 1 1 0 4 ∷ line 4 0 4 1 0 4 ∷ []))))) ∷
     marked 1 (Got 64) ∷ marked 1 (Told (replies.Response 0)) ∷ marked 1 (Called commands.Commit) ∷
     marked 1 (Sent 65 0 (messages.Request (tx 0 5) 1 1 wants.Prepare)) ∷ marked 0 (Got 65) ∷
     marked 0 (Wrote (prepare (tx 0 5) 1 (read_lock 0 0 ∷ read_lock 0 1 ∷ []) (own_line 1 0 0 ∷ []) [])) ∷
@@ -224,16 +227,16 @@ history =
     marked 1 (Sent 67 0 (messages.Decision (tx 0 5) (outcomes.Committed (stamp 5 0)))) ∷
     marked 1 (Told (replies.Committed (stamp 5 0))) ∷ marked 1 (Called commands.Begin) ∷
     marked 1 (Told (replies.Began (tx 0 6))) ∷ marked 1 (Called (commands.Do 0 1)) ∷
-    marked 1 (Sent 68 0 (messages.Request (tx 0 6) 1 0 (wants.Read (read_of 0 1)))) ∷ marked 0 (Got 67) ∷
+    marked 1 (Sent 68 0 (messages.Request (tx 0 6) 1 0 (wants.Read (first_read 0 1)))) ∷ marked 0 (Got 67) ∷
     marked 0 (Wrote (records.Done (tx 0 5) 5)) ∷ marked 0 (Got 68) ∷
     marked 0
     (Sent 69 1
     (messages.Answer 68
-    (answers.Granted (grant_with 1 5 (line 1 0 1 1 0 4 ∷ line 4 0 4 1 0 4 ∷ line 5 0 5 1 0 0 ∷ []))))) ∷
+    (answers.Granted (whole_grant 1 5 (line 1 0 1 1 0 4 ∷ line 4 0 4 1 0 4 ∷ line 5 0 5 1 0 0 ∷ []))))) ∷
     marked 1 (Got 69) ∷ marked 1 (Told (replies.Response 0)) ∷ marked 1 (Called (commands.Do 0 2)) ∷
     marked 1 (Sent 70 0 (messages.Request (tx 0 6) 1 1 (wants.Append 0 (line 1 0 1 1 0 4 ∷ line 4 0 4 1 0 4 ∷ line 5 0 5
     1 0 0 ∷ []) (own_line 2 0 4 ∷ [])))) ∷
-    marked 0 (Got 70) ∷ marked 0 (Sent 71 1 (messages.Answer 70 (answers.Granted (grant_with 1 5 []))))
+    marked 0 (Got 70) ∷ marked 0 (Sent 71 1 (messages.Answer 70 (answers.Granted (whole_grant 1 5 []))))
     ∷ marked 1 (Got 71) ∷
     marked 1 (Told (replies.Response 2)) ∷ marked 1 (Called commands.Commit) ∷
     marked 1 (Sent 72 0 (messages.Request (tx 0 6) 1 1 wants.Prepare)) ∷ marked 0 (Got 72) ∷
@@ -244,24 +247,24 @@ history =
     marked 1 (Told (replies.Committed (stamp 6 0))) ∷ marked 0 (Got 74) ∷ marked 0 (Wrote (records.Done (tx 0 6) 6)) ∷
     marked 5 (Phase 7) ∷ marked 1 (Called commands.Begin) ∷ marked 1 (Told (replies.Began (tx 0 7))) ∷
     marked 1 (Called (commands.Do 0 1))
-    ∷ marked 1 (Sent 75 0 (messages.Request (tx 0 7) 1 0 (wants.Read (read_of 0 1)))) ∷
+    ∷ marked 1 (Sent 75 0 (messages.Request (tx 0 7) 1 0 (wants.Read (first_read 0 1)))) ∷
     marked 0 (Got 75) ∷
     marked 0
     (Sent 76 1
     (messages.Answer 75
-    (answers.Granted (grant_with 1 6
+    (answers.Granted (whole_grant 1 6
     (line 1 0 1 1 0 4 ∷ line 4 0 4 1 0 4 ∷ line 5 0 5 1 0 0 ∷ line 6 0 6 2 0 4 ∷ []))))) ∷
     marked 1 (Got 76) ∷ marked 1 (Told replies.Absent) ∷ marked 1 (Called (commands.Do 0 2)) ∷
     marked 1 (Sent 77 0 (messages.Request (tx 0 7) 1 1 (wants.Append 0 (line 1 0 1 1 0 4 ∷ line 4 0 4 1 0 4 ∷ line 5 0 5
     1 0 0 ∷ line 6 0 6 2 0 4 ∷ []) (own_line 2 0 4 ∷ [])))) ∷
-    marked 0 (Got 77) ∷ marked 0 (Sent 78 1 (messages.Answer 77 (answers.Granted (grant_with 1 6 []))))
+    marked 0 (Got 77) ∷ marked 0 (Sent 78 1 (messages.Answer 77 (answers.Granted (whole_grant 1 6 []))))
     ∷ marked 1 (Got 78) ∷
     marked 1 (Told (replies.Response 2)) ∷ marked 1 (Called (commands.Do 0 1)) ∷
-    marked 1 (Sent 79 0 (messages.Request (tx 0 7) 1 1 (wants.Read (read_of 0 1)))) ∷ marked 0 (Got 79) ∷
+    marked 1 (Sent 79 0 (messages.Request (tx 0 7) 1 1 (wants.Read (first_read 0 1)))) ∷ marked 0 (Got 79) ∷
     marked 0
     (Sent 80 1
     (messages.Answer 79
-    (answers.Granted (grant_with 1 6
+    (answers.Granted (whole_grant 1 6
     (line 1 0 1 1 0 4 ∷ line 4 0 4 1 0 4 ∷ line 5 0 5 1 0 0 ∷ line 6 0 6 2 0 4 ∷ []))))) ∷
     marked 1 (Got 80) ∷ marked 1 (Told replies.Absent) ∷ marked 1 (Called commands.Commit) ∷
     marked 1 (Sent 81 0 (messages.Request (tx 0 7) 1 1 wants.Prepare)) ∷ marked 0 (Got 81) ∷

@@ -15,7 +15,7 @@ use Rattle.qc_msg.specs.declared.message.Outcome.TheVariants as outcomes
 use Rattle.qc_msg.specs.declared.record.Record.TheVariants as records
 use Rattle.qc_msg.specs.declared.reply.Reply.TheVariants as replies
 use Rattle.qc_msg.specs.declared.message.Want.TheVariants as wants
-use Rattle.qc_msg.specs.Vocabulary.{grant_with, read_of}
+use Rattle.qc_msg.specs.Vocabulary.{whole_grant, first_read}
 
 abbrev pub decl : Declaration
 decl =
@@ -78,14 +78,15 @@ abbrev pub history : List Entry
 history =
     marked 9 (Phase 1) ∷ marked 6 (Called commands.Begin) ∷ marked 6 (Told (replies.Began (tx 2 1))) ∷
     marked 4 (Called commands.Begin) ∷ marked 6 (Called (commands.Do 0 2)) ∷
-    marked 6 (Sent 0 2 (messages.Request (tx 2 1) 1 0 (wants.Read (read_of 0 2)))) ∷
-    marked 6 (Sent 1 3 (messages.Request (tx 2 1) 1 0 (wants.Read (read_of 0 2)))) ∷
-    marked 6 (Sent 2 0 (messages.Request (tx 2 1) 1 0 (wants.Read (read_of 0 2)))) ∷ marked 2 (Got 0) ∷ marked 3 (Got 1)
+    marked 6 (Sent 0 2 (messages.Request (tx 2 1) 1 0 (wants.Read (first_read 0 2)))) ∷
+    marked 6 (Sent 1 3 (messages.Request (tx 2 1) 1 0 (wants.Read (first_read 0 2)))) ∷
+    marked 6 (Sent 2 0 (messages.Request (tx 2 1) 1 0 (wants.Read (first_read 0 2)))) ∷ marked 2 (Got 0) ∷
+    marked 3 (Got 1)
     ∷
-    marked 3 (Sent 3 6 (messages.Answer 1 (answers.Granted (grant_with 1 0 [])))) ∷ marked 0 (Got 2) ∷
+    marked 3 (Sent 3 6 (messages.Answer 1 (answers.Granted (whole_grant 1 0 [])))) ∷ marked 0 (Got 2) ∷
     marked 4 (Told (replies.Began (tx 0 1)))
-    ∷ marked 2 (Sent 4 6 (messages.Answer 0 (answers.Granted (grant_with 1 0 [])))) ∷
-    marked 4 (Called (commands.Do 0 0)) ∷ marked 0 (Sent 5 6 (messages.Answer 2 (answers.Granted (grant_with 1 0 []))))
+    ∷ marked 2 (Sent 4 6 (messages.Answer 0 (answers.Granted (whole_grant 1 0 [])))) ∷
+    marked 4 (Called (commands.Do 0 0)) ∷ marked 0 (Sent 5 6 (messages.Answer 2 (answers.Granted (whole_grant 1 0 []))))
     ∷
     marked 6 (Got 3) ∷ marked 6 (Got 4) ∷ marked 6 (Got 5) ∷ marked 6 (Told replies.Absent) ∷
     marked 7 (Called commands.Begin) ∷ marked 7 (Told (replies.Began (tx 3 1))) ∷ marked 6 (Called commands.Commit) ∷
@@ -98,7 +99,7 @@ history =
     marked 4 (Sent 11 1 (messages.Request (tx 0 1) 1 0 (wants.Append 0 [] (own_line 1 0 0 ∷ [])))) ∷
     marked 3 (Wrote (prepare (tx 2 1) 1 (read_lock 0 2 ∷ []) [] [])) ∷
     marked 3 (Sent 12 6 (messages.Answer 7 (answers.Yes 0))) ∷ marked 1 (Got 11) ∷
-    marked 1 (Sent 13 4 (messages.Answer 11 (answers.Granted (grant_with 1 0 [])))) ∷ marked 4 (Got 13) ∷
+    marked 1 (Sent 13 4 (messages.Answer 11 (answers.Granted (whole_grant 1 0 [])))) ∷ marked 4 (Got 13) ∷
     marked 7 (Called (commands.Do 0 0)) ∷ marked 0 (Got 8) ∷
     marked 7 (Sent 14 3 (messages.Request (tx 3 1) 1 0 (wants.Append 0 [] (own_line 1 0 0 ∷ [])))) ∷
     marked 7 (Sent 15 0 (messages.Request (tx 3 1) 1 0 (wants.Append 0 [] (own_line 1 0 0 ∷ [])))) ∷
@@ -128,23 +129,23 @@ history =
     marked 7 (Called commands.Begin) ∷ marked 7 (Told (replies.Began (tx 3 2))) ∷ marked 7 (Called (commands.Do 0 0)) ∷
     marked 7 (Sent 30 3 (messages.Request (tx 3 2) 1 0 (wants.Append 0 [] (own_line 1 0 0 ∷ [])))) ∷
     marked 7 (Sent 31 0 (messages.Request (tx 3 2) 1 0 (wants.Append 0 [] (own_line 1 0 0 ∷ [])))) ∷ marked 0 (Got 31) ∷
-    marked 0 (Sent 32 7 (messages.Answer 31 (answers.Granted (grant_with 1 1 [])))) ∷ marked 3 (Got 30) ∷
-    marked 3 (Sent 33 7 (messages.Answer 30 (answers.Granted (grant_with 1 1 [])))) ∷ marked 7 (Got 32)
+    marked 0 (Sent 32 7 (messages.Answer 31 (answers.Granted (whole_grant 1 1 [])))) ∷ marked 3 (Got 30) ∷
+    marked 3 (Sent 33 7 (messages.Answer 30 (answers.Granted (whole_grant 1 1 [])))) ∷ marked 7 (Got 32)
     ∷ marked 7 (Got 33) ∷
     marked 7 (Told (replies.Response 0)) ∷ marked 7 (Called (commands.Do 0 0)) ∷
     marked 7 (Sent 34 3 (messages.Request (tx 3 2) 1 1 (wants.Append 0 [] (own_line 1 0 0 ∷ own_line 2 0 0 ∷ [])))) ∷
     marked 7 (Sent 35 0 (messages.Request (tx 3 2) 1 1 (wants.Append 0 [] (own_line 1 0 0 ∷ own_line 2 0 0 ∷ [])))) ∷
     marked 0 (Got 35) ∷ marked 3 (Got 34)
-    ∷ marked 3 (Sent 36 7 (messages.Answer 34 (answers.Granted (grant_with 1 1 [])))) ∷
-    marked 0 (Sent 37 7 (messages.Answer 35 (answers.Granted (grant_with 1 1 [])))) ∷ marked 7 (Got 36)
+    ∷ marked 3 (Sent 36 7 (messages.Answer 34 (answers.Granted (whole_grant 1 1 [])))) ∷
+    marked 0 (Sent 37 7 (messages.Answer 35 (answers.Granted (whole_grant 1 1 [])))) ∷ marked 7 (Got 36)
     ∷ marked 7 (Got 37) ∷
     marked 7 (Told (replies.Response 0)) ∷ marked 7 (Called (commands.Do 0 2)) ∷
-    marked 7 (Sent 38 3 (messages.Request (tx 3 2) 1 1 (wants.Read (read_of 0 2)))) ∷
-    marked 7 (Sent 39 0 (messages.Request (tx 3 2) 1 1 (wants.Read (read_of 0 2)))) ∷
-    marked 7 (Sent 40 1 (messages.Request (tx 3 2) 1 0 (wants.Read (read_of 0 2)))) ∷ marked 0 (Got 39)
+    marked 7 (Sent 38 3 (messages.Request (tx 3 2) 1 1 (wants.Read (first_read 0 2)))) ∷
+    marked 7 (Sent 39 0 (messages.Request (tx 3 2) 1 1 (wants.Read (first_read 0 2)))) ∷
+    marked 7 (Sent 40 1 (messages.Request (tx 3 2) 1 0 (wants.Read (first_read 0 2)))) ∷ marked 0 (Got 39)
     ∷ marked 3 (Got 38) ∷
-    marked 1 (Got 40) ∷ marked 0 (Sent 41 7 (messages.Answer 39 (answers.Granted (grant_with 1 1 [])))) ∷
-    marked 3 (Sent 42 7 (messages.Answer 38 (answers.Granted (grant_with 1 1 [])))) ∷
+    marked 1 (Got 40) ∷ marked 0 (Sent 41 7 (messages.Answer 39 (answers.Granted (whole_grant 1 1 [])))) ∷
+    marked 3 (Sent 42 7 (messages.Answer 38 (answers.Granted (whole_grant 1 1 [])))) ∷
     marked 1 (Sent 43 7 (messages.Answer 40 (answers.Clash (tx 0 1) 2 0))) ∷
     marked 1 (Sent 44 4 (messages.Inquiry (tx 0 1))) ∷ marked 4 (Got 44) ∷
     marked 4 (Sent 45 1 (messages.Decision (tx 0 1) outcomes.Active)) ∷ marked 1 (Got 45) ∷ marked 7 (Got 41) ∷
@@ -163,7 +164,7 @@ history =
     marked 0 (Wrote (records.Done (tx 3 2) 2)) ∷ marked 3 (Wrote (records.Done (tx 3 2) 2)) ∷ marked 9 (Phase 2) ∷
     marked 7 (Got 17) ∷ marked 4 (Got 13) ∷ marked 3 (Got 1) ∷
     marked 3
-    (Sent 53 6 (messages.Answer 1 (answers.Granted (grant_with 1 2 (line 2 3 2 1 0 0 ∷ line 2 3 2 2 0 0 ∷ []))))) ∷
+    (Sent 53 6 (messages.Answer 1 (answers.Granted (whole_grant 1 2 (line 2 3 2 1 0 0 ∷ line 2 3 2 2 0 0 ∷ []))))) ∷
     marked 1 (Got 11) ∷ marked 4 (Got 19) ∷ marked 3 (Got 7) ∷ marked 7 (Got 24) ∷
     marked 3 (Wrote (prepare (tx 2 1) 1 (read_lock 0 2 ∷ []) [] [])) ∷
     marked 3 (Sent 54 6 (messages.Answer 7 (answers.Yes 2))) ∷ marked 7 (Got 32) ∷ marked 3 (Got 14) ∷
@@ -171,27 +172,27 @@ history =
     marked 3 (Sent 56 6 (messages.Inquiry (tx 2 1))) ∷ marked 3 (Got 23) ∷ marked 0 (Got 2) ∷
     marked 3 (Wrote (records.Done (tx 2 1) 1)) ∷ marked 4 (Got 44) ∷ marked 7 (Got 33) ∷
     marked 0
-    (Sent 57 6 (messages.Answer 2 (answers.Granted (grant_with 1 2 (line 2 3 2 1 0 0 ∷ line 2 3 2 2 0 0 ∷ []))))) ∷
+    (Sent 57 6 (messages.Answer 2 (answers.Granted (whole_grant 1 2 (line 2 3 2 1 0 0 ∷ line 2 3 2 2 0 0 ∷ []))))) ∷
     marked 7 (Got 36) ∷ marked 4 (Sent 58 1 (messages.Decision (tx 0 1) outcomes.Active)) ∷ marked 3 (Got 26) ∷
     marked 7 (Got 37) ∷ marked 3 (Got 29) ∷ marked 2 (Got 0) ∷ marked 7 (Got 41) ∷ marked 7 (Got 42) ∷
-    marked 3 (Got 30) ∷ marked 3 (Sent 59 7 (messages.Answer 30 (answers.Granted (grant_with 1 2 []))))
+    marked 3 (Got 30) ∷ marked 3 (Sent 59 7 (messages.Answer 30 (answers.Granted (whole_grant 1 2 []))))
     ∷ marked 3 (Got 34) ∷
-    marked 3 (Sent 60 7 (messages.Answer 34 (answers.Granted (grant_with 1 2 [])))) ∷ marked 7 (Got 43)
+    marked 3 (Sent 60 7 (messages.Answer 34 (answers.Granted (whole_grant 1 2 [])))) ∷ marked 7 (Got 43)
     ∷ marked 6 (Got 3) ∷
     marked 3 (Got 38) ∷
     marked 3
-    (Sent 61 7 (messages.Answer 38 (answers.Granted (grant_with 1 2 (line 2 3 2 1 0 0 ∷ line 2 3 2 2 0 0 ∷ []))))) ∷
+    (Sent 61 7 (messages.Answer 38 (answers.Granted (whole_grant 1 2 (line 2 3 2 1 0 0 ∷ line 2 3 2 2 0 0 ∷ []))))) ∷
     marked 7 (Got 48) ∷ marked 0 (Got 8) ∷ marked 7 (Got 49) ∷ marked 3 (Got 46) ∷
     marked 3 (Wrote (prepare (tx 3 2) 1 (read_lock 0 2 ∷ []) (own_line 1 0 0 ∷ own_line 2 0 0 ∷ []) [])) ∷
     marked 3 (Sent 62 7 (messages.Answer 46 (answers.Yes 2))) ∷ marked 7 (Got 55) ∷
-    marked 1 (Sent 63 4 (messages.Answer 11 (answers.Granted (grant_with 1 2 [])))) ∷ marked 1 (Got 40)
+    marked 1 (Sent 63 4 (messages.Answer 11 (answers.Granted (whole_grant 1 2 [])))) ∷ marked 1 (Got 40)
     ∷ marked 7 (Got 59) ∷
     marked 4 (Got 63) ∷ marked 7 (Got 60) ∷ marked 3 (Got 52) ∷ marked 7 (Got 61) ∷ marked 7 (Got 62) ∷
     marked 3 (Wrote (records.Done (tx 3 2) 2)) ∷ marked 0 (Wrote (prepare (tx 2 1) 1 (read_lock 0 2 ∷ []) [] [])) ∷
     marked 0 (Sent 64 6 (messages.Answer 8 (answers.Yes 2))) ∷ marked 0 (Got 10) ∷
     marked 0 (Sent 65 4 (messages.Answer 10 (answers.Clash (tx 2 1) 2 0))) ∷
     marked 0 (Sent 66 6 (messages.Inquiry (tx 2 1))) ∷ marked 0 (Got 15) ∷ marked 4 (Got 65) ∷
-    marked 2 (Sent 67 6 (messages.Answer 0 (answers.Granted (grant_with 1 1 [])))) ∷
+    marked 2 (Sent 67 6 (messages.Answer 0 (answers.Granted (whole_grant 1 1 [])))) ∷
     marked 0 (Sent 68 7 (messages.Answer 15 (answers.Clash (tx 2 1) 2 0))) ∷
     marked 0 (Sent 69 6 (messages.Inquiry (tx 2 1))) ∷ marked 2 (Got 6) ∷ marked 7 (Got 68) ∷
     marked 2 (Wrote (prepare (tx 2 1) 1 (read_lock 0 2 ∷ []) [] [])) ∷
@@ -200,13 +201,13 @@ history =
     marked 1 (Sent 71 7 (messages.Answer 40 (answers.Clash (tx 0 1) 2 0))) ∷
     marked 1 (Sent 72 4 (messages.Inquiry (tx 0 1))) ∷ marked 7 (Got 71) ∷ marked 1 (Got 45) ∷ marked 4 (Got 72) ∷
     marked 4 (Sent 73 1 (messages.Decision (tx 0 1) outcomes.Active)) ∷ marked 0 (Got 28) ∷ marked 0 (Got 31) ∷
-    marked 0 (Sent 74 7 (messages.Answer 31 (answers.Granted (grant_with 1 2 [])))) ∷ marked 7 (Got 74)
+    marked 0 (Sent 74 7 (messages.Answer 31 (answers.Granted (whole_grant 1 2 [])))) ∷ marked 7 (Got 74)
     ∷ marked 0 (Got 35) ∷
-    marked 0 (Sent 75 7 (messages.Answer 35 (answers.Granted (grant_with 1 2 [])))) ∷ marked 7 (Got 75)
+    marked 0 (Sent 75 7 (messages.Answer 35 (answers.Granted (whole_grant 1 2 [])))) ∷ marked 7 (Got 75)
     ∷ marked 6 (Got 4) ∷
     marked 0 (Got 39) ∷
     marked 0
-    (Sent 76 7 (messages.Answer 39 (answers.Granted (grant_with 1 2 (line 2 3 2 1 0 0 ∷ line 2 3 2 2 0 0 ∷ []))))) ∷
+    (Sent 76 7 (messages.Answer 39 (answers.Granted (whole_grant 1 2 (line 2 3 2 1 0 0 ∷ line 2 3 2 2 0 0 ∷ []))))) ∷
     marked 7 (Got 76) ∷ marked 0 (Got 47) ∷
     marked 0 (Wrote (prepare (tx 3 2) 1 (read_lock 0 2 ∷ []) (own_line 1 0 0 ∷ own_line 2 0 0 ∷ []) [])) ∷
     marked 0 (Sent 77 7 (messages.Answer 47 (answers.Yes 2))) ∷ marked 7 (Got 77) ∷ marked 6 (Got 5) ∷
@@ -222,16 +223,16 @@ history =
     marked 6 (Sent 82 0 (messages.Decision (tx 2 1) (outcomes.Committed (stamp 1 2)))) ∷
     marked 6 (Called commands.Begin) ∷ marked 0 (Got 82) ∷ marked 6 (Told (replies.Began (tx 2 2))) ∷
     marked 6 (Called (commands.Do 0 2))
-    ∷ marked 6 (Sent 83 2 (messages.Request (tx 2 2) 1 0 (wants.Read (read_of 0 2)))) ∷
-    marked 6 (Sent 84 3 (messages.Request (tx 2 2) 1 0 (wants.Read (read_of 0 2)))) ∷
-    marked 6 (Sent 85 0 (messages.Request (tx 2 2) 1 0 (wants.Read (read_of 0 2)))) ∷ marked 2 (Got 83)
+    ∷ marked 6 (Sent 83 2 (messages.Request (tx 2 2) 1 0 (wants.Read (first_read 0 2)))) ∷
+    marked 6 (Sent 84 3 (messages.Request (tx 2 2) 1 0 (wants.Read (first_read 0 2)))) ∷
+    marked 6 (Sent 85 0 (messages.Request (tx 2 2) 1 0 (wants.Read (first_read 0 2)))) ∷ marked 2 (Got 83)
     ∷ marked 3 (Got 84) ∷
     marked 3
-    (Sent 86 6 (messages.Answer 84 (answers.Granted (grant_with 1 2 (line 2 3 2 1 0 0 ∷ line 2 3 2 2 0 0 ∷ []))))) ∷
-    marked 2 (Sent 87 6 (messages.Answer 83 (answers.Granted (grant_with 1 1 [])))) ∷ marked 6 (Got 86)
+    (Sent 86 6 (messages.Answer 84 (answers.Granted (whole_grant 1 2 (line 2 3 2 1 0 0 ∷ line 2 3 2 2 0 0 ∷ []))))) ∷
+    marked 2 (Sent 87 6 (messages.Answer 83 (answers.Granted (whole_grant 1 1 [])))) ∷ marked 6 (Got 86)
     ∷ marked 0 (Got 85) ∷
     marked 0
-    (Sent 88 6 (messages.Answer 85 (answers.Granted (grant_with 1 2 (line 2 3 2 1 0 0 ∷ line 2 3 2 2 0 0 ∷ []))))) ∷
+    (Sent 88 6 (messages.Answer 85 (answers.Granted (whole_grant 1 2 (line 2 3 2 1 0 0 ∷ line 2 3 2 2 0 0 ∷ []))))) ∷
     marked 6 (Got 87) ∷ marked 6 (Got 88) ∷ marked 6 (Told replies.Absent) ∷ marked 6 (Called commands.Commit) ∷
     marked 6 (Sent 89 2 (messages.Request (tx 2 2) 1 1 wants.Prepare)) ∷
     marked 6 (Sent 90 3 (messages.Request (tx 2 2) 1 1 wants.Prepare)) ∷

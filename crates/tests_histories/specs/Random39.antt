@@ -15,7 +15,7 @@ use Rattle.qc_msg.specs.declared.message.Outcome.TheVariants as outcomes
 use Rattle.qc_msg.specs.declared.record.Record.TheVariants as records
 use Rattle.qc_msg.specs.declared.reply.Reply.TheVariants as replies
 use Rattle.qc_msg.specs.declared.message.Want.TheVariants as wants
-use Rattle.qc_msg.specs.Vocabulary.{grant_with, read_of}
+use Rattle.qc_msg.specs.Vocabulary.{whole_grant, first_read}
 
 abbrev pub decl : Declaration
 decl =
@@ -78,60 +78,60 @@ history =
     marked 6 (Sent 0 1 (messages.Request (tx 1 1) 1 0 (wants.Append 0 [] (own_line 1 0 2 ∷ [])))) ∷
     marked 6 (Sent 1 2 (messages.Request (tx 1 1) 1 0 (wants.Append 0 [] (own_line 1 0 2 ∷ [])))) ∷
     marked 6 (Sent 2 3 (messages.Request (tx 1 1) 1 0 (wants.Append 0 [] (own_line 1 0 2 ∷ [])))) ∷ marked 2 (Got 1) ∷
-    marked 1 (Got 0) ∷ marked 3 (Got 2) ∷ marked 3 (Sent 3 6 (messages.Answer 2 (answers.Granted (grant_with 1 0 []))))
+    marked 1 (Got 0) ∷ marked 3 (Got 2) ∷ marked 3 (Sent 3 6 (messages.Answer 2 (answers.Granted (whole_grant 1 0 []))))
     ∷
-    marked 6 (Got 3) ∷ marked 1 (Sent 4 6 (messages.Answer 0 (answers.Granted (grant_with 1 0 [])))) ∷ marked 6 (Got 4)
+    marked 6 (Got 3) ∷ marked 1 (Sent 4 6 (messages.Answer 0 (answers.Granted (whole_grant 1 0 [])))) ∷ marked 6 (Got 4)
     ∷
     marked 5 (Told (replies.Began (tx 0 1))) ∷ marked 5 (Called commands.Abort) ∷ marked 5 (Told replies.Dropped) ∷
     marked 5 (Called commands.Begin) ∷ marked 5 (Told (replies.Began (tx 0 2))) ∷ marked 5 (Called (commands.Do 1 0)) ∷
-    marked 5 (Sent 5 0 (messages.Request (tx 0 2) 1 0 (wants.Read (read_of 1 0)))) ∷ marked 0 (Got 5) ∷
-    marked 2 (Sent 6 6 (messages.Answer 1 (answers.Granted (grant_with 1 0 [])))) ∷ marked 6 (Got 6) ∷
-    marked 0 (Sent 7 5 (messages.Answer 5 (answers.Granted (grant_with 1 0 [])))) ∷ marked 5 (Got 7) ∷
+    marked 5 (Sent 5 0 (messages.Request (tx 0 2) 1 0 (wants.Read (first_read 1 0)))) ∷ marked 0 (Got 5) ∷
+    marked 2 (Sent 6 6 (messages.Answer 1 (answers.Granted (whole_grant 1 0 [])))) ∷ marked 6 (Got 6) ∷
+    marked 0 (Sent 7 5 (messages.Answer 5 (answers.Granted (whole_grant 1 0 [])))) ∷ marked 5 (Got 7) ∷
     marked 5 (Sent 8 0 (messages.Request (tx 0 2) 1 1 (wants.Append 1 [] (own_line 1 1 0 ∷ [])))) ∷
     marked 5 (Sent 9 1 (messages.Request (tx 0 2) 1 0 (wants.Append 1 [] (own_line 1 1 0 ∷ [])))) ∷
     marked 5 (Sent 10 2 (messages.Request (tx 0 2) 1 0 (wants.Append 1 [] (own_line 1 1 0 ∷ [])))) ∷
     marked 5 (Sent 11 3 (messages.Request (tx 0 2) 1 0 (wants.Append 1 [] (own_line 1 1 0 ∷ [])))) ∷
     marked 5 (Sent 12 4 (messages.Request (tx 0 2) 1 0 (wants.Append 1 [] (own_line 1 1 0 ∷ [])))) ∷ marked 1 (Got 9) ∷
     marked 4 (Got 12) ∷ marked 3 (Got 11)
-    ∷ marked 4 (Sent 13 5 (messages.Answer 12 (answers.Granted (grant_with 1 0 [])))) ∷
+    ∷ marked 4 (Sent 13 5 (messages.Answer 12 (answers.Granted (whole_grant 1 0 [])))) ∷
     marked 5 (Got 13) ∷ marked 0 (Got 8) ∷ marked 2 (Got 10) ∷
-    marked 3 (Sent 14 5 (messages.Answer 11 (answers.Granted (grant_with 1 0 [])))) ∷ marked 5 (Got 14) ∷
-    marked 1 (Sent 15 5 (messages.Answer 9 (answers.Granted (grant_with 1 0 [])))) ∷
-    marked 0 (Sent 16 5 (messages.Answer 8 (answers.Granted (grant_with 1 0 []))))
+    marked 3 (Sent 14 5 (messages.Answer 11 (answers.Granted (whole_grant 1 0 [])))) ∷ marked 5 (Got 14) ∷
+    marked 1 (Sent 15 5 (messages.Answer 9 (answers.Granted (whole_grant 1 0 [])))) ∷
+    marked 0 (Sent 16 5 (messages.Answer 8 (answers.Granted (whole_grant 1 0 []))))
     ∷ marked 6 (Told (replies.Response 2)) ∷
-    marked 5 (Got 15) ∷ marked 2 (Sent 17 5 (messages.Answer 10 (answers.Granted (grant_with 1 0 []))))
+    marked 5 (Got 15) ∷ marked 2 (Sent 17 5 (messages.Answer 10 (answers.Granted (whole_grant 1 0 []))))
     ∷ marked 5 (Got 16) ∷
     marked 5 (Got 17) ∷ marked 5 (Told (replies.Response 0)) ∷ marked 5 (Called (commands.Do 0 1)) ∷
     marked 5 (Sent 18 0 (messages.Request (tx 0 2) 1 1 (wants.Append 0 [] (own_line 2 0 2 ∷ [])))) ∷
     marked 5 (Sent 19 1 (messages.Request (tx 0 2) 1 1 (wants.Append 0 [] (own_line 2 0 2 ∷ [])))) ∷
     marked 5 (Sent 20 2 (messages.Request (tx 0 2) 1 1 (wants.Append 0 [] (own_line 2 0 2 ∷ [])))) ∷ marked 0 (Got 18) ∷
     marked 2 (Got 20) ∷ marked 1 (Got 19)
-    ∷ marked 1 (Sent 21 5 (messages.Answer 19 (answers.Granted (grant_with 1 0 [])))) ∷
-    marked 5 (Got 21) ∷ marked 2 (Sent 22 5 (messages.Answer 20 (answers.Granted (grant_with 1 0 []))))
+    ∷ marked 1 (Sent 21 5 (messages.Answer 19 (answers.Granted (whole_grant 1 0 [])))) ∷
+    marked 5 (Got 21) ∷ marked 2 (Sent 22 5 (messages.Answer 20 (answers.Granted (whole_grant 1 0 []))))
     ∷ marked 5 (Got 22) ∷
-    marked 0 (Sent 23 5 (messages.Answer 18 (answers.Granted (grant_with 1 0 [])))) ∷ marked 5 (Got 23) ∷
+    marked 0 (Sent 23 5 (messages.Answer 18 (answers.Granted (whole_grant 1 0 [])))) ∷ marked 5 (Got 23) ∷
     marked 5 (Told (replies.Response 2)) ∷ marked 8 (Phase 2) ∷ marked 5 (Called (commands.Do 1 0)) ∷
-    marked 5 (Sent 24 0 (messages.Request (tx 0 2) 1 1 (wants.Read (read_of 1 0)))) ∷ marked 0 (Got 24) ∷
-    marked 0 (Sent 25 5 (messages.Answer 24 (answers.Granted (grant_with 1 0 [])))) ∷ marked 5 (Got 25) ∷
+    marked 5 (Sent 24 0 (messages.Request (tx 0 2) 1 1 (wants.Read (first_read 1 0)))) ∷ marked 0 (Got 24) ∷
+    marked 0 (Sent 25 5 (messages.Answer 24 (answers.Granted (whole_grant 1 0 [])))) ∷ marked 5 (Got 25) ∷
     marked 5 (Told (replies.Response 1)) ∷ marked 5 (Called (commands.Do 1 0)) ∷
-    marked 5 (Sent 26 0 (messages.Request (tx 0 2) 1 1 (wants.Read (read_of 1 0)))) ∷ marked 0 (Got 26) ∷
-    marked 0 (Sent 27 5 (messages.Answer 26 (answers.Granted (grant_with 1 0 [])))) ∷ marked 5 (Got 27) ∷
+    marked 5 (Sent 26 0 (messages.Request (tx 0 2) 1 1 (wants.Read (first_read 1 0)))) ∷ marked 0 (Got 26) ∷
+    marked 0 (Sent 27 5 (messages.Answer 26 (answers.Granted (whole_grant 1 0 [])))) ∷ marked 5 (Got 27) ∷
     marked 5 (Told (replies.Response 1)) ∷ marked 5 (Called (commands.Do 0 0)) ∷
-    marked 5 (Sent 28 0 (messages.Request (tx 0 2) 1 1 (wants.Read (read_of 0 0)))) ∷
-    marked 5 (Sent 29 1 (messages.Request (tx 0 2) 1 1 (wants.Read (read_of 0 0)))) ∷
-    marked 5 (Sent 30 2 (messages.Request (tx 0 2) 1 1 (wants.Read (read_of 0 0)))) ∷ marked 1 (Got 29)
+    marked 5 (Sent 28 0 (messages.Request (tx 0 2) 1 1 (wants.Read (first_read 0 0)))) ∷
+    marked 5 (Sent 29 1 (messages.Request (tx 0 2) 1 1 (wants.Read (first_read 0 0)))) ∷
+    marked 5 (Sent 30 2 (messages.Request (tx 0 2) 1 1 (wants.Read (first_read 0 0)))) ∷ marked 1 (Got 29)
     ∷ marked 2 (Got 30) ∷
     marked 0 (Got 28) ∷ marked 1 (Sent 31 5 (messages.Answer 29 (answers.Clash (tx 1 1) 0 2))) ∷
     marked 1 (Sent 32 6 (messages.Inquiry (tx 1 1))) ∷ marked 6 (Got 32) ∷ marked 5 (Got 31) ∷
     marked 6 (Sent 33 1 (messages.Decision (tx 1 1) outcomes.Active)) ∷
-    marked 0 (Sent 34 5 (messages.Answer 28 (answers.Granted (grant_with 1 0 [])))) ∷ marked 1 (Got 33)
+    marked 0 (Sent 34 5 (messages.Answer 28 (answers.Granted (whole_grant 1 0 [])))) ∷ marked 1 (Got 33)
     ∷ marked 5 (Got 34) ∷
     marked 2 (Sent 35 5 (messages.Answer 30 (answers.Clash (tx 1 1) 0 2))) ∷
     marked 2 (Sent 36 6 (messages.Inquiry (tx 1 1))) ∷ marked 6 (Got 36) ∷
     marked 6 (Sent 37 2 (messages.Decision (tx 1 1) outcomes.Active)) ∷ marked 2 (Got 37) ∷ marked 5 (Got 35) ∷
     marked 5 (Told (replies.Conflict (tx 1 1) 1)) ∷ marked 5 (Called (commands.Do 1 0)) ∷
-    marked 5 (Sent 38 0 (messages.Request (tx 0 2) 1 1 (wants.Read (read_of 1 0)))) ∷ marked 0 (Got 38) ∷
-    marked 0 (Sent 39 5 (messages.Answer 38 (answers.Granted (grant_with 1 0 [])))) ∷ marked 5 (Got 39) ∷
+    marked 5 (Sent 38 0 (messages.Request (tx 0 2) 1 1 (wants.Read (first_read 1 0)))) ∷ marked 0 (Got 38) ∷
+    marked 0 (Sent 39 5 (messages.Answer 38 (answers.Granted (whole_grant 1 0 [])))) ∷ marked 5 (Got 39) ∷
     marked 5 (Told (replies.Response 1)) ∷ marked 5 (Called commands.Commit) ∷
     marked 5 (Sent 40 0 (messages.Request (tx 0 2) 1 1 wants.Prepare)) ∷
     marked 5 (Sent 41 1 (messages.Request (tx 0 2) 1 1 wants.Prepare)) ∷
@@ -162,16 +162,16 @@ history =
     marked 2 (Wrote (records.Done (tx 0 2) 1)) ∷ marked 4 (Wrote (records.Done (tx 0 2) 1)) ∷ marked 8 (Phase 3) ∷
     marked 3 (Got 53) ∷ marked 5 (Called commands.Begin) ∷ marked 3 (Wrote (records.Done (tx 0 2) 1)) ∷
     marked 5 (Told (replies.Began (tx 0 3))) ∷ marked 5 (Called (commands.Do 0 0)) ∷
-    marked 5 (Sent 55 0 (messages.Request (tx 0 3) 1 0 (wants.Read (read_of 0 0)))) ∷
-    marked 5 (Sent 56 1 (messages.Request (tx 0 3) 1 0 (wants.Read (read_of 0 0)))) ∷
-    marked 5 (Sent 57 2 (messages.Request (tx 0 3) 1 0 (wants.Read (read_of 0 0)))) ∷ marked 2 (Got 57)
+    marked 5 (Sent 55 0 (messages.Request (tx 0 3) 1 0 (wants.Read (first_read 0 0)))) ∷
+    marked 5 (Sent 56 1 (messages.Request (tx 0 3) 1 0 (wants.Read (first_read 0 0)))) ∷
+    marked 5 (Sent 57 2 (messages.Request (tx 0 3) 1 0 (wants.Read (first_read 0 0)))) ∷ marked 2 (Got 57)
     ∷ marked 1 (Got 56) ∷
     marked 0 (Got 55) ∷ marked 2 (Sent 58 5 (messages.Answer 57 (answers.Clash (tx 1 1) 0 2))) ∷
     marked 2 (Sent 59 6 (messages.Inquiry (tx 1 1))) ∷ marked 6 (Got 59) ∷
     marked 1 (Sent 60 5 (messages.Answer 56 (answers.Clash (tx 1 1) 0 2))) ∷
     marked 1 (Sent 61 6 (messages.Inquiry (tx 1 1))) ∷ marked 5 (Got 58) ∷
     marked 6 (Sent 62 2 (messages.Decision (tx 1 1) outcomes.Active)) ∷ marked 2 (Got 62) ∷ marked 6 (Got 61) ∷
-    marked 0 (Sent 63 5 (messages.Answer 55 (answers.Granted (grant_with 1 1 (line 1 0 2 2 0 2 ∷ [])))))
+    marked 0 (Sent 63 5 (messages.Answer 55 (answers.Granted (whole_grant 1 1 (line 1 0 2 2 0 2 ∷ [])))))
     ∷ marked 5 (Got 60) ∷
     marked 6 (Sent 64 1 (messages.Decision (tx 1 1) outcomes.Active)) ∷ marked 1 (Got 64) ∷ marked 5 (Got 63) ∷
     marked 5 (Told (replies.Conflict (tx 1 1) 1)) ∷ marked 5 (Called (commands.Do 0 1)) ∷
@@ -182,9 +182,9 @@ history =
     marked 5 (Sent 67 2 (messages.Request (tx 0 3) 1 0 (wants.Append 0 (line 1 0 2 2 0 2 ∷ []) (own_line 1 0 2 ∷ []))))
     ∷
     marked 1 (Got 66) ∷ marked 0 (Got 65) ∷ marked 2 (Got 67) ∷
-    marked 2 (Sent 68 5 (messages.Answer 67 (answers.Granted (grant_with 1 1 [])))) ∷ marked 5 (Got 68) ∷
-    marked 1 (Sent 69 5 (messages.Answer 66 (answers.Granted (grant_with 1 1 [])))) ∷
-    marked 0 (Sent 70 5 (messages.Answer 65 (answers.Granted (grant_with 1 1 [])))) ∷ marked 5 (Got 69)
+    marked 2 (Sent 68 5 (messages.Answer 67 (answers.Granted (whole_grant 1 1 [])))) ∷ marked 5 (Got 68) ∷
+    marked 1 (Sent 69 5 (messages.Answer 66 (answers.Granted (whole_grant 1 1 [])))) ∷
+    marked 0 (Sent 70 5 (messages.Answer 65 (answers.Granted (whole_grant 1 1 [])))) ∷ marked 5 (Got 69)
     ∷ marked 5 (Got 70) ∷
     marked 5 (Told (replies.Response 2)) ∷ marked 5 (Called (commands.Do 0 1)) ∷
     marked 5 (Sent 71 0 (messages.Request (tx 0 3) 1 1 (wants.Append 0 (line 1 0 2 2 0 2 ∷ []) (own_line 1 0 2 ∷
@@ -194,9 +194,9 @@ history =
     marked 5 (Sent 73 2 (messages.Request (tx 0 3) 1 1 (wants.Append 0 (line 1 0 2 2 0 2 ∷ []) (own_line 1 0 2 ∷
     own_line 2 0 2 ∷ [])))) ∷
     marked 2 (Got 73) ∷ marked 1 (Got 72) ∷ marked 0 (Got 71) ∷
-    marked 1 (Sent 74 5 (messages.Answer 72 (answers.Granted (grant_with 1 1 [])))) ∷ marked 5 (Got 74) ∷
-    marked 0 (Sent 75 5 (messages.Answer 71 (answers.Granted (grant_with 1 1 [])))) ∷
-    marked 2 (Sent 76 5 (messages.Answer 73 (answers.Granted (grant_with 1 1 [])))) ∷ marked 5 (Got 75)
+    marked 1 (Sent 74 5 (messages.Answer 72 (answers.Granted (whole_grant 1 1 [])))) ∷ marked 5 (Got 74) ∷
+    marked 0 (Sent 75 5 (messages.Answer 71 (answers.Granted (whole_grant 1 1 [])))) ∷
+    marked 2 (Sent 76 5 (messages.Answer 73 (answers.Granted (whole_grant 1 1 [])))) ∷ marked 5 (Got 75)
     ∷ marked 5 (Got 76) ∷
     marked 5 (Told (replies.Response 2)) ∷ marked 5 (Called commands.Commit) ∷
     marked 5 (Sent 77 0 (messages.Request (tx 0 3) 1 1 wants.Prepare)) ∷
@@ -220,9 +220,9 @@ history =
     marked 5 (Sent 87 1 (messages.Request (tx 0 4) 1 0 (wants.Append 0 [] (own_line 1 0 2 ∷ [])))) ∷
     marked 5 (Sent 88 2 (messages.Request (tx 0 4) 1 0 (wants.Append 0 [] (own_line 1 0 2 ∷ [])))) ∷ marked 0 (Got 86) ∷
     marked 2 (Got 88) ∷ marked 1 (Got 87)
-    ∷ marked 0 (Sent 89 5 (messages.Answer 86 (answers.Granted (grant_with 1 2 [])))) ∷
-    marked 5 (Got 89) ∷ marked 1 (Sent 90 5 (messages.Answer 87 (answers.Granted (grant_with 1 2 [])))) ∷
-    marked 2 (Sent 91 5 (messages.Answer 88 (answers.Granted (grant_with 1 2 [])))) ∷ marked 5 (Got 90)
+    ∷ marked 0 (Sent 89 5 (messages.Answer 86 (answers.Granted (whole_grant 1 2 [])))) ∷
+    marked 5 (Got 89) ∷ marked 1 (Sent 90 5 (messages.Answer 87 (answers.Granted (whole_grant 1 2 [])))) ∷
+    marked 2 (Sent 91 5 (messages.Answer 88 (answers.Granted (whole_grant 1 2 [])))) ∷ marked 5 (Got 90)
     ∷ marked 5 (Got 91) ∷
     marked 5 (Told (replies.Response 2)) ∷ marked 5 (Called commands.Commit) ∷
     marked 5 (Sent 92 0 (messages.Request (tx 0 4) 1 1 wants.Prepare)) ∷
@@ -242,21 +242,21 @@ history =
     marked 2 (Wrote (records.Done (tx 0 4) 3)) ∷ marked 0 (Wrote (records.Done (tx 0 4) 3)) ∷
     marked 1 (Wrote (records.Done (tx 0 4) 3)) ∷ marked 8 (Phase 4) ∷ marked 8 (Phase 5) ∷
     marked 6 (Called (commands.Do 1 0))
-    ∷ marked 6 (Sent 101 1 (messages.Request (tx 1 1) 1 1 (wants.Read (read_of 1 0)))) ∷
+    ∷ marked 6 (Sent 101 1 (messages.Request (tx 1 1) 1 1 (wants.Read (first_read 1 0)))) ∷
     marked 1 (Got 101)
-    ∷ marked 1 (Sent 102 6 (messages.Answer 101 (answers.Granted (grant_with 1 3 (line 1 0 2 1 1 0 ∷ []))))) ∷
+    ∷ marked 1 (Sent 102 6 (messages.Answer 101 (answers.Granted (whole_grant 1 3 (line 1 0 2 1 1 0 ∷ []))))) ∷
     marked 6 (Got 102) ∷ marked 6 (Told (replies.Response 1)) ∷ marked 6 (Called (commands.Do 0 1)) ∷
     marked 6 (Sent 103 1 (messages.Request (tx 1 1) 1 1 (wants.Append 0 [] (own_line 1 0 2 ∷ own_line 3 0 2 ∷ [])))) ∷
     marked 6 (Sent 104 2 (messages.Request (tx 1 1) 1 1 (wants.Append 0 [] (own_line 1 0 2 ∷ own_line 3 0 2 ∷ [])))) ∷
     marked 6 (Sent 105 3 (messages.Request (tx 1 1) 1 1 (wants.Append 0 [] (own_line 1 0 2 ∷ own_line 3 0 2 ∷ [])))) ∷
     marked 3 (Got 105) ∷ marked 1 (Got 103) ∷ marked 2 (Got 104) ∷
-    marked 2 (Sent 106 6 (messages.Answer 104 (answers.Granted (grant_with 1 3 [])))) ∷ marked 6 (Got 106) ∷
-    marked 3 (Sent 107 6 (messages.Answer 105 (answers.Granted (grant_with 1 1 [])))) ∷
-    marked 1 (Sent 108 6 (messages.Answer 103 (answers.Granted (grant_with 1 3 [])))) ∷ marked 6 (Got 107)
+    marked 2 (Sent 106 6 (messages.Answer 104 (answers.Granted (whole_grant 1 3 [])))) ∷ marked 6 (Got 106) ∷
+    marked 3 (Sent 107 6 (messages.Answer 105 (answers.Granted (whole_grant 1 1 [])))) ∷
+    marked 1 (Sent 108 6 (messages.Answer 103 (answers.Granted (whole_grant 1 3 [])))) ∷ marked 6 (Got 107)
     ∷ marked 6 (Got 108) ∷
     marked 6 (Told (replies.Response 2)) ∷ marked 6 (Called (commands.Do 1 0)) ∷
-    marked 6 (Sent 109 1 (messages.Request (tx 1 1) 1 1 (wants.Read (read_of 1 0)))) ∷ marked 1 (Got 109) ∷
-    marked 1 (Sent 110 6 (messages.Answer 109 (answers.Granted (grant_with 1 3 (line 1 0 2 1 1 0 ∷ [])))))
+    marked 6 (Sent 109 1 (messages.Request (tx 1 1) 1 1 (wants.Read (first_read 1 0)))) ∷ marked 1 (Got 109) ∷
+    marked 1 (Sent 110 6 (messages.Answer 109 (answers.Granted (whole_grant 1 3 (line 1 0 2 1 1 0 ∷ [])))))
     ∷ marked 6 (Got 110) ∷
     marked 6 (Told (replies.Response 1)) ∷ marked 6 (Called commands.Commit) ∷
     marked 6 (Sent 111 1 (messages.Request (tx 1 1) 1 1 wants.Prepare)) ∷

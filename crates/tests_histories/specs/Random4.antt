@@ -13,7 +13,7 @@ use Rattle.qc_msg.specs.declared.message.Message.TheVariants as messages
 use Rattle.qc_msg.specs.declared.message.Outcome.TheVariants as outcomes
 use Rattle.qc_msg.specs.declared.reply.Reply.TheVariants as replies
 use Rattle.qc_msg.specs.declared.message.Want.TheVariants as wants
-use Rattle.qc_msg.specs.Vocabulary.{grant_with, read_of}
+use Rattle.qc_msg.specs.Vocabulary.{whole_grant, first_read}
 
 abbrev pub decl : Declaration
 decl =
@@ -39,27 +39,27 @@ abbrev pub history : List Entry
 history =
     marked 3 (Phase 1) ∷ marked 1 (Called commands.Begin) ∷ marked 1 (Told (replies.Began (tx 0 1))) ∷
     marked 3 (Phase 2) ∷ marked 3 (Cut 1 0) ∷ marked 1 (Called (commands.Do 1 0)) ∷
-    marked 1 (Sent 0 0 (messages.Request (tx 0 1) 1 0 (wants.Read (read_of 1 0)))) ∷ marked 1 (Lost 0) ∷
+    marked 1 (Sent 0 0 (messages.Request (tx 0 1) 1 0 (wants.Read (first_read 1 0)))) ∷ marked 1 (Lost 0) ∷
     marked 1 (Told (replies.Quorum halves.Read 0 1)) ∷ marked 1 (Called commands.Commit) ∷
     marked 1 (Wrote (commit (stamp 1 0) (tx 0 1) [])) ∷
     marked 1 (Sent 1 0 (messages.Decision (tx 0 1) (outcomes.Committed (stamp 1 0)))) ∷
     marked 1 (Told (replies.Committed (stamp 1 0))) ∷ marked 1 (Called commands.Begin) ∷
     marked 1 (Told (replies.Began (tx 0 2))) ∷ marked 1 (Called (commands.Do 1 1)) ∷
-    marked 1 (Sent 2 0 (messages.Request (tx 0 2) 1 0 (wants.Read (read_of 1 1)))) ∷ marked 1 (Lost 2) ∷
+    marked 1 (Sent 2 0 (messages.Request (tx 0 2) 1 0 (wants.Read (first_read 1 1)))) ∷ marked 1 (Lost 2) ∷
     marked 1 (Told (replies.Quorum halves.Read 0 1)) ∷ marked 1 (Called commands.Commit) ∷
     marked 1 (Wrote (commit (stamp 2 0) (tx 0 2) [])) ∷
     marked 1 (Sent 3 0 (messages.Decision (tx 0 2) (outcomes.Committed (stamp 2 0)))) ∷
     marked 1 (Told (replies.Committed (stamp 2 0))) ∷ marked 3 (Phase 3) ∷ marked 3 (Heal 1 0) ∷
     marked 1 (Called commands.Begin) ∷ marked 1 (Told (replies.Began (tx 0 3))) ∷ marked 1 (Called (commands.Do 0 1)) ∷
-    marked 1 (Sent 4 0 (messages.Request (tx 0 3) 1 0 (wants.Read (read_of 0 1)))) ∷ marked 0 (Got 4) ∷
-    marked 0 (Sent 5 1 (messages.Answer 4 (answers.Granted (grant_with 1 0 [])))) ∷ marked 1 (Got 5) ∷
+    marked 1 (Sent 4 0 (messages.Request (tx 0 3) 1 0 (wants.Read (first_read 0 1)))) ∷ marked 0 (Got 4) ∷
+    marked 0 (Sent 5 1 (messages.Answer 4 (answers.Granted (whole_grant 1 0 [])))) ∷ marked 1 (Got 5) ∷
     marked 1 (Told replies.Absent) ∷ marked 1 (Called commands.Abort) ∷
     marked 1 (Sent 6 0 (messages.Decision (tx 0 3) outcomes.Aborted)) ∷ marked 1 (Told replies.Dropped) ∷
     marked 0 (Got 6) ∷ marked 3 (Phase 4) ∷ marked 1 (Got 5) ∷ marked 0 (Got 4) ∷
-    marked 0 (Sent 7 1 (messages.Answer 4 (answers.Granted (grant_with 1 0 [])))) ∷ marked 1 (Got 7) ∷
+    marked 0 (Sent 7 1 (messages.Answer 4 (answers.Granted (whole_grant 1 0 [])))) ∷ marked 1 (Got 7) ∷
     marked 1 (Called commands.Begin) ∷ marked 1 (Told (replies.Began (tx 0 4))) ∷ marked 1 (Called (commands.Do 0 2)) ∷
-    marked 1 (Sent 8 0 (messages.Request (tx 0 4) 1 0 (wants.Read (read_of 0 2)))) ∷ marked 0 (Got 8) ∷
-    marked 0 (Sent 9 1 (messages.Answer 8 (answers.Granted (grant_with 1 0 [])))) ∷ marked 1 (Got 9) ∷
+    marked 1 (Sent 8 0 (messages.Request (tx 0 4) 1 0 (wants.Read (first_read 0 2)))) ∷ marked 0 (Got 8) ∷
+    marked 0 (Sent 9 1 (messages.Answer 8 (answers.Granted (whole_grant 1 0 [])))) ∷ marked 1 (Got 9) ∷
     marked 1 (Sent 10 0 (messages.Request (tx 0 4) 1 1 (wants.Append 0 [] (own_line 1 0 4 ∷ [])))) ∷ marked 0 (Got 10) ∷
     marked 0 (Sent 11 1 (messages.Answer 10 (answers.Clash (tx 0 3) 1 4))) ∷
     marked 0 (Sent 12 1 (messages.Inquiry (tx 0 3))) ∷ marked 1 (Got 11) ∷

@@ -15,7 +15,7 @@ use Rattle.qc_msg.specs.declared.message.Outcome.TheVariants as outcomes
 use Rattle.qc_msg.specs.declared.record.Record.TheVariants as records
 use Rattle.qc_msg.specs.declared.reply.Reply.TheVariants as replies
 use Rattle.qc_msg.specs.declared.message.Want.TheVariants as wants
-use Rattle.qc_msg.specs.Vocabulary.{grant_with, read_of}
+use Rattle.qc_msg.specs.Vocabulary.{whole_grant, first_read}
 
 abbrev pub decl : Declaration
 decl =
@@ -81,38 +81,39 @@ abbrev pub history : List Entry
 history =
     marked 7 (Phase 1) ∷ marked 5 (Called commands.Begin) ∷ marked 5 (Told (replies.Began (tx 2 1))) ∷
     marked 5 (Called (commands.Do 1 1)) ∷ marked 3 (Called commands.Begin) ∷
-    marked 5 (Sent 0 2 (messages.Request (tx 2 1) 1 0 (wants.Read (read_of 1 1)))) ∷
-    marked 5 (Sent 1 0 (messages.Request (tx 2 1) 1 0 (wants.Read (read_of 1 1)))) ∷ marked 2 (Got 0) ∷
-    marked 2 (Sent 2 5 (messages.Answer 0 (answers.Granted (grant_with 1 0 [])))) ∷ marked 0 (Got 1) ∷
+    marked 5 (Sent 0 2 (messages.Request (tx 2 1) 1 0 (wants.Read (first_read 1 1)))) ∷
+    marked 5 (Sent 1 0 (messages.Request (tx 2 1) 1 0 (wants.Read (first_read 1 1)))) ∷ marked 2 (Got 0) ∷
+    marked 2 (Sent 2 5 (messages.Answer 0 (answers.Granted (whole_grant 1 0 [])))) ∷ marked 0 (Got 1) ∷
     marked 3 (Told (replies.Began (tx 0 1)))
-    ∷ marked 0 (Sent 3 5 (messages.Answer 1 (answers.Granted (grant_with 1 0 [])))) ∷
+    ∷ marked 0 (Sent 3 5 (messages.Answer 1 (answers.Granted (whole_grant 1 0 [])))) ∷
     marked 3 (Called (commands.Do 1 0)) ∷ marked 5 (Got 2) ∷
-    marked 3 (Sent 4 0 (messages.Request (tx 0 1) 1 0 (wants.Read (read_of 1 0)))) ∷ marked 0 (Got 4) ∷ marked 5 (Got 3)
+    marked 3 (Sent 4 0 (messages.Request (tx 0 1) 1 0 (wants.Read (first_read 1 0)))) ∷ marked 0 (Got 4) ∷
+    marked 5 (Got 3)
     ∷
-    marked 0 (Sent 5 3 (messages.Answer 4 (answers.Granted (grant_with 1 0 [])))) ∷
+    marked 0 (Sent 5 3 (messages.Answer 4 (answers.Granted (whole_grant 1 0 [])))) ∷
     marked 5 (Sent 6 2 (messages.Request (tx 2 1) 1 1 (wants.Append 1 [] (own_line 1 1 2 ∷ [])))) ∷
     marked 5 (Sent 7 0 (messages.Request (tx 2 1) 1 1 (wants.Append 1 [] (own_line 1 1 2 ∷ [])))) ∷
     marked 5 (Sent 8 1 (messages.Request (tx 2 1) 1 0 (wants.Append 1 [] (own_line 1 1 2 ∷ [])))) ∷ marked 3 (Got 5) ∷
-    marked 1 (Got 8) ∷ marked 2 (Got 6) ∷ marked 1 (Sent 9 5 (messages.Answer 8 (answers.Granted (grant_with 1 0 []))))
+    marked 1 (Got 8) ∷ marked 2 (Got 6) ∷ marked 1 (Sent 9 5 (messages.Answer 8 (answers.Granted (whole_grant 1 0 []))))
     ∷
     marked 3 (Sent 10 0 (messages.Request (tx 0 1) 1 1 (wants.Append 1 [] (own_line 1 1 0 ∷ [])))) ∷
     marked 3 (Sent 11 1 (messages.Request (tx 0 1) 1 0 (wants.Append 1 [] (own_line 1 1 0 ∷ [])))) ∷
-    marked 2 (Sent 12 5 (messages.Answer 6 (answers.Granted (grant_with 1 0 [])))) ∷ marked 5 (Got 9)
+    marked 2 (Sent 12 5 (messages.Answer 6 (answers.Granted (whole_grant 1 0 [])))) ∷ marked 5 (Got 9)
     ∷ marked 5 (Got 12) ∷
     marked 0 (Got 7) ∷ marked 0 (Sent 13 5 (messages.Answer 7 (answers.Clash (tx 0 1) 0 2))) ∷
     marked 0 (Sent 14 3 (messages.Inquiry (tx 0 1))) ∷ marked 1 (Got 8) ∷ marked 3 (Got 14) ∷
     marked 3 (Sent 15 0 (messages.Decision (tx 0 1) outcomes.Active)) ∷ marked 5 (Got 13) ∷
-    marked 1 (Sent 16 5 (messages.Answer 8 (answers.Granted (grant_with 1 0 []))))
+    marked 1 (Sent 16 5 (messages.Answer 8 (answers.Granted (whole_grant 1 0 []))))
     ∷ marked 5 (Told (replies.Conflict (tx 0 1) 0)) ∷
     marked 5 (Got 16) ∷ marked 0 (Got 10) ∷ marked 1 (Got 11) ∷
     marked 0 (Sent 17 3 (messages.Answer 10 (answers.Clash (tx 2 1) 1 0))) ∷
     marked 0 (Sent 18 5 (messages.Inquiry (tx 2 1))) ∷
-    marked 1 (Sent 19 3 (messages.Answer 11 (answers.Granted (grant_with 1 0 [])))) ∷ marked 0 (Got 15)
+    marked 1 (Sent 19 3 (messages.Answer 11 (answers.Granted (whole_grant 1 0 [])))) ∷ marked 0 (Got 15)
     ∷ marked 1 (Got 11) ∷
     marked 3 (Got 17) ∷ marked 3 (Got 19) ∷ marked 5 (Got 18) ∷ marked 3 (Told (replies.Conflict (tx 2 1) 0)) ∷
     marked 5 (Sent 20 0 (messages.Decision (tx 2 1) outcomes.Active)) ∷ marked 5 (Called (commands.Do 0 2)) ∷
     marked 5 (Told replies.Doomed) ∷ marked 0 (Got 20) ∷
-    marked 1 (Sent 21 3 (messages.Answer 11 (answers.Granted (grant_with 1 0 []))))
+    marked 1 (Sent 21 3 (messages.Answer 11 (answers.Granted (whole_grant 1 0 []))))
     ∷ marked 5 (Called (commands.Do 0 0)) ∷
     marked 3 (Got 21) ∷ marked 5 (Told replies.Doomed) ∷ marked 5 (Called commands.Commit) ∷
     marked 5 (Sent 22 0 (messages.Decision (tx 2 1) outcomes.Aborted)) ∷
@@ -124,8 +125,8 @@ history =
     marked 5 (Sent 25 2 (messages.Request (tx 2 2) 1 0 (wants.Append 1 [] (own_line 1 1 3 ∷ [])))) ∷
     marked 5 (Sent 26 0 (messages.Request (tx 2 2) 1 0 (wants.Append 1 [] (own_line 1 1 3 ∷ [])))) ∷
     marked 5 (Sent 27 1 (messages.Request (tx 2 2) 1 0 (wants.Append 1 [] (own_line 1 1 3 ∷ [])))) ∷ marked 2 (Got 25) ∷
-    marked 1 (Got 27) ∷ marked 1 (Sent 28 5 (messages.Answer 27 (answers.Granted (grant_with 1 0 [])))) ∷
-    marked 2 (Sent 29 5 (messages.Answer 25 (answers.Granted (grant_with 1 0 [])))) ∷ marked 0 (Got 26)
+    marked 1 (Got 27) ∷ marked 1 (Sent 28 5 (messages.Answer 27 (answers.Granted (whole_grant 1 0 [])))) ∷
+    marked 2 (Sent 29 5 (messages.Answer 25 (answers.Granted (whole_grant 1 0 [])))) ∷ marked 0 (Got 26)
     ∷ marked 5 (Got 28) ∷
     marked 0 (Sent 30 5 (messages.Answer 26 (answers.Clash (tx 0 1) 0 3))) ∷
     marked 0 (Sent 31 3 (messages.Inquiry (tx 0 1))) ∷ marked 3 (Got 31) ∷ marked 5 (Got 29) ∷
@@ -138,22 +139,22 @@ history =
     marked 5 (Told (replies.Aborted causes.Doomed)) ∷ marked 0 (Got 33) ∷ marked 2 (Got 35) ∷ marked 1 (Got 34) ∷
     marked 7 (Phase 2) ∷ marked 5 (Called commands.Begin) ∷ marked 5 (Told (replies.Began (tx 2 3))) ∷
     marked 5 (Called (commands.Do 0 0))
-    ∷ marked 5 (Sent 36 2 (messages.Request (tx 2 3) 1 0 (wants.Read (read_of 0 0)))) ∷
-    marked 5 (Sent 37 0 (messages.Request (tx 2 3) 1 0 (wants.Read (read_of 0 0)))) ∷ marked 2 (Got 36)
+    ∷ marked 5 (Sent 36 2 (messages.Request (tx 2 3) 1 0 (wants.Read (first_read 0 0)))) ∷
+    marked 5 (Sent 37 0 (messages.Request (tx 2 3) 1 0 (wants.Read (first_read 0 0)))) ∷ marked 2 (Got 36)
     ∷ marked 0 (Got 37) ∷
-    marked 0 (Sent 38 5 (messages.Answer 37 (answers.Granted (grant_with 1 0 [])))) ∷ marked 5 (Got 38) ∷
-    marked 2 (Sent 39 5 (messages.Answer 36 (answers.Granted (grant_with 1 0 [])))) ∷ marked 5 (Got 39) ∷
+    marked 0 (Sent 38 5 (messages.Answer 37 (answers.Granted (whole_grant 1 0 [])))) ∷ marked 5 (Got 38) ∷
+    marked 2 (Sent 39 5 (messages.Answer 36 (answers.Granted (whole_grant 1 0 [])))) ∷ marked 5 (Got 39) ∷
     marked 5 (Sent 40 2 (messages.Request (tx 2 3) 1 1 (wants.Append 0 [] (own_line 1 0 0 ∷ [])))) ∷
     marked 5 (Sent 41 0 (messages.Request (tx 2 3) 1 1 (wants.Append 0 [] (own_line 1 0 0 ∷ [])))) ∷ marked 2 (Got 40) ∷
-    marked 0 (Got 41) ∷ marked 0 (Sent 42 5 (messages.Answer 41 (answers.Granted (grant_with 1 0 [])))) ∷
-    marked 2 (Sent 43 5 (messages.Answer 40 (answers.Granted (grant_with 1 0 [])))) ∷ marked 5 (Got 42)
+    marked 0 (Got 41) ∷ marked 0 (Sent 42 5 (messages.Answer 41 (answers.Granted (whole_grant 1 0 [])))) ∷
+    marked 2 (Sent 43 5 (messages.Answer 40 (answers.Granted (whole_grant 1 0 [])))) ∷ marked 5 (Got 42)
     ∷ marked 5 (Got 43) ∷
     marked 5 (Told (replies.Response 0)) ∷ marked 5 (Called (commands.Do 0 2)) ∷
     marked 5 (Sent 44 2 (messages.Request (tx 2 3) 1 1 (wants.Append 0 [] (own_line 1 0 0 ∷ own_line 2 0 3 ∷ [])))) ∷
     marked 5 (Sent 45 0 (messages.Request (tx 2 3) 1 1 (wants.Append 0 [] (own_line 1 0 0 ∷ own_line 2 0 3 ∷ [])))) ∷
     marked 0 (Got 45) ∷ marked 2 (Got 44)
-    ∷ marked 2 (Sent 46 5 (messages.Answer 44 (answers.Granted (grant_with 1 0 [])))) ∷
-    marked 0 (Sent 47 5 (messages.Answer 45 (answers.Granted (grant_with 1 0 [])))) ∷ marked 5 (Got 46)
+    ∷ marked 2 (Sent 46 5 (messages.Answer 44 (answers.Granted (whole_grant 1 0 [])))) ∷
+    marked 0 (Sent 47 5 (messages.Answer 45 (answers.Granted (whole_grant 1 0 [])))) ∷ marked 5 (Got 46)
     ∷ marked 5 (Got 47) ∷
     marked 5 (Told (replies.Response 2)) ∷ marked 5 (Called commands.Commit) ∷
     marked 5 (Sent 48 2 (messages.Request (tx 2 3) 1 1 wants.Prepare)) ∷
@@ -168,18 +169,18 @@ history =
     marked 5 (Told (replies.Committed (stamp 1 2))) ∷ marked 0 (Got 52) ∷ marked 0 (Wrote (records.Done (tx 2 3) 1)) ∷
     marked 2 (Got 53) ∷ marked 2 (Wrote (records.Done (tx 2 3) 1)) ∷ marked 7 (Phase 3) ∷ marked 7 (Cut 0 3) ∷
     marked 2 (Got 44) ∷ marked 3 (Called (commands.Do 0 0)) ∷ marked 0 (Got 41) ∷ marked 5 (Got 50) ∷
-    marked 2 (Sent 54 5 (messages.Answer 44 (answers.Granted (grant_with 1 1 [])))) ∷ marked 3 (Told replies.Doomed) ∷
+    marked 2 (Sent 54 5 (messages.Answer 44 (answers.Granted (whole_grant 1 1 [])))) ∷ marked 3 (Told replies.Doomed) ∷
     marked 3 (Called (commands.Do 0 0)) ∷ marked 3 (Told replies.Doomed) ∷ marked 4 (Called commands.Begin) ∷
     marked 3 (Called (commands.Do 0 2)) ∷ marked 4 (Told (replies.Began (tx 1 1))) ∷ marked 3 (Told replies.Doomed) ∷
-    marked 0 (Sent 55 5 (messages.Answer 41 (answers.Granted (grant_with 1 1 []))))
+    marked 0 (Sent 55 5 (messages.Answer 41 (answers.Granted (whole_grant 1 1 []))))
     ∷ marked 4 (Called (commands.Do 0 0)) ∷
-    marked 4 (Sent 56 1 (messages.Request (tx 1 1) 1 0 (wants.Read (read_of 0 0)))) ∷
-    marked 4 (Sent 57 2 (messages.Request (tx 1 1) 1 0 (wants.Read (read_of 0 0)))) ∷ marked 1 (Got 56)
+    marked 4 (Sent 56 1 (messages.Request (tx 1 1) 1 0 (wants.Read (first_read 0 0)))) ∷
+    marked 4 (Sent 57 2 (messages.Request (tx 1 1) 1 0 (wants.Read (first_read 0 0)))) ∷ marked 1 (Got 56)
     ∷ marked 5 (Got 54) ∷
-    marked 2 (Got 57) ∷ marked 1 (Sent 58 4 (messages.Answer 56 (answers.Granted (grant_with 1 0 [])))) ∷
+    marked 2 (Got 57) ∷ marked 1 (Sent 58 4 (messages.Answer 56 (answers.Granted (whole_grant 1 0 [])))) ∷
     marked 2 (Sent 59 4 (messages.Answer 57 (answers.Clash (tx 2 3) 0 3))) ∷
     marked 2 (Sent 60 5 (messages.Inquiry (tx 2 3))) ∷ marked 5 (Got 55) ∷ marked 4 (Got 58) ∷ marked 1 (Got 56) ∷
-    marked 4 (Got 59) ∷ marked 1 (Sent 61 4 (messages.Answer 56 (answers.Granted (grant_with 1 0 []))))
+    marked 4 (Got 59) ∷ marked 1 (Sent 61 4 (messages.Answer 56 (answers.Granted (whole_grant 1 0 []))))
     ∷ marked 5 (Got 60) ∷
     marked 4 (Told (replies.Conflict (tx 2 3) 2)) ∷
     marked 5 (Sent 62 2 (messages.Decision (tx 2 3) (outcomes.Committed (stamp 1 2)))) ∷ marked 2 (Got 62) ∷
@@ -187,12 +188,12 @@ history =
     marked 4 (Got 61) ∷ marked 5 (Told replies.NoTransaction) ∷ marked 5 (Called commands.Commit) ∷
     marked 5 (Told replies.NoTransaction) ∷ marked 7 (Phase 4) ∷ marked 7 (Heal 0 3) ∷ marked 5 (Got 54) ∷
     marked 4 (Called (commands.Do 0 0))
-    ∷ marked 4 (Sent 63 1 (messages.Request (tx 1 1) 1 1 (wants.Read (read_of 0 0)))) ∷
-    marked 4 (Sent 64 2 (messages.Request (tx 1 1) 1 0 (wants.Read (read_of 0 0)))) ∷ marked 1 (Got 63) ∷
-    marked 1 (Sent 65 4 (messages.Answer 63 (answers.Granted (grant_with 1 0 [])))) ∷ marked 4 (Got 65)
+    ∷ marked 4 (Sent 63 1 (messages.Request (tx 1 1) 1 1 (wants.Read (first_read 0 0)))) ∷
+    marked 4 (Sent 64 2 (messages.Request (tx 1 1) 1 0 (wants.Read (first_read 0 0)))) ∷ marked 1 (Got 63) ∷
+    marked 1 (Sent 65 4 (messages.Answer 63 (answers.Granted (whole_grant 1 0 [])))) ∷ marked 4 (Got 65)
     ∷ marked 2 (Got 64) ∷
     marked 2
-    (Sent 66 4 (messages.Answer 64 (answers.Granted (grant_with 1 1 (line 1 2 3 1 0 0 ∷ line 1 2 3 2 0 3 ∷ []))))) ∷
+    (Sent 66 4 (messages.Answer 64 (answers.Granted (whole_grant 1 1 (line 1 2 3 1 0 0 ∷ line 1 2 3 2 0 3 ∷ []))))) ∷
     marked 4 (Got 66) ∷
     marked 4 (Sent 67 1 (messages.Request (tx 1 1) 1 1 (wants.Append 0 (line 1 2 3 1 0 0 ∷ line 1 2 3 2 0 3 ∷ [])
     (own_line 1 0 1 ∷ [])))) ∷
@@ -201,10 +202,10 @@ history =
     marked 4 (Sent 69 0 (messages.Request (tx 1 1) 1 0 (wants.Append 0 (line 1 2 3 1 0 0 ∷ line 1 2 3 2 0 3 ∷ [])
     (own_line 1 0 1 ∷ [])))) ∷
     marked 1 (Got 67) ∷ marked 0 (Got 69)
-    ∷ marked 1 (Sent 70 4 (messages.Answer 67 (answers.Granted (grant_with 1 1 [])))) ∷
-    marked 0 (Sent 71 4 (messages.Answer 69 (answers.Granted (grant_with 1 1 [])))) ∷ marked 4 (Got 70)
+    ∷ marked 1 (Sent 70 4 (messages.Answer 67 (answers.Granted (whole_grant 1 1 [])))) ∷
+    marked 0 (Sent 71 4 (messages.Answer 69 (answers.Granted (whole_grant 1 1 [])))) ∷ marked 4 (Got 70)
     ∷ marked 2 (Got 68) ∷
-    marked 4 (Got 71) ∷ marked 2 (Sent 72 4 (messages.Answer 68 (answers.Granted (grant_with 1 1 []))))
+    marked 4 (Got 71) ∷ marked 2 (Sent 72 4 (messages.Answer 68 (answers.Granted (whole_grant 1 1 []))))
     ∷ marked 4 (Got 72) ∷
     marked 4 (Told (replies.Response 1)) ∷ marked 4 (Called commands.Commit) ∷
     marked 4 (Sent 73 1 (messages.Request (tx 1 1) 1 1 wants.Prepare)) ∷
@@ -227,9 +228,9 @@ history =
     marked 4 (Sent 82 1 (messages.Request (tx 1 2) 1 0 (wants.Append 0 [] (own_line 1 0 3 ∷ [])))) ∷
     marked 4 (Sent 83 2 (messages.Request (tx 1 2) 1 0 (wants.Append 0 [] (own_line 1 0 3 ∷ [])))) ∷ marked 1 (Got 82) ∷
     marked 2 (Got 83) ∷ marked 0 (Got 79)
-    ∷ marked 1 (Sent 84 4 (messages.Answer 82 (answers.Granted (grant_with 1 2 [])))) ∷
+    ∷ marked 1 (Sent 84 4 (messages.Answer 82 (answers.Granted (whole_grant 1 2 [])))) ∷
     marked 0 (Wrote (records.Done (tx 1 1) 2)) ∷ marked 4 (Got 84) ∷
-    marked 2 (Sent 85 4 (messages.Answer 83 (answers.Granted (grant_with 1 2 [])))) ∷ marked 4 (Got 85) ∷
+    marked 2 (Sent 85 4 (messages.Answer 83 (answers.Granted (whole_grant 1 2 [])))) ∷ marked 4 (Got 85) ∷
     marked 4 (Told (replies.Response 2)) ∷ marked 4 (Called commands.Abort) ∷
     marked 4 (Sent 86 1 (messages.Decision (tx 1 2) outcomes.Aborted)) ∷
     marked 4 (Sent 87 2 (messages.Decision (tx 1 2) outcomes.Aborted)) ∷ marked 4 (Told replies.Dropped) ∷
@@ -238,37 +239,37 @@ history =
     marked 3 (Called (commands.Do 0 0)) ∷ marked 4 (Called (commands.Do 0 2)) ∷ marked 3 (Told replies.Doomed) ∷
     marked 4 (Sent 88 1 (messages.Request (tx 1 3) 1 0 (wants.Append 0 [] (own_line 1 0 3 ∷ [])))) ∷
     marked 4 (Sent 89 2 (messages.Request (tx 1 3) 1 0 (wants.Append 0 [] (own_line 1 0 3 ∷ [])))) ∷ marked 1 (Got 88) ∷
-    marked 1 (Sent 90 4 (messages.Answer 88 (answers.Granted (grant_with 1 2 [])))) ∷ marked 4 (Got 90)
+    marked 1 (Sent 90 4 (messages.Answer 88 (answers.Granted (whole_grant 1 2 [])))) ∷ marked 4 (Got 90)
     ∷ marked 2 (Got 89) ∷
-    marked 2 (Sent 91 4 (messages.Answer 89 (answers.Granted (grant_with 1 2 [])))) ∷ marked 4 (Got 91) ∷
+    marked 2 (Sent 91 4 (messages.Answer 89 (answers.Granted (whole_grant 1 2 [])))) ∷ marked 4 (Got 91) ∷
     marked 4 (Told (replies.Response 2)) ∷ marked 4 (Called (commands.Do 0 2)) ∷
     marked 4 (Sent 92 1 (messages.Request (tx 1 3) 1 1 (wants.Append 0 [] (own_line 1 0 3 ∷ own_line 2 0 3 ∷ [])))) ∷
     marked 4 (Sent 93 2 (messages.Request (tx 1 3) 1 1 (wants.Append 0 [] (own_line 1 0 3 ∷ own_line 2 0 3 ∷ [])))) ∷
-    marked 2 (Got 93) ∷ marked 2 (Sent 94 4 (messages.Answer 93 (answers.Granted (grant_with 1 2 []))))
+    marked 2 (Got 93) ∷ marked 2 (Sent 94 4 (messages.Answer 93 (answers.Granted (whole_grant 1 2 []))))
     ∷ marked 1 (Got 92) ∷
-    marked 1 (Sent 95 4 (messages.Answer 92 (answers.Granted (grant_with 1 2 [])))) ∷ marked 4 (Got 94)
+    marked 1 (Sent 95 4 (messages.Answer 92 (answers.Granted (whole_grant 1 2 [])))) ∷ marked 4 (Got 94)
     ∷ marked 4 (Got 95) ∷
     marked 4 (Told (replies.Response 2)) ∷ marked 4 (Called (commands.Do 0 1)) ∷
-    marked 4 (Sent 96 1 (messages.Request (tx 1 3) 1 1 (wants.Read (read_of 0 1)))) ∷
-    marked 4 (Sent 97 2 (messages.Request (tx 1 3) 1 1 (wants.Read (read_of 0 1)))) ∷ marked 2 (Got 97)
+    marked 4 (Sent 96 1 (messages.Request (tx 1 3) 1 1 (wants.Read (first_read 0 1)))) ∷
+    marked 4 (Sent 97 2 (messages.Request (tx 1 3) 1 1 (wants.Read (first_read 0 1)))) ∷ marked 2 (Got 97)
     ∷ marked 1 (Got 96) ∷
     marked 1
     (Sent 98 4
     (messages.Answer 96
-    (answers.Granted (grant_with 1 2 (line 1 2 3 1 0 0 ∷ line 1 2 3 2 0 3 ∷ line 2 1 1 1 0 1 ∷ []))))) ∷
+    (answers.Granted (whole_grant 1 2 (line 1 2 3 1 0 0 ∷ line 1 2 3 2 0 3 ∷ line 2 1 1 1 0 1 ∷ []))))) ∷
     marked 4 (Got 98) ∷
     marked 2
     (Sent 99 4
     (messages.Answer 97
-    (answers.Granted (grant_with 1 2 (line 1 2 3 1 0 0 ∷ line 1 2 3 2 0 3 ∷ line 2 1 1 1 0 1 ∷ []))))) ∷
+    (answers.Granted (whole_grant 1 2 (line 1 2 3 1 0 0 ∷ line 1 2 3 2 0 3 ∷ line 2 1 1 1 0 1 ∷ []))))) ∷
     marked 4 (Got 99) ∷
     marked 4 (Sent 100 1 (messages.Request (tx 1 3) 1 1 (wants.Append 0 (line 1 2 3 1 0 0 ∷ line 1 2 3 2 0 3 ∷ line 2 1
     1 1 0 1 ∷ []) (own_line 1 0 3 ∷ own_line 2 0 3 ∷ own_line 3 0 2 ∷ [])))) ∷
     marked 4 (Sent 101 2 (messages.Request (tx 1 3) 1 1 (wants.Append 0 (line 1 2 3 1 0 0 ∷ line 1 2 3 2 0 3 ∷ line 2 1
     1 1 0 1 ∷ []) (own_line 1 0 3 ∷ own_line 2 0 3 ∷ own_line 3 0 2 ∷ [])))) ∷
     marked 1 (Got 100) ∷ marked 2 (Got 101)
-    ∷ marked 2 (Sent 102 4 (messages.Answer 101 (answers.Granted (grant_with 1 2 [])))) ∷
-    marked 1 (Sent 103 4 (messages.Answer 100 (answers.Granted (grant_with 1 2 [])))) ∷ marked 4 (Got 102)
+    ∷ marked 2 (Sent 102 4 (messages.Answer 101 (answers.Granted (whole_grant 1 2 [])))) ∷
+    marked 1 (Sent 103 4 (messages.Answer 100 (answers.Granted (whole_grant 1 2 [])))) ∷ marked 4 (Got 102)
     ∷ marked 4 (Got 103) ∷
     marked 4 (Told (replies.Response 2)) ∷ marked 4 (Called commands.Commit) ∷
     marked 4 (Sent 104 1 (messages.Request (tx 1 3) 1 1 wants.Prepare)) ∷

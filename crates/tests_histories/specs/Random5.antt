@@ -14,7 +14,7 @@ use Rattle.qc_msg.specs.declared.message.Outcome.TheVariants as outcomes
 use Rattle.qc_msg.specs.declared.record.Record.TheVariants as records
 use Rattle.qc_msg.specs.declared.reply.Reply.TheVariants as replies
 use Rattle.qc_msg.specs.declared.message.Want.TheVariants as wants
-use Rattle.qc_msg.specs.Vocabulary.{grant_with, read_of}
+use Rattle.qc_msg.specs.Vocabulary.{whole_grant, first_read}
 
 abbrev pub decl : Declaration
 decl =
@@ -41,23 +41,24 @@ moves =
 abbrev pub history : List Entry
 history =
     marked 7 (Phase 1) ∷ marked 5 (Called commands.Begin) ∷ marked 5 (Told (replies.Began (tx 3 1))) ∷
-    marked 5 (Called (commands.Do 0 0)) ∷ marked 5 (Sent 0 1 (messages.Request (tx 3 1) 1 0 (wants.Read (read_of 0 0))))
+    marked 5 (Called (commands.Do 0 0)) ∷
+    marked 5 (Sent 0 1 (messages.Request (tx 3 1) 1 0 (wants.Read (first_read 0 0))))
     ∷
     marked 2 (Called commands.Begin) ∷ marked 1 (Got 0) ∷
-    marked 1 (Sent 1 5 (messages.Answer 0 (answers.Granted (grant_with 1 0 [])))) ∷ marked 5 (Got 1) ∷
+    marked 1 (Sent 1 5 (messages.Answer 0 (answers.Granted (whole_grant 1 0 [])))) ∷ marked 5 (Got 1) ∷
     marked 2 (Told (replies.Began (tx 0 1))) ∷
     marked 5 (Sent 2 1 (messages.Request (tx 3 1) 1 1 (wants.Append 0 [] (own_line 1 0 0 ∷ [])))) ∷
     marked 5 (Sent 3 0 (messages.Request (tx 3 1) 1 0 (wants.Append 0 [] (own_line 1 0 0 ∷ [])))) ∷ marked 0 (Got 3) ∷
-    marked 0 (Sent 4 5 (messages.Answer 3 (answers.Granted (grant_with 1 0 [])))) ∷ marked 5 (Got 4) ∷ marked 1 (Got 2)
+    marked 0 (Sent 4 5 (messages.Answer 3 (answers.Granted (whole_grant 1 0 [])))) ∷ marked 5 (Got 4) ∷ marked 1 (Got 2)
     ∷
-    marked 1 (Sent 5 5 (messages.Answer 2 (answers.Granted (grant_with 1 0 [])))) ∷ marked 5 (Got 5) ∷
+    marked 1 (Sent 5 5 (messages.Answer 2 (answers.Granted (whole_grant 1 0 [])))) ∷ marked 5 (Got 5) ∷
     marked 5 (Told (replies.Response 0)) ∷ marked 5 (Called (commands.Do 1 1)) ∷
     marked 5 (Sent 6 1 (messages.Request (tx 3 1) 1 1 (wants.Append 1 [] (own_line 2 1 2 ∷ [])))) ∷
     marked 2 (Called commands.Abort) ∷ marked 1 (Got 6) ∷
-    marked 1 (Sent 7 5 (messages.Answer 6 (answers.Granted (grant_with 1 0 [])))) ∷ marked 5 (Got 7) ∷
+    marked 1 (Sent 7 5 (messages.Answer 6 (answers.Granted (whole_grant 1 0 [])))) ∷ marked 5 (Got 7) ∷
     marked 5 (Told (replies.Response 2)) ∷ marked 5 (Called (commands.Do 0 1)) ∷
-    marked 5 (Sent 8 1 (messages.Request (tx 3 1) 1 1 (wants.Read (read_of 0 1)))) ∷ marked 1 (Got 8) ∷
-    marked 2 (Told replies.Dropped) ∷ marked 1 (Sent 9 5 (messages.Answer 8 (answers.Granted (grant_with 1 0 [])))) ∷
+    marked 5 (Sent 8 1 (messages.Request (tx 3 1) 1 1 (wants.Read (first_read 0 1)))) ∷ marked 1 (Got 8) ∷
+    marked 2 (Told replies.Dropped) ∷ marked 1 (Sent 9 5 (messages.Answer 8 (answers.Granted (whole_grant 1 0 [])))) ∷
     marked 5 (Got 9) ∷ marked 5 (Told (replies.Response 0)) ∷ marked 5 (Called commands.Commit) ∷
     marked 5 (Sent 10 1 (messages.Request (tx 3 1) 1 1 wants.Prepare)) ∷
     marked 5 (Sent 11 0 (messages.Request (tx 3 1) 1 1 wants.Prepare)) ∷ marked 0 (Got 11) ∷ marked 1 (Got 10) ∷
@@ -73,18 +74,18 @@ history =
     marked 5 (Told (replies.Committed (stamp 1 3))) ∷ marked 1 (Got 15) ∷ marked 5 (Called commands.Begin) ∷
     marked 5 (Told (replies.Began (tx 3 2))) ∷ marked 5 (Called (commands.Do 1 0)) ∷
     marked 1 (Wrote (records.Done (tx 3 1) 1)) ∷ marked 0 (Got 14) ∷ marked 0 (Wrote (records.Done (tx 3 1) 1)) ∷
-    marked 5 (Sent 16 1 (messages.Request (tx 3 2) 1 0 (wants.Read (read_of 1 0)))) ∷
-    marked 5 (Sent 17 0 (messages.Request (tx 3 2) 1 0 (wants.Read (read_of 1 0)))) ∷ marked 0 (Got 17) ∷
-    marked 0 (Sent 18 5 (messages.Answer 17 (answers.Granted (grant_with 1 1 [])))) ∷ marked 1 (Got 16)
+    marked 5 (Sent 16 1 (messages.Request (tx 3 2) 1 0 (wants.Read (first_read 1 0)))) ∷
+    marked 5 (Sent 17 0 (messages.Request (tx 3 2) 1 0 (wants.Read (first_read 1 0)))) ∷ marked 0 (Got 17) ∷
+    marked 0 (Sent 18 5 (messages.Answer 17 (answers.Granted (whole_grant 1 1 [])))) ∷ marked 1 (Got 16)
     ∷ marked 5 (Got 18) ∷
-    marked 1 (Sent 19 5 (messages.Answer 16 (answers.Granted (grant_with 1 1 (line 1 3 1 2 1 2 ∷ [])))))
+    marked 1 (Sent 19 5 (messages.Answer 16 (answers.Granted (whole_grant 1 1 (line 1 3 1 2 1 2 ∷ [])))))
     ∷ marked 5 (Got 19) ∷
     marked 5 (Sent 20 1 (messages.Request (tx 3 2) 1 1 (wants.Append 1 (line 1 3 1 2 1 2 ∷ []) (own_line 1 1 0 ∷ []))))
     ∷
     marked 5 (Sent 21 0 (messages.Request (tx 3 2) 1 1 (wants.Append 1 (line 1 3 1 2 1 2 ∷ []) (own_line 1 1 0 ∷ []))))
     ∷
-    marked 1 (Got 20) ∷ marked 1 (Sent 22 5 (messages.Answer 20 (answers.Granted (grant_with 1 1 []))))
+    marked 1 (Got 20) ∷ marked 1 (Sent 22 5 (messages.Answer 20 (answers.Granted (whole_grant 1 1 []))))
     ∷ marked 0 (Got 21) ∷
-    marked 0 (Sent 23 5 (messages.Answer 21 (answers.Granted (grant_with 1 1 [])))) ∷ marked 5 (Got 22)
+    marked 0 (Sent 23 5 (messages.Answer 21 (answers.Granted (whole_grant 1 1 [])))) ∷ marked 5 (Got 22)
     ∷ marked 5 (Got 23) ∷
     marked 5 (Told (replies.Response 0)) ∷ marked 7 (Phase 2) ∷ []

@@ -13,7 +13,7 @@ use Rattle.qc_msg.specs.declared.message.Outcome.TheVariants as outcomes
 use Rattle.qc_msg.specs.declared.record.Record.TheVariants as records
 use Rattle.qc_msg.specs.declared.reply.Reply.TheVariants as replies
 use Rattle.qc_msg.specs.declared.message.Want.TheVariants as wants
-use Rattle.qc_msg.specs.Vocabulary.{grant_with}
+use Rattle.qc_msg.specs.Vocabulary.{whole_grant}
 
 abbrev pub decl : Declaration
 decl =
@@ -44,10 +44,10 @@ history =
     marked 6 (Sent 2 3 (messages.Request (tx 1 1) 1 0 (wants.Append 0 [] (own_line 1 0 0 ∷ [])))) ∷
     marked 6 (Sent 3 4 (messages.Request (tx 1 1) 1 0 (wants.Append 0 [] (own_line 1 0 0 ∷ [])))) ∷ marked 1 (Got 0) ∷
     marked 4 (Got 3) ∷ marked 2 (Got 1) ∷ marked 3 (Got 2) ∷
-    marked 4 (Sent 4 6 (messages.Answer 3 (answers.Granted (grant_with 1 0 [])))) ∷
-    marked 3 (Sent 5 6 (messages.Answer 2 (answers.Granted (grant_with 1 0 [])))) ∷
-    marked 1 (Sent 6 6 (messages.Answer 0 (answers.Granted (grant_with 1 0 [])))) ∷
-    marked 2 (Sent 7 6 (messages.Answer 1 (answers.Granted (grant_with 1 0 [])))) ∷ marked 6 (Got 4) ∷ marked 6 (Got 5)
+    marked 4 (Sent 4 6 (messages.Answer 3 (answers.Granted (whole_grant 1 0 [])))) ∷
+    marked 3 (Sent 5 6 (messages.Answer 2 (answers.Granted (whole_grant 1 0 [])))) ∷
+    marked 1 (Sent 6 6 (messages.Answer 0 (answers.Granted (whole_grant 1 0 [])))) ∷
+    marked 2 (Sent 7 6 (messages.Answer 1 (answers.Granted (whole_grant 1 0 [])))) ∷ marked 6 (Got 4) ∷ marked 6 (Got 5)
     ∷
     marked 6 (Got 6) ∷ marked 6 (Got 7) ∷ marked 6 (Told (replies.Response 0)) ∷ marked 6 (Called (commands.Do 0 0)) ∷
     marked 6 (Sent 8 1 (messages.Request (tx 1 1) 1 1 (wants.Append 0 [] (own_line 1 0 0 ∷ own_line 2 0 0 ∷ [])))) ∷
@@ -55,10 +55,10 @@ history =
     marked 6 (Sent 10 3 (messages.Request (tx 1 1) 1 1 (wants.Append 0 [] (own_line 1 0 0 ∷ own_line 2 0 0 ∷ [])))) ∷
     marked 6 (Sent 11 4 (messages.Request (tx 1 1) 1 1 (wants.Append 0 [] (own_line 1 0 0 ∷ own_line 2 0 0 ∷ [])))) ∷
     marked 4 (Got 11) ∷ marked 1 (Got 8)
-    ∷ marked 1 (Sent 12 6 (messages.Answer 8 (answers.Granted (grant_with 1 0 [])))) ∷
-    marked 3 (Got 10) ∷ marked 4 (Sent 13 6 (messages.Answer 11 (answers.Granted (grant_with 1 0 [])))) ∷
-    marked 3 (Sent 14 6 (messages.Answer 10 (answers.Granted (grant_with 1 0 [])))) ∷ marked 2 (Got 9) ∷
-    marked 2 (Sent 15 6 (messages.Answer 9 (answers.Granted (grant_with 1 0 [])))) ∷ marked 6 (Got 12)
+    ∷ marked 1 (Sent 12 6 (messages.Answer 8 (answers.Granted (whole_grant 1 0 [])))) ∷
+    marked 3 (Got 10) ∷ marked 4 (Sent 13 6 (messages.Answer 11 (answers.Granted (whole_grant 1 0 [])))) ∷
+    marked 3 (Sent 14 6 (messages.Answer 10 (answers.Granted (whole_grant 1 0 [])))) ∷ marked 2 (Got 9) ∷
+    marked 2 (Sent 15 6 (messages.Answer 9 (answers.Granted (whole_grant 1 0 [])))) ∷ marked 6 (Got 12)
     ∷ marked 6 (Got 13) ∷
     marked 6 (Got 14) ∷ marked 6 (Got 15) ∷ marked 6 (Told (replies.Response 0)) ∷ marked 6 (Called commands.Commit) ∷
     marked 6 (Sent 16 1 (messages.Request (tx 1 1) 1 1 wants.Prepare)) ∷

@@ -11,7 +11,7 @@ use Rattle.qc_msg.specs.declared.step.Command.TheVariants as commands
 use Rattle.qc_msg.specs.declared.message.Message.TheVariants as messages
 use Rattle.qc_msg.specs.declared.reply.Reply.TheVariants as replies
 use Rattle.qc_msg.specs.declared.message.Want.TheVariants as wants
-use Rattle.qc_msg.specs.Vocabulary.{grant_with, read_of}
+use Rattle.qc_msg.specs.Vocabulary.{whole_grant, first_read}
 
 abbrev pub decl : Declaration
 decl =
@@ -39,48 +39,49 @@ abbrev pub history : List Entry
 history =
     marked 7 (Phase 1) ∷ marked 7 (Phase 2) ∷ marked 7 (Cut 3 1) ∷ marked 5 (Called commands.Begin) ∷
     marked 5 (Told (replies.Began (tx 1 1))) ∷ marked 5 (Called (commands.Do 0 0)) ∷
-    marked 5 (Sent 0 2 (messages.Request (tx 1 1) 1 0 (wants.Read (read_of 0 0)))) ∷
-    marked 5 (Sent 1 3 (messages.Request (tx 1 1) 1 0 (wants.Read (read_of 0 0)))) ∷
-    marked 5 (Sent 2 0 (messages.Request (tx 1 1) 1 0 (wants.Read (read_of 0 0)))) ∷ marked 3 (Got 1) ∷ marked 0 (Got 2)
+    marked 5 (Sent 0 2 (messages.Request (tx 1 1) 1 0 (wants.Read (first_read 0 0)))) ∷
+    marked 5 (Sent 1 3 (messages.Request (tx 1 1) 1 0 (wants.Read (first_read 0 0)))) ∷
+    marked 5 (Sent 2 0 (messages.Request (tx 1 1) 1 0 (wants.Read (first_read 0 0)))) ∷ marked 3 (Got 1) ∷
+    marked 0 (Got 2)
     ∷
-    marked 0 (Sent 3 5 (messages.Answer 2 (answers.Granted (grant_with 1 0 [])))) ∷ marked 5 (Got 3) ∷
-    marked 3 (Sent 4 5 (messages.Answer 1 (answers.Granted (grant_with 1 0 [])))) ∷ marked 2 (Got 0) ∷
-    marked 2 (Sent 5 5 (messages.Answer 0 (answers.Granted (grant_with 1 0 [])))) ∷ marked 5 (Got 4) ∷ marked 5 (Got 5)
+    marked 0 (Sent 3 5 (messages.Answer 2 (answers.Granted (whole_grant 1 0 [])))) ∷ marked 5 (Got 3) ∷
+    marked 3 (Sent 4 5 (messages.Answer 1 (answers.Granted (whole_grant 1 0 [])))) ∷ marked 2 (Got 0) ∷
+    marked 2 (Sent 5 5 (messages.Answer 0 (answers.Granted (whole_grant 1 0 [])))) ∷ marked 5 (Got 4) ∷ marked 5 (Got 5)
     ∷
     marked 4 (Called commands.Begin) ∷ marked 4 (Told (replies.Began (tx 0 1))) ∷ marked 4 (Called commands.Commit) ∷
     marked 4 (Wrote (commit (stamp 1 0) (tx 0 1) [])) ∷ marked 4 (Told (replies.Committed (stamp 1 0))) ∷
     marked 5 (Sent 6 2 (messages.Request (tx 1 1) 1 1 (wants.Append 0 [] (own_line 1 0 0 ∷ [])))) ∷
     marked 5 (Sent 7 3 (messages.Request (tx 1 1) 1 1 (wants.Append 0 [] (own_line 1 0 0 ∷ [])))) ∷ marked 2 (Got 6) ∷
-    marked 3 (Got 7) ∷ marked 3 (Sent 8 5 (messages.Answer 7 (answers.Granted (grant_with 1 0 [])))) ∷ marked 5 (Got 8)
+    marked 3 (Got 7) ∷ marked 3 (Sent 8 5 (messages.Answer 7 (answers.Granted (whole_grant 1 0 [])))) ∷ marked 5 (Got 8)
     ∷
-    marked 2 (Sent 9 5 (messages.Answer 6 (answers.Granted (grant_with 1 0 [])))) ∷ marked 5 (Got 9) ∷
+    marked 2 (Sent 9 5 (messages.Answer 6 (answers.Granted (whole_grant 1 0 [])))) ∷ marked 5 (Got 9) ∷
     marked 5 (Told (replies.Response 0)) ∷ marked 5 (Called (commands.Do 0 0)) ∷
-    marked 5 (Sent 10 2 (messages.Request (tx 1 1) 1 1 (wants.Read (read_of 0 0)))) ∷
-    marked 5 (Sent 11 3 (messages.Request (tx 1 1) 1 1 (wants.Read (read_of 0 0)))) ∷
-    marked 5 (Sent 12 0 (messages.Request (tx 1 1) 1 1 (wants.Read (read_of 0 0)))) ∷ marked 0 (Got 12) ∷
-    marked 0 (Sent 13 5 (messages.Answer 12 (answers.Granted (grant_with 1 0 [])))) ∷ marked 3 (Got 11)
+    marked 5 (Sent 10 2 (messages.Request (tx 1 1) 1 1 (wants.Read (first_read 0 0)))) ∷
+    marked 5 (Sent 11 3 (messages.Request (tx 1 1) 1 1 (wants.Read (first_read 0 0)))) ∷
+    marked 5 (Sent 12 0 (messages.Request (tx 1 1) 1 1 (wants.Read (first_read 0 0)))) ∷ marked 0 (Got 12) ∷
+    marked 0 (Sent 13 5 (messages.Answer 12 (answers.Granted (whole_grant 1 0 [])))) ∷ marked 3 (Got 11)
     ∷ marked 5 (Got 13) ∷
-    marked 3 (Sent 14 5 (messages.Answer 11 (answers.Granted (grant_with 1 0 [])))) ∷ marked 2 (Got 10) ∷
-    marked 2 (Sent 15 5 (messages.Answer 10 (answers.Granted (grant_with 1 0 [])))) ∷ marked 5 (Got 14)
+    marked 3 (Sent 14 5 (messages.Answer 11 (answers.Granted (whole_grant 1 0 [])))) ∷ marked 2 (Got 10) ∷
+    marked 2 (Sent 15 5 (messages.Answer 10 (answers.Granted (whole_grant 1 0 [])))) ∷ marked 5 (Got 14)
     ∷ marked 5 (Got 15) ∷
     marked 5 (Sent 16 2 (messages.Request (tx 1 1) 1 1 (wants.Append 0 [] (own_line 1 0 0 ∷ own_line 2 0 0 ∷ [])))) ∷
     marked 5 (Sent 17 3 (messages.Request (tx 1 1) 1 1 (wants.Append 0 [] (own_line 1 0 0 ∷ own_line 2 0 0 ∷ [])))) ∷
-    marked 2 (Got 16) ∷ marked 2 (Sent 18 5 (messages.Answer 16 (answers.Granted (grant_with 1 0 []))))
+    marked 2 (Got 16) ∷ marked 2 (Sent 18 5 (messages.Answer 16 (answers.Granted (whole_grant 1 0 []))))
     ∷ marked 3 (Got 17) ∷
-    marked 3 (Sent 19 5 (messages.Answer 17 (answers.Granted (grant_with 1 0 [])))) ∷ marked 5 (Got 18)
+    marked 3 (Sent 19 5 (messages.Answer 17 (answers.Granted (whole_grant 1 0 [])))) ∷ marked 5 (Got 18)
     ∷ marked 5 (Got 19) ∷
     marked 5 (Told (replies.Response 0)) ∷ marked 5 (Called (commands.Do 0 2)) ∷
-    marked 5 (Sent 20 2 (messages.Request (tx 1 1) 1 1 (wants.Read (read_of 0 2)))) ∷
-    marked 5 (Sent 21 3 (messages.Request (tx 1 1) 1 1 (wants.Read (read_of 0 2)))) ∷ marked 3 (Got 21) ∷
-    marked 3 (Sent 22 5 (messages.Answer 21 (answers.Granted (grant_with 1 0 [])))) ∷ marked 5 (Got 22)
+    marked 5 (Sent 20 2 (messages.Request (tx 1 1) 1 1 (wants.Read (first_read 0 2)))) ∷
+    marked 5 (Sent 21 3 (messages.Request (tx 1 1) 1 1 (wants.Read (first_read 0 2)))) ∷ marked 3 (Got 21) ∷
+    marked 3 (Sent 22 5 (messages.Answer 21 (answers.Granted (whole_grant 1 0 [])))) ∷ marked 5 (Got 22)
     ∷ marked 2 (Got 20) ∷
-    marked 2 (Sent 23 5 (messages.Answer 20 (answers.Granted (grant_with 1 0 [])))) ∷ marked 5 (Got 23) ∷
+    marked 2 (Sent 23 5 (messages.Answer 20 (answers.Granted (whole_grant 1 0 [])))) ∷ marked 5 (Got 23) ∷
     marked 5 (Sent 24 2 (messages.Request (tx 1 1) 1 1 (wants.Append 0 [] (own_line 1 0 0 ∷ own_line 2 0 0 ∷ own_line 3
     0 3 ∷ [])))) ∷
     marked 5 (Sent 25 3 (messages.Request (tx 1 1) 1 1 (wants.Append 0 [] (own_line 1 0 0 ∷ own_line 2 0 0 ∷ own_line 3
     0 3 ∷ [])))) ∷
-    marked 3 (Got 25) ∷ marked 3 (Sent 26 5 (messages.Answer 25 (answers.Granted (grant_with 1 0 []))))
+    marked 3 (Got 25) ∷ marked 3 (Sent 26 5 (messages.Answer 25 (answers.Granted (whole_grant 1 0 []))))
     ∷ marked 2 (Got 24) ∷
-    marked 2 (Sent 27 5 (messages.Answer 24 (answers.Granted (grant_with 1 0 [])))) ∷ marked 5 (Got 26)
+    marked 2 (Sent 27 5 (messages.Answer 24 (answers.Granted (whole_grant 1 0 [])))) ∷ marked 5 (Got 26)
     ∷ marked 5 (Got 27) ∷
     marked 5 (Told (replies.Response 1)) ∷ marked 7 (Phase 3) ∷ marked 7 (Heal 3 1) ∷ []

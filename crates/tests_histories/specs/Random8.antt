@@ -13,7 +13,7 @@ use Rattle.qc_msg.specs.declared.message.Message.TheVariants as messages
 use Rattle.qc_msg.specs.declared.message.Outcome.TheVariants as outcomes
 use Rattle.qc_msg.specs.declared.reply.Reply.TheVariants as replies
 use Rattle.qc_msg.specs.declared.message.Want.TheVariants as wants
-use Rattle.qc_msg.specs.Vocabulary.{grant_with, read_of}
+use Rattle.qc_msg.specs.Vocabulary.{whole_grant, first_read}
 
 abbrev pub decl : Declaration
 decl =
@@ -42,17 +42,18 @@ moves =
 abbrev pub history : List Entry
 history =
     marked 4 (Phase 1) ∷ marked 2 (Called commands.Begin) ∷ marked 2 (Told (replies.Began (tx 1 1))) ∷
-    marked 2 (Called (commands.Do 0 2)) ∷ marked 2 (Sent 0 0 (messages.Request (tx 1 1) 1 0 (wants.Read (read_of 0 2))))
+    marked 2 (Called (commands.Do 0 2)) ∷
+    marked 2 (Sent 0 0 (messages.Request (tx 1 1) 1 0 (wants.Read (first_read 0 2))))
     ∷
-    marked 0 (Got 0) ∷ marked 0 (Sent 1 2 (messages.Answer 0 (answers.Granted (grant_with 1 0 [])))) ∷ marked 2 (Got 1)
+    marked 0 (Got 0) ∷ marked 0 (Sent 1 2 (messages.Answer 0 (answers.Granted (whole_grant 1 0 [])))) ∷ marked 2 (Got 1)
     ∷
     marked 2 (Told (replies.Response 2)) ∷ marked 2 (Called (commands.Do 0 1)) ∷
-    marked 2 (Sent 2 0 (messages.Request (tx 1 1) 1 1 (wants.Read (read_of 0 1)))) ∷ marked 0 (Got 2) ∷
-    marked 0 (Sent 3 2 (messages.Answer 2 (answers.Granted (grant_with 1 0 [])))) ∷ marked 2 (Got 3) ∷
+    marked 2 (Sent 2 0 (messages.Request (tx 1 1) 1 1 (wants.Read (first_read 0 1)))) ∷ marked 0 (Got 2) ∷
+    marked 0 (Sent 3 2 (messages.Answer 2 (answers.Granted (whole_grant 1 0 [])))) ∷ marked 2 (Got 3) ∷
     marked 2 (Told (replies.Response 1)) ∷ marked 4 (Phase 2) ∷ marked 4 (Phase 3) ∷ marked 1 (Called commands.Begin) ∷
     marked 1 (Told (replies.Began (tx 0 1))) ∷ marked 1 (Called (commands.Do 0 0)) ∷
-    marked 1 (Sent 4 0 (messages.Request (tx 0 1) 1 0 (wants.Read (read_of 0 0)))) ∷ marked 0 (Got 4) ∷
-    marked 0 (Sent 5 1 (messages.Answer 4 (answers.Granted (grant_with 1 0 [])))) ∷ marked 1 (Got 5) ∷
+    marked 1 (Sent 4 0 (messages.Request (tx 0 1) 1 0 (wants.Read (first_read 0 0)))) ∷ marked 0 (Got 4) ∷
+    marked 0 (Sent 5 1 (messages.Answer 4 (answers.Granted (whole_grant 1 0 [])))) ∷ marked 1 (Got 5) ∷
     marked 1 (Sent 6 0 (messages.Request (tx 0 1) 1 1 (wants.Append 0 [] (own_line 1 0 0 ∷ [])))) ∷ marked 0 (Got 6) ∷
     marked 0 (Sent 7 1 (messages.Answer 6 (answers.Clash (tx 1 1) 1 0))) ∷
     marked 0 (Sent 8 2 (messages.Inquiry (tx 1 1))) ∷ marked 1 (Got 7) ∷ marked 1 (Told (replies.Conflict (tx 1 1) 0)) ∷
@@ -66,12 +67,12 @@ history =
     marked 1 (Told replies.NoTransaction) ∷ marked 1 (Called (commands.Do 0 1)) ∷
     marked 1 (Told replies.NoTransaction) ∷ marked 1 (Called commands.Abort) ∷ marked 1 (Told replies.NoTransaction) ∷
     marked 4 (Phase 6) ∷ marked 4 (Cut 0 2) ∷ marked 2 (Called (commands.Do 0 0)) ∷
-    marked 2 (Sent 11 0 (messages.Request (tx 1 1) 1 1 (wants.Read (read_of 0 0)))) ∷ marked 2 (Lost 11) ∷
+    marked 2 (Sent 11 0 (messages.Request (tx 1 1) 1 1 (wants.Read (first_read 0 0)))) ∷ marked 2 (Lost 11) ∷
     marked 2 (Told (replies.Quorum halves.Read 0 1)) ∷ marked 2 (Called (commands.Do 0 2)) ∷
-    marked 2 (Sent 12 0 (messages.Request (tx 1 1) 1 1 (wants.Read (read_of 0 2)))) ∷ marked 2 (Lost 12) ∷
+    marked 2 (Sent 12 0 (messages.Request (tx 1 1) 1 1 (wants.Read (first_read 0 2)))) ∷ marked 2 (Lost 12) ∷
     marked 2 (Told (replies.Quorum halves.Read 0 1)) ∷ marked 2 (Called (commands.Do 0 1)) ∷
-    marked 2 (Sent 13 0 (messages.Request (tx 1 1) 1 1 (wants.Read (read_of 0 1)))) ∷ marked 2 (Lost 13) ∷
+    marked 2 (Sent 13 0 (messages.Request (tx 1 1) 1 1 (wants.Read (first_read 0 1)))) ∷ marked 2 (Lost 13) ∷
     marked 2 (Told (replies.Quorum halves.Read 0 1)) ∷ marked 2 (Called (commands.Do 0 2)) ∷
-    marked 2 (Sent 14 0 (messages.Request (tx 1 1) 1 1 (wants.Read (read_of 0 2)))) ∷ marked 2 (Lost 14) ∷
+    marked 2 (Sent 14 0 (messages.Request (tx 1 1) 1 1 (wants.Read (first_read 0 2)))) ∷ marked 2 (Lost 14) ∷
     marked 2 (Told (replies.Quorum halves.Read 0 1)) ∷ marked 4 (Phase 7) ∷ marked 4 (Heal 0 2) ∷ marked 4 (Cut 0 1) ∷
     []

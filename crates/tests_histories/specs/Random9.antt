@@ -13,7 +13,7 @@ use Rattle.qc_msg.specs.declared.message.Message.TheVariants as messages
 use Rattle.qc_msg.specs.declared.message.Outcome.TheVariants as outcomes
 use Rattle.qc_msg.specs.declared.reply.Reply.TheVariants as replies
 use Rattle.qc_msg.specs.declared.message.Want.TheVariants as wants
-use Rattle.qc_msg.specs.Vocabulary.{grant_with, read_of}
+use Rattle.qc_msg.specs.Vocabulary.{whole_grant, first_read}
 
 abbrev pub decl : Declaration
 decl =
@@ -45,13 +45,15 @@ abbrev pub history : List Entry
 history =
     marked 5 (Phase 1) ∷ marked 2 (Called commands.Begin) ∷ marked 3 (Called commands.Begin) ∷
     marked 3 (Told (replies.Began (tx 2 1))) ∷ marked 3 (Called (commands.Do 0 2)) ∷
-    marked 3 (Sent 0 0 (messages.Request (tx 2 1) 1 0 (wants.Read (read_of 0 2)))) ∷ marked 1 (Called commands.Begin) ∷
+    marked 3 (Sent 0 0 (messages.Request (tx 2 1) 1 0 (wants.Read (first_read 0 2)))) ∷
+    marked 1 (Called commands.Begin) ∷
     marked 2 (Told (replies.Began (tx 1 1))) ∷ marked 1 (Told (replies.Began (tx 0 1))) ∷ marked 0 (Got 0) ∷
-    marked 1 (Called (commands.Do 0 0)) ∷ marked 1 (Sent 1 0 (messages.Request (tx 0 1) 1 0 (wants.Read (read_of 0 0))))
+    marked 1 (Called (commands.Do 0 0)) ∷
+    marked 1 (Sent 1 0 (messages.Request (tx 0 1) 1 0 (wants.Read (first_read 0 0))))
     ∷
-    marked 2 (Called commands.Abort) ∷ marked 0 (Sent 2 3 (messages.Answer 0 (answers.Granted (grant_with 1 0 [])))) ∷
+    marked 2 (Called commands.Abort) ∷ marked 0 (Sent 2 3 (messages.Answer 0 (answers.Granted (whole_grant 1 0 [])))) ∷
     marked 3 (Got 2) ∷ marked 3 (Sent 3 0 (messages.Request (tx 2 1) 1 1 (wants.Append 0 [] (own_line 1 0 2 ∷ [])))) ∷
-    marked 0 (Got 1) ∷ marked 0 (Sent 4 1 (messages.Answer 1 (answers.Granted (grant_with 1 0 [])))) ∷ marked 1 (Got 4)
+    marked 0 (Got 1) ∷ marked 0 (Sent 4 1 (messages.Answer 1 (answers.Granted (whole_grant 1 0 [])))) ∷ marked 1 (Got 4)
     ∷
     marked 1 (Sent 5 0 (messages.Request (tx 0 1) 1 1 (wants.Append 0 [] (own_line 1 0 0 ∷ [])))) ∷ marked 0 (Got 3) ∷
     marked 0 (Sent 6 3 (messages.Answer 3 (answers.Clash (tx 0 1) 0 2))) ∷
@@ -68,8 +70,8 @@ history =
     marked 2 (Called commands.Commit) ∷ marked 2 (Wrote (commit (stamp 1 1) (tx 1 2) [])) ∷
     marked 2 (Told (replies.Committed (stamp 1 1))) ∷ marked 2 (Called commands.Begin) ∷
     marked 2 (Told (replies.Began (tx 1 3))) ∷ marked 2 (Called (commands.Do 0 2)) ∷
-    marked 2 (Sent 12 0 (messages.Request (tx 1 3) 1 0 (wants.Read (read_of 0 2)))) ∷ marked 0 (Got 12) ∷
-    marked 0 (Sent 13 2 (messages.Answer 12 (answers.Granted (grant_with 1 0 [])))) ∷ marked 2 (Got 13) ∷
+    marked 2 (Sent 12 0 (messages.Request (tx 1 3) 1 0 (wants.Read (first_read 0 2)))) ∷ marked 0 (Got 12) ∷
+    marked 0 (Sent 13 2 (messages.Answer 12 (answers.Granted (whole_grant 1 0 [])))) ∷ marked 2 (Got 13) ∷
     marked 2 (Sent 14 0 (messages.Request (tx 1 3) 1 1 (wants.Append 0 [] (own_line 1 0 2 ∷ [])))) ∷ marked 0 (Got 14) ∷
     marked 0 (Sent 15 2 (messages.Answer 14 (answers.Clash (tx 0 1) 0 2))) ∷
     marked 0 (Sent 16 1 (messages.Inquiry (tx 0 1))) ∷ marked 2 (Got 15) ∷

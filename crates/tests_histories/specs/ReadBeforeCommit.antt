@@ -11,7 +11,7 @@ use Rattle.qc_msg.specs.declared.message.Outcome.TheVariants as outcomes
 use Rattle.qc_msg.specs.declared.record.Record.TheVariants as records
 use Rattle.qc_msg.specs.declared.reply.Reply.TheVariants as replies
 use Rattle.qc_msg.specs.declared.message.Want.TheVariants as wants
-use Rattle.qc_msg.specs.Vocabulary.{grant_with, read_of}
+use Rattle.qc_msg.specs.Vocabulary.{whole_grant, first_read}
 
 abbrev pub moves : List Move
 moves =
@@ -33,16 +33,16 @@ history =
     marked 3 (Called (commands.Do 0 2)) ∷
     marked 3 (Sent 0 0 (messages.Request (tx 0 1) 1 0 (wants.Append 0 [] (own_line 1 0 3 ∷ [])))) ∷
     marked 3 (Sent 1 1 (messages.Request (tx 0 1) 1 0 (wants.Append 0 [] (own_line 1 0 3 ∷ [])))) ∷ marked 0 (Got 0) ∷
-    marked 0 (Sent 2 3 (messages.Answer 0 (answers.Granted (grant_with 1 0 [])))) ∷ marked 1 (Got 1) ∷
-    marked 1 (Sent 3 3 (messages.Answer 1 (answers.Granted (grant_with 1 0 [])))) ∷ marked 3 (Got 2) ∷ marked 3 (Got 3)
+    marked 0 (Sent 2 3 (messages.Answer 0 (answers.Granted (whole_grant 1 0 [])))) ∷ marked 1 (Got 1) ∷
+    marked 1 (Sent 3 3 (messages.Answer 1 (answers.Granted (whole_grant 1 0 [])))) ∷ marked 3 (Got 2) ∷ marked 3 (Got 3)
     ∷
     marked 3 (Told (replies.Response 2)) ∷ marked 7 (Phase 2) ∷ marked 4 (Called commands.Begin) ∷
     marked 4 (Told (replies.Began (tx 1 1))) ∷ marked 4 (Called (commands.Do 0 0)) ∷
-    marked 4 (Sent 4 1 (messages.Request (tx 1 1) 1 0 (wants.Read (read_of 0 0)))) ∷
-    marked 4 (Sent 5 2 (messages.Request (tx 1 1) 1 0 (wants.Read (read_of 0 0)))) ∷ marked 1 (Got 4) ∷
+    marked 4 (Sent 4 1 (messages.Request (tx 1 1) 1 0 (wants.Read (first_read 0 0)))) ∷
+    marked 4 (Sent 5 2 (messages.Request (tx 1 1) 1 0 (wants.Read (first_read 0 0)))) ∷ marked 1 (Got 4) ∷
     marked 1 (Sent 6 4 (messages.Answer 4 (answers.Clash (tx 0 1) 0 3))) ∷
     marked 1 (Sent 7 3 (messages.Inquiry (tx 0 1))) ∷ marked 2 (Got 5) ∷
-    marked 2 (Sent 8 4 (messages.Answer 5 (answers.Granted (grant_with 1 0 [])))) ∷ marked 4 (Got 6) ∷ marked 3 (Got 7)
+    marked 2 (Sent 8 4 (messages.Answer 5 (answers.Granted (whole_grant 1 0 [])))) ∷ marked 4 (Got 6) ∷ marked 3 (Got 7)
     ∷
     marked 3 (Sent 9 1 (messages.Decision (tx 0 1) outcomes.Active)) ∷ marked 4 (Got 8) ∷
     marked 4 (Told (replies.Conflict (tx 0 1) 1)) ∷ marked 1 (Got 9) ∷ marked 7 (Phase 3) ∷
@@ -58,11 +58,11 @@ history =
     marked 3 (Told (replies.Committed (stamp 1 0))) ∷ marked 0 (Got 14) ∷ marked 0 (Wrote (records.Done (tx 0 1) 1)) ∷
     marked 1 (Got 15) ∷ marked 1 (Wrote (records.Done (tx 0 1) 1)) ∷ marked 7 (Phase 4) ∷
     marked 4 (Called (commands.Do 0 0))
-    ∷ marked 4 (Sent 16 1 (messages.Request (tx 1 1) 1 0 (wants.Read (read_of 0 0)))) ∷
-    marked 4 (Sent 17 2 (messages.Request (tx 1 1) 1 1 (wants.Read (read_of 0 0)))) ∷ marked 1 (Got 16) ∷
-    marked 1 (Sent 18 4 (messages.Answer 16 (answers.Granted (grant_with 1 1 (line 1 0 1 1 0 3 ∷ [])))))
+    ∷ marked 4 (Sent 16 1 (messages.Request (tx 1 1) 1 0 (wants.Read (first_read 0 0)))) ∷
+    marked 4 (Sent 17 2 (messages.Request (tx 1 1) 1 1 (wants.Read (first_read 0 0)))) ∷ marked 1 (Got 16) ∷
+    marked 1 (Sent 18 4 (messages.Answer 16 (answers.Granted (whole_grant 1 1 (line 1 0 1 1 0 3 ∷ [])))))
     ∷ marked 2 (Got 17) ∷
-    marked 2 (Sent 19 4 (messages.Answer 17 (answers.Granted (grant_with 1 0 [])))) ∷ marked 4 (Got 18)
+    marked 2 (Sent 19 4 (messages.Answer 17 (answers.Granted (whole_grant 1 0 [])))) ∷ marked 4 (Got 18)
     ∷ marked 4 (Got 19) ∷
     marked 4 (Told (replies.Response 1)) ∷ marked 4 (Called commands.Commit) ∷
     marked 4 (Sent 20 1 (messages.Request (tx 1 1) 1 1 wants.Prepare)) ∷

@@ -1,6 +1,7 @@
 -- Acts of a post as numbers, by which two of them are told apart.
 use Rattle.std.proofs.Common.{ℕ, suc, List, [], ◌∷◌, length, map, Option, Some, None}
 use Rattle.std.specs.Prelude.{get_or}
+use Rattle.qc_entry.specs.declared.line.Line.{Line}
 use Rattle.qc_msg.specs.declared.message.Answer.{Answer}
 use Rattle.qc_msg.specs.declared.message.Answer.TheVariants as answers
 use Rattle.qc_msg.specs.declared.message.Message.{Message}
@@ -21,7 +22,8 @@ of_pending None = 0 ∷ []
 of_pending (Some r) = of_record r
 
 abbrev pub of_answer : Answer → List ℕ
-of_answer (answers.Granted grant) = 1 ∷ grant.life ∷ grant.clock ∷ length grant.log ∷ []
+of_answer (answers.Granted grant) =
+    1 ∷ grant.life ∷ grant.clock ∷ length grant.log ∷ grant.count ∷ map (λ (l : Line). l.stamp.clock) grant.log
 of_answer (answers.Clash holder inv event) = 2 ∷ holder.client ∷ []
 of_answer (answers.Restarted life) = 3 ∷ life ∷ []
 of_answer answers.Stale = 4 ∷ []

@@ -5,3 +5,5 @@ pub mod WrongRises
 pub mod WrongLives
 pub mod RightRises
 pub mod RightLives
+pub mod WrongMarks
+pub mod RightMarks

@@ -4,3 +4,6 @@ pub mod WrongRises
 pub mod WrongLives
 pub mod RightRises
 pub mod RightLives
+pub mod MarkWords
+pub mod WrongMarks
+pub mod RightMarks

@@ -7,23 +7,24 @@ use Rattle.qc_msg.specs.declared.message.Want.TheVariants as wants
 use Rattle.qc_msg.specs.declared.record.Record.TheVariants as records
 use Rattle.qc_msg.specs.declared.step.Fall.TheVariants as causes
 use Rattle.qc_msg.specs.Vocabulary.{Deed, Falls, Rises, Sends, Writes}
-use Rattle.qc_msg.specs.Vocabulary.{grant_with, read_of}
+use Rattle.qc_msg.specs.Vocabulary.{whole_grant, first_read}
 use Rattle.tests_lives.specs.Words.{tx, stamp, own_line, read_lock, prepare, got}
 
 -- writes Life twice as it rises
 abbrev pub writes_life_twice_as_it_rises : List Deed
 writes_life_twice_as_it_rises =
     got 1 3 1 (messages.Request (tx 0 1 1) 1 0 (wants.Append 0 [] ((own_line 1 0 3) ∷ []))) ∷
-    Sends 3 3 (messages.Answer 1 (answers.Granted (grant_with 1 0 []))) ∷ Falls causes.Script None ∷ Rises [] ∷
-    Writes records.Life ∷ Writes records.Life ∷ got 4 4 1 (messages.Request (tx 1 1 1) 1 0 (wants.Read (read_of 0 0))) ∷
-    Sends 6 4 (messages.Answer 4 (answers.Granted (grant_with 3 0 []))) ∷ []
+    Sends 3 3 (messages.Answer 1 (answers.Granted (whole_grant 1 0 []))) ∷ Falls causes.Script None ∷ Rises [] ∷
+    Writes records.Life ∷ Writes records.Life
+    ∷ got 4 4 1 (messages.Request (tx 1 1 1) 1 0 (wants.Read (first_read 0 0))) ∷
+    Sends 6 4 (messages.Answer 4 (answers.Granted (whole_grant 3 0 []))) ∷ []
 
 -- asks nobody about its promise
 abbrev pub asks_nobody_about_its_promise : List Deed
 asks_nobody_about_its_promise =
     got 1 3 1 (messages.Request (tx 0 1 1) 1 0 (wants.Append 0 [] ((own_line 1 0 3) ∷ []))) ∷
-    Sends 3 3 (messages.Answer 1 (answers.Granted (grant_with 1 0 []))) ∷
-    got 4 4 1 (messages.Request (tx 1 1 1) 1 0 (wants.Read (read_of 0 0))) ∷
+    Sends 3 3 (messages.Answer 1 (answers.Granted (whole_grant 1 0 []))) ∷
+    got 4 4 1 (messages.Request (tx 1 1 1) 1 0 (wants.Read (first_read 0 0))) ∷
     Sends 6 4 (messages.Answer 4 (answers.Clash (tx 0 1 1) 0 3)) ∷ Sends 7 3 (messages.Inquiry (tx 0 1 1)) ∷
     got 9 3 1 (messages.Decision (tx 0 1 1) outcomes.Active) ∷
     got 11 3 1 (messages.Request (tx 0 1 1) 1 1 wants.Prepare) ∷
@@ -35,15 +36,15 @@ asks_nobody_about_its_promise =
 abbrev pub asks_about_no_promise : List Deed
 asks_about_no_promise =
     got 1 3 1 (messages.Request (tx 0 1 1) 1 0 (wants.Append 0 [] ((own_line 1 0 3) ∷ []))) ∷
-    Sends 3 3 (messages.Answer 1 (answers.Granted (grant_with 1 0 []))) ∷ Falls causes.Script None ∷ Rises [] ∷
+    Sends 3 3 (messages.Answer 1 (answers.Granted (whole_grant 1 0 []))) ∷ Falls causes.Script None ∷ Rises [] ∷
     Writes records.Life ∷ Sends 4 3 (messages.Inquiry (tx 0 1 1)) ∷ []
 
 -- asks twice
 abbrev pub asks_twice : List Deed
 asks_twice =
     got 1 3 1 (messages.Request (tx 0 1 1) 1 0 (wants.Append 0 [] ((own_line 1 0 3) ∷ []))) ∷
-    Sends 3 3 (messages.Answer 1 (answers.Granted (grant_with 1 0 []))) ∷
-    got 4 4 1 (messages.Request (tx 1 1 1) 1 0 (wants.Read (read_of 0 0))) ∷
+    Sends 3 3 (messages.Answer 1 (answers.Granted (whole_grant 1 0 []))) ∷
+    got 4 4 1 (messages.Request (tx 1 1 1) 1 0 (wants.Read (first_read 0 0))) ∷
     Sends 6 4 (messages.Answer 4 (answers.Clash (tx 0 1 1) 0 3)) ∷ Sends 7 3 (messages.Inquiry (tx 0 1 1)) ∷
     got 9 3 1 (messages.Decision (tx 0 1 1) outcomes.Active) ∷
     got 11 3 1 (messages.Request (tx 0 1 1) 1 1 wants.Prepare) ∷
@@ -55,8 +56,8 @@ asks_twice =
 abbrev pub asks_before_its_life_record : List Deed
 asks_before_its_life_record =
     got 1 3 1 (messages.Request (tx 0 1 1) 1 0 (wants.Append 0 [] ((own_line 1 0 3) ∷ []))) ∷
-    Sends 3 3 (messages.Answer 1 (answers.Granted (grant_with 1 0 []))) ∷
-    got 4 4 1 (messages.Request (tx 1 1 1) 1 0 (wants.Read (read_of 0 0))) ∷
+    Sends 3 3 (messages.Answer 1 (answers.Granted (whole_grant 1 0 []))) ∷
+    got 4 4 1 (messages.Request (tx 1 1 1) 1 0 (wants.Read (first_read 0 0))) ∷
     Sends 6 4 (messages.Answer 4 (answers.Clash (tx 0 1 1) 0 3)) ∷ Sends 7 3 (messages.Inquiry (tx 0 1 1)) ∷
     got 9 3 1 (messages.Decision (tx 0 1 1) outcomes.Active) ∷
     got 11 3 1 (messages.Request (tx 0 1 1) 1 1 wants.Prepare) ∷
@@ -68,8 +69,8 @@ asks_before_its_life_record =
 abbrev pub asks_another_client : List Deed
 asks_another_client =
     got 1 3 1 (messages.Request (tx 0 1 1) 1 0 (wants.Append 0 [] ((own_line 1 0 3) ∷ []))) ∷
-    Sends 3 3 (messages.Answer 1 (answers.Granted (grant_with 1 0 []))) ∷
-    got 4 4 1 (messages.Request (tx 1 1 1) 1 0 (wants.Read (read_of 0 0))) ∷
+    Sends 3 3 (messages.Answer 1 (answers.Granted (whole_grant 1 0 []))) ∷
+    got 4 4 1 (messages.Request (tx 1 1 1) 1 0 (wants.Read (first_read 0 0))) ∷
     Sends 6 4 (messages.Answer 4 (answers.Clash (tx 0 1 1) 0 3)) ∷ Sends 7 3 (messages.Inquiry (tx 0 1 1)) ∷
     got 9 3 1 (messages.Decision (tx 0 1 1) outcomes.Active) ∷
     got 11 3 1 (messages.Request (tx 0 1 1) 1 1 wants.Prepare) ∷
@@ -81,8 +82,8 @@ asks_another_client =
 abbrev pub writes_no_life : List Deed
 writes_no_life =
     got 1 3 1 (messages.Request (tx 0 1 1) 1 0 (wants.Append 0 [] ((own_line 1 0 3) ∷ []))) ∷
-    Sends 3 3 (messages.Answer 1 (answers.Granted (grant_with 1 0 []))) ∷
-    got 4 4 1 (messages.Request (tx 1 1 1) 1 0 (wants.Read (read_of 0 0))) ∷
+    Sends 3 3 (messages.Answer 1 (answers.Granted (whole_grant 1 0 []))) ∷
+    got 4 4 1 (messages.Request (tx 1 1 1) 1 0 (wants.Read (first_read 0 0))) ∷
     Sends 6 4 (messages.Answer 4 (answers.Clash (tx 0 1 1) 0 3)) ∷ Sends 7 3 (messages.Inquiry (tx 0 1 1)) ∷
     got 9 3 1 (messages.Decision (tx 0 1 1) outcomes.Active) ∷
     got 11 3 1 (messages.Request (tx 0 1 1) 1 1 wants.Prepare) ∷
@@ -93,10 +94,10 @@ writes_no_life =
 -- forgets a promise by an abort that it took before its fall
 abbrev pub forgets_by_an_old_abort : List Deed
 forgets_by_an_old_abort =
-    got 0 3 0 (messages.Request (tx 0 1 1) 1 0 (wants.Read (read_of 0 0))) ∷
-    Sends 2 3 (messages.Answer 0 (answers.Granted (grant_with 1 0 []))) ∷
+    got 0 3 0 (messages.Request (tx 0 1 1) 1 0 (wants.Read (first_read 0 0))) ∷
+    Sends 2 3 (messages.Answer 0 (answers.Granted (whole_grant 1 0 []))) ∷
     got 4 3 0 (messages.Request (tx 0 1 1) 1 1 (wants.Append 0 [] (own_line 1 0 0 ∷ []))) ∷
-    Sends 6 3 (messages.Answer 4 (answers.Granted (grant_with 1 0 []))) ∷
+    Sends 6 3 (messages.Answer 4 (answers.Granted (whole_grant 1 0 []))) ∷
     got 8 3 0 (messages.Request (tx 0 1 1) 1 1 wants.Prepare) ∷
     Writes (prepare (tx 0 1 1) 1 (read_lock 0 0 ∷ []) (own_line 1 0 0 ∷ []) []) ∷
     Sends 10 3 (messages.Answer 8 (answers.Yes 0)) ∷ got 12 3 0 (messages.Decision (tx 0 1 1) outcomes.Aborted) ∷
@@ -106,10 +107,10 @@ forgets_by_an_old_abort =
 -- a pending promise rises and isn't seen
 abbrev pub pending_promise_not_seen : List Deed
 pending_promise_not_seen =
-    got 1 3 1 (messages.Request (tx 0 1 1) 1 0 (wants.Read (read_of 0 0))) ∷
-    Sends 3 3 (messages.Answer 1 (answers.Granted (grant_with 1 0 []))) ∷
+    got 1 3 1 (messages.Request (tx 0 1 1) 1 0 (wants.Read (first_read 0 0))) ∷
+    Sends 3 3 (messages.Answer 1 (answers.Granted (whole_grant 1 0 []))) ∷
     got 5 3 1 (messages.Request (tx 0 1 1) 1 1 (wants.Append 0 [] (own_line 1 0 0 ∷ []))) ∷
-    Sends 7 3 (messages.Answer 5 (answers.Granted (grant_with 1 0 []))) ∷
+    Sends 7 3 (messages.Answer 5 (answers.Granted (whole_grant 1 0 []))) ∷
     got 9 3 1 (messages.Request (tx 0 1 1) 1 1 wants.Prepare) ∷ Sends 11 3 (messages.Answer 9 answers.Fault) ∷
     Falls causes.Disk (Some (prepare (tx 0 1 1) 1 (read_lock 0 0 ∷ []) (own_line 1 0 0 ∷ []) [])) ∷
     Rises ((prepare (tx 0 1 1) 1 ((read_lock 0 0) ∷ []) ((own_line 1 0 0) ∷ []) []) ∷ []) ∷ Writes records.Life ∷ []
@@ -117,10 +118,10 @@ pending_promise_not_seen =
 -- a pending promise doesn't rise and is seen
 abbrev pub lost_promise_seen : List Deed
 lost_promise_seen =
-    got 1 3 1 (messages.Request (tx 0 1 1) 1 0 (wants.Read (read_of 0 0))) ∷
-    Sends 3 3 (messages.Answer 1 (answers.Granted (grant_with 1 0 []))) ∷
+    got 1 3 1 (messages.Request (tx 0 1 1) 1 0 (wants.Read (first_read 0 0))) ∷
+    Sends 3 3 (messages.Answer 1 (answers.Granted (whole_grant 1 0 []))) ∷
     got 5 3 1 (messages.Request (tx 0 1 1) 1 1 (wants.Append 0 [] (own_line 1 0 0 ∷ []))) ∷
-    Sends 7 3 (messages.Answer 5 (answers.Granted (grant_with 1 0 []))) ∷
+    Sends 7 3 (messages.Answer 5 (answers.Granted (whole_grant 1 0 []))) ∷
     got 9 3 1 (messages.Request (tx 0 1 1) 1 1 wants.Prepare) ∷ Sends 11 3 (messages.Answer 9 answers.Fault) ∷
     Falls causes.Disk (Some (prepare (tx 0 1 1) 1 (read_lock 0 0 ∷ []) (own_line 1 0 0 ∷ []) [])) ∷ Rises [] ∷
     Writes records.Life ∷ Sends 12 3 (messages.Inquiry (tx 0 1 1)) ∷ []
@@ -129,8 +130,8 @@ lost_promise_seen =
 abbrev pub pending_done_not_seen : List Deed
 pending_done_not_seen =
     got 1 3 1 (messages.Request (tx 0 1 1) 1 0 (wants.Append 0 [] ((own_line 1 0 3) ∷ []))) ∷
-    Sends 3 3 (messages.Answer 1 (answers.Granted (grant_with 1 0 []))) ∷
-    got 4 4 1 (messages.Request (tx 1 1 1) 1 0 (wants.Read (read_of 0 0))) ∷
+    Sends 3 3 (messages.Answer 1 (answers.Granted (whole_grant 1 0 []))) ∷
+    got 4 4 1 (messages.Request (tx 1 1 1) 1 0 (wants.Read (first_read 0 0))) ∷
     Sends 6 4 (messages.Answer 4 (answers.Clash (tx 0 1 1) 0 3)) ∷ Sends 7 3 (messages.Inquiry (tx 0 1 1)) ∷
     got 9 3 1 (messages.Decision (tx 0 1 1) outcomes.Active) ∷
     got 11 3 1 (messages.Request (tx 0 1 1) 1 1 wants.Prepare) ∷
@@ -144,8 +145,8 @@ pending_done_not_seen =
 abbrev pub lost_done_seen : List Deed
 lost_done_seen =
     got 1 3 1 (messages.Request (tx 0 1 1) 1 0 (wants.Append 0 [] ((own_line 1 0 3) ∷ []))) ∷
-    Sends 3 3 (messages.Answer 1 (answers.Granted (grant_with 1 0 []))) ∷
-    got 4 4 1 (messages.Request (tx 1 1 1) 1 0 (wants.Read (read_of 0 0))) ∷
+    Sends 3 3 (messages.Answer 1 (answers.Granted (whole_grant 1 0 []))) ∷
+    got 4 4 1 (messages.Request (tx 1 1 1) 1 0 (wants.Read (first_read 0 0))) ∷
     Sends 6 4 (messages.Answer 4 (answers.Clash (tx 0 1 1) 0 3)) ∷ Sends 7 3 (messages.Inquiry (tx 0 1 1)) ∷
     got 9 3 1 (messages.Decision (tx 0 1 1) outcomes.Active) ∷
     got 11 3 1 (messages.Request (tx 0 1 1) 1 1 wants.Prepare) ∷
@@ -158,9 +159,9 @@ lost_done_seen =
 abbrev pub asks_in_order_of_promises : List Deed
 asks_in_order_of_promises =
     got 1 3 1 (messages.Request (tx 0 1 1) 1 0 (wants.Append 0 [] ((own_line 1 0 3) ∷ []))) ∷
-    Sends 3 3 (messages.Answer 1 (answers.Granted (grant_with 1 0 []))) ∷
+    Sends 3 3 (messages.Answer 1 (answers.Granted (whole_grant 1 0 []))) ∷
     got 4 4 1 (messages.Request (tx 1 1 1) 1 0 (wants.Append 0 [] ((own_line 1 0 3) ∷ []))) ∷
-    Sends 6 4 (messages.Answer 4 (answers.Granted (grant_with 1 0 []))) ∷
+    Sends 6 4 (messages.Answer 4 (answers.Granted (whole_grant 1 0 []))) ∷
     got 8 4 1 (messages.Request (tx 1 1 1) 1 1 wants.Prepare) ∷
     Writes (prepare (tx 1 1 1) 1 [] ((own_line 1 0 3) ∷ []) []) ∷ Sends 10 4 (messages.Answer 8 (answers.Yes 0)) ∷
     got 12 3 1 (messages.Request (tx 0 1 1) 1 1 wants.Prepare) ∷
@@ -174,9 +175,9 @@ asks_in_order_of_promises =
 abbrev pub asks_about_one_of_two : List Deed
 asks_about_one_of_two =
     got 1 3 1 (messages.Request (tx 0 1 1) 1 0 (wants.Append 0 [] ((own_line 1 0 3) ∷ []))) ∷
-    Sends 3 3 (messages.Answer 1 (answers.Granted (grant_with 1 0 []))) ∷
+    Sends 3 3 (messages.Answer 1 (answers.Granted (whole_grant 1 0 []))) ∷
     got 4 4 1 (messages.Request (tx 1 1 1) 1 0 (wants.Append 0 [] ((own_line 1 0 3) ∷ []))) ∷
-    Sends 6 4 (messages.Answer 4 (answers.Granted (grant_with 1 0 []))) ∷
+    Sends 6 4 (messages.Answer 4 (answers.Granted (whole_grant 1 0 []))) ∷
     got 8 4 1 (messages.Request (tx 1 1 1) 1 1 wants.Prepare) ∷
     Writes (prepare (tx 1 1 1) 1 [] ((own_line 1 0 3) ∷ []) []) ∷ Sends 10 4 (messages.Answer 8 (answers.Yes 0)) ∷
     got 12 3 1 (messages.Request (tx 0 1 1) 1 1 wants.Prepare) ∷

@@ -8,6 +8,8 @@ ghost use Rattle.qc_promise.specs.SiteDue.{AreDue};
 ghost use Rattle.tests_lives.specs.WrongFalls as wrong_falls;
 ghost use Rattle.tests_lives.specs.WrongRises as wrong_rises;
 ghost use Rattle.tests_lives.specs.WrongLives as wrong_lives;
+ghost use Rattle.tests_lives.specs.WrongMarks as wrong_marks;
+ghost use Rattle.tests_lives.specs.RightMarks as right_marks;
 ghost use Rattle.tests_lives.specs.RightRises as right_rises;
 ghost use Rattle.tests_lives.specs.RightLives as right_lives;
 
@@ -87,4 +89,28 @@ pub fn right_lives_are_due()
     ensures falls_between_posts { AreDue three [] right_lives.falls_between_posts }
     ensures ends_what_rose { AreDue three [] right_lives.ends_what_rose }
     ensures redeems_once { AreDue three [] right_lives.redeems_once }
+{}
+
+/// These aren't due: what sites tell wrong to who has a mark.
+pub fn wrong_marks_are_refused()
+    ensures counts_in_line_order { AreDue three [] wrong_marks.counts_in_line_order → ⊥ }
+    ensures tells_all_again { AreDue three [] wrong_marks.tells_all_again → ⊥ }
+    ensures counts_what_it_tells { AreDue three [] wrong_marks.counts_what_it_tells → ⊥ }
+    ensures tells_one_line_too_few { AreDue three [] wrong_marks.tells_one_line_too_few → ⊥ }
+    ensures believes_a_mark_of_another_life { AreDue three [] wrong_marks.believes_a_mark_of_another_life → ⊥ }
+    ensures believes_a_mark_of_another_epoch { AreDue three [] wrong_marks.believes_a_mark_of_another_epoch → ⊥ }
+    ensures believes_a_mark_of_more_lines { AreDue three [] wrong_marks.believes_a_mark_of_more_lines → ⊥ }
+    ensures counts_on_in_its_next_life { AreDue three [] wrong_marks.counts_on_in_its_next_life → ⊥ }
+    ensures counts_for_a_granted_append { AreDue three [] wrong_marks.counts_for_a_granted_append → ⊥ }
+    ensures counts_twice_what_came_twice { AreDue three [] wrong_marks.counts_twice_what_came_twice → ⊥ }
+{}
+
+/// All that these sites tell to who has a mark is due.
+pub fn right_marks_are_due()
+    ensures tells_from_the_mark_on { AreDue three [] right_marks.tells_from_the_mark_on }
+    ensures tells_nothing_new { AreDue three [] right_marks.tells_nothing_new }
+    ensures tells_all_to_a_mark_of_another_life { AreDue three [] right_marks.tells_all_to_a_mark_of_another_life }
+    ensures tells_all_to_a_mark_of_another_epoch { AreDue three [] right_marks.tells_all_to_a_mark_of_another_epoch }
+    ensures tells_all_to_a_mark_of_more_lines { AreDue three [] right_marks.tells_all_to_a_mark_of_more_lines }
+    ensures counts_anew_in_its_next_life { AreDue three [] right_marks.counts_anew_in_its_next_life }
 {}

@@ -15,7 +15,7 @@ use Rattle.qc_msg.specs.declared.step.Control.TheVariants as controls
 use Rattle.qc_msg.specs.declared.step.Fall.{Fall}
 use Rattle.qc_msg.specs.declared.step.Fall.TheVariants as causes
 use Rattle.qc_msg.specs.declared.step.Step.TheVariants as steps
-use Rattle.qc_msg.specs.Vocabulary.{read_of}
+use Rattle.qc_msg.specs.Vocabulary.{first_read}
 use Rattle.qc_script.specs.declared.script.Script.{Script}
 use Rattle.tests_histories.specs.Words.{tx}
 use Rattle.tests_runs.specs.Words.{asks, link, phase, script}
@@ -23,7 +23,7 @@ use Rattle.tests_runs.specs.Words.{asks, link, phase, script}
 -- client 3 asks two sites
 
 abbrev pub request : Message
-request = messages.Request (tx 0 1) 1 0 (wants.Read (read_of 0 0))
+request = messages.Request (tx 0 1) 1 0 (wants.Read (first_read 0 0))
 
 abbrev pub request_to : ℕ → Envelope
 request_to site = record { number = site; from = 3; to = site; message = request }

@@ -2,9 +2,9 @@
 
 use crate::lists::{At, Tx, put_lines, put_owns};
 use crate::record::put_promise;
-use qc_entry::Prepared;
+use qc_entry::{Mark, Prepared};
 use qc_list::OutOfMemory;
-use qc_msg::{Answer, Message, Outcome, Want};
+use qc_msg::{Answer, Grant, Message, Outcome, Want};
 
 /// Adds a message.
 pub(crate) fn put_message(text: &mut String, message: &Message) -> Result<(), OutOfMemory> {
@@ -48,7 +48,10 @@ fn put_outcome(text: &mut String, outcome: Outcome) -> Result<(), OutOfMemory> {
 /// Adds what is wanted of a site.
 fn put_want(text: &mut String, want: &Want) -> Result<(), OutOfMemory> {
     match want {
-        Want::Read(read) => write!(text, "read {} {}", read.object, read.inv),
+        Want::Read(read) => {
+            write!(text, "read {} {}", read.object, read.inv)?;
+            put_mark(text, read.mark)
+        }
         Want::Append { object, view, own } => {
             write!(text, "append {object} ")?;
             put_lines(text, view.lines())?;
@@ -58,12 +61,29 @@ fn put_want(text: &mut String, want: &Want) -> Result<(), OutOfMemory> {
     }
 }
 
+/// Adds a mark, unless nothing was told.
+fn put_mark(text: &mut String, mark: Mark) -> Result<(), OutOfMemory> {
+    if mark == Mark::NONE {
+        return Ok(());
+    }
+    write!(text, " since {}.{}.{}", mark.life, mark.epoch, mark.count)
+}
+
+/// Adds how many lines of the object came, where a grant doesn't tell all.
+fn put_count(text: &mut String, grant: &Grant) -> Result<(), OutOfMemory> {
+    if grant.count == grant.log.lines().len() as u64 {
+        return Ok(());
+    }
+    write!(text, " of {}", grant.count)
+}
+
 /// Adds an answer.
 fn put_answer(text: &mut String, answer: &Answer) -> Result<(), OutOfMemory> {
     match answer {
         Answer::Granted(grant) => {
             write!(text, "granted life {} clock {} ", grant.life, grant.clock)?;
-            put_lines(text, grant.log.lines())
+            put_lines(text, grant.log.lines())?;
+            put_count(text, grant)
         }
         Answer::Clash { holder, inv, event } => {
             write!(text, "clash {} {inv} {event}", Tx(*holder))

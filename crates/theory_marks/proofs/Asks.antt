@@ -9,7 +9,7 @@ use Rattle.theory_marks.specs.Acts.{AskAppend, AskRead, after, append_of, read_o
 use Rattle.theory_marks.specs.Exchange.{AppendRequest, Appends, Client, Exchange, ReadRequest, Reads, Request, had}
 use Rattle.theory_marks.proofs.Witnessed.{whole}
 use Rattle.theory_machine.proofs.Names.{put_case}
-use Rattle.theory_marks.proofs.Members.{in_without}
+use Rattle.qc_entry.proofs.Without.{in_without}
 
 -- more requests were sent
 

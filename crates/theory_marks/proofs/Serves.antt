@@ -14,7 +14,7 @@ use Rattle.theory_marks.specs.Exchange.{AppendGrant, AppendRequest, Exchange, Re
 use Rattle.theory_marks.proofs.Sites.{Moves, periods_with, present_there}
 use Rattle.theory_machine.proofs.Names.{put_here}
 use Rattle.theory_marks.specs.Marks.{Arrivals, Mark}
-use Rattle.theory_marks.proofs.Members.{in_without}
+use Rattle.qc_entry.proofs.Without.{in_without}
 
 -- a Read is served
 

@@ -1,8 +1,10 @@
 -- A site's log in the order of arrival; marks, from which on a site tells it; and what a client knows of it.
-use Rattle.std.specs.Prelude.{ℕ, ◌==◌, ◌&&◌, nat_le, Bool, if◌then◌else◌, List, [], ◌∷◌, ◌++◌, length, drop}
+use Rattle.std.specs.Prelude.{ℕ, ◌==◌, ◌&&◌, if◌then◌else◌, List, [], ◌++◌, length}
 use Rattle.qc_entry.specs.declared.line.Line.{Line}
 use Rattle.qc_entry.specs.Vocabulary.{of_object, union, without}
-pub use Rattle.qc_entry.specs.Vocabulary.{log_of}
+use Rattle.qc_entry.specs.Vocabulary.{told as told_from}
+pub use Rattle.qc_entry.specs.declared.mark.Mark.{Mark}
+pub use Rattle.qc_entry.specs.Vocabulary.{lines_told, log_of, no_mark}
 
 -- A site: its life, the epoch that it has installed, and the lines of its log in the order in which they joined it
 -- since it rose or installed, whichever came later. Those that joined in one turn stand in line order.
@@ -15,31 +17,13 @@ pub record Arrivals : Type 0 where
 abbrev pub with_arrivals : List Line → List Line → List Line
 with_arrivals arrived lines = arrived ++ without lines arrived
 
--- how much of a site's log of an object a client was told
-pub record Mark : Type 0 where
-  pub life : ℕ
-  pub epoch : ℕ
-  pub count : ℕ
-
-abbrev pub no_mark : Mark
-no_mark = record { life = 0; epoch = 0; count = 0 }
-
 -- the mark of all that a site has of an object
 abbrev pub mark_of : Arrivals → ℕ → Mark
 mark_of s object = record { life = s.life; epoch = s.epoch; count = length (of_object s.arrived object) }
 
--- whether a mark is of the site's life and epoch, and of no more lines than the site has
-abbrev pub is_current : Arrivals → Mark → ℕ → Bool
-is_current s m object =
-    (m.life == s.life) && ((m.epoch == s.epoch) && nat_le m.count (length (of_object s.arrived object)))
-
--- the lines from the count on, or all of them
-abbrev pub lines_told : Bool → List Line → ℕ → List Line
-lines_told current lines count = if current then drop count lines else lines
-
 -- the log of a site's Granted to a Read that carries this mark
 abbrev pub told : Arrivals → Mark → ℕ → List Line
-told s m object = log_of (lines_told (is_current s m object) (of_object s.arrived object) m.count)
+told s m object = told_from s.life s.epoch (of_object s.arrived object) m
 
 -- what a client knows of a site's log of an object
 pub record KnownLog : Type 0 where

@@ -30,7 +30,8 @@ returns-in_err-place c =
     (λ other. is_lt (tx_cmp start other)) o) (sym c.from_residual.ensures)
     (none_found c.args.places.now c.args.object c.args.number lo (λ other. is_lt (tx_cmp start other))
     (from c.args.object c.args.number start)
-    (subst (λ (r : List HolderKey). IsKeyRangeOf place_cmp lo Unbounded c.args.places.now r) c.in_err-place.ensures.steps.0
+    (subst (λ (r : List HolderKey). IsKeyRangeOf place_cmp lo Unbounded c.args.places.now r)
+    c.in_err-place.ensures.steps.0
     (c.range.ensures.in_range tt)))
 
 pub returns : goal.returns
