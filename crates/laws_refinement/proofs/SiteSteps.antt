@@ -219,7 +219,7 @@ module _ (decl : Declaration) where
               s.done (record { tx = u; stamp = stamp }) among in omega arith);
           passes_lines = λ l among. (let c : l.stamp.clock ≤ (net.sites a).clock = s.passed l among in omega arith);
         },
-        asked,
+        inl asked,
       )
     where
       apart : (u : TxId) (x y : Item) → In x items → IsHeld (held_of (net.sites a).held u) y → u ≢ tx

@@ -11,15 +11,18 @@ use Rattle.qc_list.specs.Vocabulary.{In}
 use Rattle.theory_machine.specs.Vocabulary.{Abort, Act, Announce, Begin, Choose, Close, Commit, CommitUnknown, Count}
 use Rattle.theory_machine.specs.Vocabulary.{Decide, Decision, Execute, ExecuteAbsent, Grant, Granted, Install, Item}
 use Rattle.theory_machine.specs.Vocabulary.{Learn, Lock, Own, Prepare, PrepareLost, Recover, Rise, RiseClient}
-use Rattle.theory_machine.specs.Vocabulary.{SendAppend, Snapshot, State, TakeSnapshot, Vote, every_guard, site_after}
-use Rattle.theory_machine.specs.Vocabulary.{state}
+use Rattle.theory_machine.specs.Vocabulary.{SendAppend, Snapshot, State, TakeSnapshot, Vote, epoch_from, every_guard}
+use Rattle.theory_machine.specs.Vocabulary.{site_after, state}
 use Rattle.theory_witnesses.proofs.Accepted.{moving_register_accepted}
+use Rattle.theory_witnesses.proofs.Alike.{same_line, same_list}
 use Rattle.theory_witnesses.proofs.Allowed.{run_of}
-use Rattle.theory_witnesses.proofs.Finding.{IsFound, below, both, every, proof_of, same_number, some}
-use Rattle.theory_witnesses.proofs.WitnessRuns.{one_epoch_commits, two_epochs_commit}
-use Rattle.theory_witnesses.specs.Vocabulary.{acts_of, moving_register, one_epoch, three_in_two_epochs, two_epochs}
+use Rattle.theory_witnesses.proofs.AllowedSites.{is_requested, no_items, no_lines}
+use Rattle.theory_witnesses.proofs.Finding.{IsFound, below, both, every, one_of, proof_of, same_number, some}
+use Rattle.theory_witnesses.proofs.WitnessRuns.{one_epoch_commits, shares_bring_what_was_missed, two_epochs_commit}
+use Rattle.theory_witnesses.specs.Vocabulary.{acts_of, moving_register, one_epoch, shared_write, three_in_two_epochs}
+use Rattle.theory_witnesses.specs.Vocabulary.{two_epochs}
 use Rattle.theory_bases.specs.Vocabulary.{AreDisciplined, HasLowSnapshot, IsDisciplined, IsDisciplinedRun}
-use Rattle.theory_bases.specs.Vocabulary.{IsGrantOfEpoch, low_snapshot, two_moves}
+use Rattle.theory_bases.specs.Vocabulary.{IsGrantOfEpoch, IsShareOfEpoch, WasLogInEpoch, low_snapshot, two_moves}
 
 -- an own line's event has a final threshold
 abbrev Weighs : Declaration → ℕ → Item → Type 0
@@ -45,6 +48,23 @@ grant_of_epoch decl now g = option_map made
     made : (g.epoch ≡ now.epoch g.tx) × ((x : Item) → In x g.items → Weighs decl g.epoch x) → IsGrantOfEpoch decl now g
     made f = record { epoch = f.0; weighs = λ o h. f.1 (Own o) h o refl }
 
+-- some site had the log in the epoch
+abbrev was_log_in_epoch : (now : State) (epoch : ℕ) (log : List Line) → Option (WasLogInEpoch now epoch log)
+was_log_in_epoch now epoch log =
+    one_of
+    (option_map (λ f. (f.item, f.stands, f.holds.0, f.holds.1))
+    (some (λ (h : Granted). (h.epoch ≡ epoch) × (log ≡ (site_after h.before).volatile))
+    (λ h. both (same_number h.epoch epoch) (same_list same_line log (site_after h.before).volatile)) now.granted))
+    (option_map (λ f. (f.item, f.stands, f.holds.0, f.holds.1))
+    (some (λ (s : Snapshot). (epoch_from 1 s.before ≡ epoch) × (log ≡ (site_after s.before).volatile))
+    (λ s. both (same_number (epoch_from 1 s.before) epoch)
+    (same_list same_line log (site_after s.before).volatile)) now.snapshots))
+
+abbrev share_of_epoch : (now : State) (g : Granted) → Option (IsShareOfEpoch now g)
+share_of_epoch now g =
+    option_map (λ f. record { none = f.0; brings = f.1 })
+    (both (no_items g.items) (one_of (no_lines g.view) (was_log_in_epoch now g.epoch g.view)))
+
 abbrev pub different : (a b : ℕ) → Option (a ≢ b)
 different a b = by (a == b) refl
   where
@@ -58,7 +78,8 @@ disciplined_act decl now (Choose tx operation) = Some tt
 disciplined_act decl now (SendAppend s) = Some tt
 disciplined_act decl now (Execute tx) = Some tt
 disciplined_act decl now (ExecuteAbsent tx operation) = Some tt
-disciplined_act decl now (Grant g) = grant_of_epoch decl now g
+disciplined_act decl now (Grant g) =
+    one_of (share_of_epoch now g) (both (is_requested now.appends g) (grant_of_epoch decl now g))
 disciplined_act decl now (Count g) = Some tt
 disciplined_act decl now (Prepare tx) = Some tt
 disciplined_act decl now (Vote site tx) = Some tt
@@ -86,6 +107,13 @@ one_epoch_is_disciplined = record {
   accepted = one_epoch_commits.accepted;
   run = one_epoch_commits.run;
   disciplined = proof_of (disciplined_of three (acts_of one_epoch)) refl;
+}
+
+pub shares_are_disciplined : IsDisciplinedRun three shared_write
+shares_are_disciplined = record {
+  accepted = shares_bring_what_was_missed.accepted;
+  run = shares_bring_what_was_missed.run;
+  disciplined = proof_of (disciplined_of three (acts_of shared_write)) refl;
 }
 
 pub two_epochs_are_disciplined : IsDisciplinedRun three_in_two_epochs two_epochs

@@ -1,6 +1,6 @@
 -- Each act of a disciplined run keeps the laws of epochs.
 use Rattle.std.proofs.Common.{◌≡◌, ◌≢◌, inl, inr, ℕ, ◌<◌, ◌≤◌, Bool, List, [], ◌∷◌, ◌++◌, Option, Some, None, refl, sym}
-use Rattle.std.proofs.Common.{ap, ◌∙◌, subst}
+use Rattle.std.proofs.Common.{ap, ◌∙◌, ◌⊎◌, subst}
 use Rattle.qc_stamp.specs.declared.stamp.Stamp.{Stamp}
 use Rattle.qc_stamp.specs.declared.stamp.TxId.{TxId}
 use Rattle.qc_entry.specs.declared.line.Line.{Line}
@@ -25,7 +25,8 @@ use Rattle.theory_machine.proofs.Grants.{site_laws}
 use Rattle.theory_machine.proofs.Keeps.{laws}
 use Rattle.theory_machine.proofs.LogKeeps.{log_laws}
 use Rattle.theory_bases.specs.Vocabulary.{AreDisciplined, BelongsTo, EpochLaws, EpochLawsOf, IsAppendOfEpoch}
-use Rattle.theory_bases.specs.Vocabulary.{IsDisciplined, IsLineOfDecision, IsSiteOfEpoch, IsSnapshotOfEpoch}
+use Rattle.theory_bases.specs.Vocabulary.{IsDisciplined, IsGrantOfEpoch, IsLineOfDecision, IsShareOfEpoch}
+use Rattle.theory_bases.specs.Vocabulary.{IsSiteOfEpoch, IsSnapshotOfEpoch, WasLogInEpoch}
 use Rattle.theory_bases.proofs.Growing.{GoesOn, belongs_still, site_still, append_still, snapshot_still, decision_still}
 use Rattle.theory_bases.proofs.Growing.{laws_still}
 use Rattle.theory_machine.proofs.Merges.{recovered_begun}
@@ -84,11 +85,31 @@ module _ (decl : Declaration) where
             (h.grants sh.grant x (l.known sh.grant sh.counts) (sh.shows).stands);
       }
 
-  -- a site grants
-  grant_brings : (w : State) (g : Granted) → IsDisciplined decl w (Grant g) → IsRequested w.appends g
-      → EpochLawsOf decl w → (k : ℕ) → k ≡ w.epoch g.tx
+  -- a share brings lines of its epoch, and holds nothing
+  share_brings : (w : State) (g : Granted) → IsShareOfEpoch w g → EpochLawsOf decl w → (k : ℕ) → k ≡ g.epoch
       → Brings decl w.status w.epoch w.decided k (Grants g.tx g.items g.view)
-  grant_brings w g disciplined (inl read) h k e = (
+  share_brings w g share h k e = (
+    subst (λ (n : ℕ). (l : Line) → In l g.view → BelongsTo decl w.status w.epoch w.decided n l) (sym e)
+        (belong share.brings),
+    λ o i. absurd (subst (λ (xs : List Item). In (Own o) xs) share.none i),
+  )
+    where
+      Belong : ℕ → List Line → Type 0
+      Belong n log = (l : Line) → In l log → BelongsTo decl w.status w.epoch w.decided n l
+
+      belong : (g.view ≡ []) ⊎ WasLogInEpoch w g.epoch g.view → Belong g.epoch g.view
+      belong (inl none) = λ l i. absurd (subst (λ (xs : List Line). In l xs) none i)
+      belong (inr (inl x)) =
+          subst (Belong g.epoch) (sym x.3)
+          (subst (λ (n : ℕ). Belong n (site_after x.0.before).volatile) x.2 (λ l i. h.grants x.0 l x.1 i))
+      belong (inr (inr x)) =
+          subst (Belong g.epoch) (sym x.3)
+          (subst (λ (n : ℕ). Belong n (site_after x.0.before).volatile) x.2 (h.closings x.0 x.1).site.lines)
+
+  -- so does what was requested
+  requested_brings : (w : State) (g : Granted) → IsGrantOfEpoch decl w g → IsRequested w.appends g → EpochLawsOf decl w
+      → (k : ℕ) → k ≡ w.epoch g.tx → Brings decl w.status w.epoch w.decided k (Grants g.tx g.items g.view)
+  requested_brings w g own (inl read) h k e = (
     λ l i. absurd (subst (λ (xs : List Line). In l xs) (read.2) i),
     λ o i. absurd (none o (subst (λ (xs : List Item). In (Own o) xs) (read.1) i)),
   )
@@ -96,23 +117,28 @@ module _ (decl : Declaration) where
       none : (o : OwnLine) → In (Own o) (Lock read.0 ∷ []) → ⊥
       none o (inl e) = let never : ⊥ = cc in never
       none o (inr e) = e
-  grant_brings w g disciplined (inr asked) h k e =
+  requested_brings w g own (inr asked) h k e =
       let a = h.requests (record { tx = g.tx; items = g.items; view = g.view }) asked in (
         λ l i. subst (λ (x : ℕ). BelongsTo decl w.status w.epoch w.decided x l) (sym e) (a.lines l i),
         λ o i. record {
           begun = a.begun;
           writer = sym e;
-          weighs = subst (λ (x : ℕ). 0 < append_need_of decl x o.object o.event) (disciplined.epoch ∙ sym e)
-              (disciplined.weighs o i);
+          weighs = subst (λ (x : ℕ). 0 < append_need_of decl x o.object o.event) (own.epoch ∙ sym e) (own.weighs o i);
         },
       )
+
+  -- a site grants
+  grant_brings : (w : State) (g : Granted) → IsDisciplined decl w (Grant g) → EpochLawsOf decl w → (k : ℕ)
+      → k ≡ g.epoch → Brings decl w.status w.epoch w.decided k (Grants g.tx g.items g.view)
+  grant_brings w g (inl share) h k e = share_brings w g share h k e
+  grant_brings w g (inr own) h k e = requested_brings w g own.1 own.0 h k (e ∙ own.1.epoch)
 
   grant_keeps : (w : State) (g : Granted) → IsAllowed decl w (Grant g) → IsDisciplined decl w (Grant g)
       → EpochLawsOf decl w → EpochLawsOf decl (after_act w (Grant g))
   grant_keeps w g ok disciplined h =
       let k : epoch_from 1 (w.deeds g.site) ≡ g.epoch = ap (epoch_from 1) (sym ok.0) ∙ (ok.2).current in
       let m = site_keeps w g.site (Grants g.tx g.items g.view)
-      (grant_brings w g disciplined ok.3 h (epoch_from 1 (w.deeds g.site)) (k ∙ disciplined.epoch)) h in
+      (grant_brings w g disciplined h (epoch_from 1 (w.deeds g.site)) k) h in
       record {
         sites = m.sites;
         grants = λ x l i. elim i [

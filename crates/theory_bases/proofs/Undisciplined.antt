@@ -17,7 +17,7 @@ use Rattle.theory_witnesses.specs.Vocabulary.{Move, acts_of, moving_register, th
 use Rattle.theory_bases.specs.Vocabulary.{AreDisciplined, BelongsNow, HasLaterView, HasMissedLine, HasStrayLine}
 use Rattle.theory_bases.specs.Vocabulary.{HasTwoDecisions, IsUndisciplinedRun, IsWrittenIn, appended_without_threshold}
 use Rattle.theory_bases.specs.Vocabulary.{decided_twice, decided_with_two_logs, granted_in_another_epoch}
-use Rattle.theory_bases.specs.Vocabulary.{seen_in_another_epoch}
+use Rattle.theory_bases.specs.Vocabulary.{seen_in_another_epoch, shared_with_another_epoch}
 use Rattle.theory_bases.proofs.Above.{epochs_are_decided_once, sites_have_what_their_epoch_began_with}
 use Rattle.theory_bases.proofs.Above.{logs_are_split_by_epochs, views_have_no_later_lines}
 use Rattle.theory_bases.proofs.Disciplined.{different}
@@ -172,6 +172,12 @@ pub grants_of_another_epoch_are_refused : IsUndisciplinedRun moving_register gra
 grants_of_another_epoch_are_refused = shows_stray moving_register granted_in_another_epoch moving_register_accepted
     (runs granted_in_another_epoch refl) (proof_of
     (stray_at 2 moving_register (state (acts_of granted_in_another_epoch))) refl)
+
+pub shares_of_another_epoch_are_refused : IsUndisciplinedRun moving_register shared_with_another_epoch
+    (HasStrayLine moving_register)
+shares_of_another_epoch_are_refused = shows_stray moving_register shared_with_another_epoch moving_register_accepted
+    (runs shared_with_another_epoch refl) (proof_of
+    (stray_at 2 moving_register (state (acts_of shared_with_another_epoch))) refl)
 
 pub lines_without_threshold_are_refused : IsUndisciplinedRun moving_register appended_without_threshold
     (HasStrayLine moving_register)

@@ -12,7 +12,7 @@ use Rattle.theory_machine.specs.Vocabulary.{site_after, state}
 use Rattle.theory_witnesses.specs.Vocabulary.{Move, aborts, acts_of, appends_at, begins, chooses, closes, commits_at}
 use Rattle.theory_witnesses.specs.Vocabulary.{decides, decision, ends_at, executes, first, first_again, grants_append}
 use Rattle.theory_witnesses.specs.Vocabulary.{installs, locks, moves_to, operates, reads_one, reads_zero, second, sends}
-use Rattle.theory_witnesses.specs.Vocabulary.{tells, third, writes, writes_one}
+use Rattle.theory_witnesses.specs.Vocabulary.{shares, takes_share, tells, third, writes, writes_one}
 use Rattle.theory_bases.specs.Belongs.{BelongsNow}
 use Rattle.theory_bases.specs.Discipline.{AreDisciplined}
 use Rattle.theory_bases.specs.Witnesses.{write_line}
@@ -82,8 +82,14 @@ granted_in_another_epoch =
     moves_to 2 0 1 ++ writes first 2 (1 ∷ [])
     ++ begins first_again 2 ∷ operates first_again 0 writes_one (1 ∷ []) (1 ∷ []) ++ grants_append first_again 2 ∷ []
 
--- The same. The second write is given up, and a transaction of the first epoch, which has its quorum at the first site,
--- asks the third site too: it sees that line.
+-- A line is written in the second epoch, and its site shares its log. The third site takes it, which is still in the
+-- first epoch.
+abbrev pub shared_with_another_epoch : List Move
+shared_with_another_epoch =
+    moves_to 2 0 1 ++ writes first 2 (1 ∷ []) ++ shares first 1 ∷ takes_share first 2 1 ∷ []
+
+-- As where the Append is granted. The second write is given up, and a transaction of the first epoch, which has its
+-- quorum at the first site, asks the third site too: it sees that line.
 abbrev pub seen_in_another_epoch : List Move
 seen_in_another_epoch =
     begins third 1 ∷ locks third (0 ∷ []) 0 0 ++ granted_in_another_epoch

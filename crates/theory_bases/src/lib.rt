@@ -3,8 +3,8 @@
 //!
 //! A run is *disciplined* where it keeps a little more than the machine's guards
 //! (`specs/Discipline`): sites grant to transactions of their own epoch, only
-//! lines for which there is a quorum; and an epoch is decided once. Of each such
-//! run:
+//! lines for which there is a quorum; what they share stays in its epoch; and an
+//! epoch is decided once. Of each such run:
 //!
 //! 1. A site's log has all that its epoch began with, and else lines that were
 //!    written in the epoch (`specs/Belongs`). What it began with was written in
@@ -44,12 +44,12 @@ pub use short::{
     short_sites_stand_for_whole_ones,
 };
 pub use witnesses::{
-    epochs_depend_on_each_other, one_epoch_is_disciplined, snapshots_may_be_below_lines,
-    two_epochs_are_disciplined, two_moves_are_disciplined,
+    epochs_depend_on_each_other, one_epoch_is_disciplined, shares_are_disciplined,
+    snapshots_may_be_below_lines, two_epochs_are_disciplined, two_moves_are_disciplined,
 };
 pub use wrong::{
     epochs_decided_twice_are_refused, epochs_with_two_logs_are_refused,
     grants_of_another_epoch_are_refused, lines_without_threshold_are_refused,
-    lower_lines_are_refused, other_unions_are_refused, shorter_sites_are_refused,
-    views_of_later_epochs_are_refused,
+    lower_lines_are_refused, other_unions_are_refused, shares_of_another_epoch_are_refused,
+    shorter_sites_are_refused, views_of_later_epochs_are_refused,
 };

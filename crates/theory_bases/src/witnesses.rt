@@ -7,7 +7,7 @@ ghost use Rattle.theory_machine.specs.State.{Decision};
 ghost use Rattle.theory_witnesses.specs.Moves.{acts_of};
 ghost use Rattle.theory_witnesses.specs.Settings.{moving_register, three_in_two_epochs};
 ghost use Rattle.theory_witnesses.specs.Stories.{first, first_again};
-ghost use Rattle.theory_witnesses.specs.Witnesses.{one_epoch, two_epochs};
+ghost use Rattle.theory_witnesses.specs.Witnesses.{one_epoch, shared_write, two_epochs};
 ghost use Rattle.theory_bases.specs.Witnesses.{HasDependence, HasLowSnapshot, IsDisciplinedRun, WritesAfter};
 ghost use Rattle.theory_bases.specs.Witnesses.{WritesBefore};
 ghost use Rattle.theory_bases.specs.Witnesses.{low_snapshot, read_and_written_in_both, two_moves, write_line};
@@ -16,6 +16,12 @@ ghost use Rattle.theory_bases.specs.Witnesses.{low_snapshot, read_and_written_in
 #[tactic(auto, using(crate::proofs::Disciplined::one_epoch_is_disciplined))]
 pub fn one_epoch_is_disciplined()
     ensures { IsDisciplinedRun three one_epoch }
+{}
+
+/// Its own run in which a site takes what another one shares.
+#[tactic(auto, using(crate::proofs::Disciplined::shares_are_disciplined))]
+pub fn shares_are_disciplined()
+    ensures { IsDisciplinedRun three shared_write }
 {}
 
 /// Its own run over two epochs.

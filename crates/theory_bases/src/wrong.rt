@@ -12,7 +12,7 @@ ghost use Rattle.theory_bases.specs.Wrong.{HasLaterView, HasMissedLine, HasStray
 ghost use Rattle.theory_bases.specs.Wrong.{IsUndisciplinedRun};
 ghost use Rattle.theory_bases.specs.Wrong.{appended_without_threshold, decided_twice, decided_with_two_logs};
 ghost use Rattle.theory_bases.specs.Wrong.{granted_in_another_epoch, seen_in_another_epoch, short_deeds};
-ghost use Rattle.theory_bases.specs.Wrong.{shorter_deeds, whole_deeds};
+ghost use Rattle.theory_bases.specs.Wrong.{shared_with_another_epoch, shorter_deeds, whole_deeds};
 
 /// The machine allows an epoch to be decided twice, with another clock.
 #[tactic(auto, using(crate::proofs::Undisciplined::epochs_decided_twice_are_refused))]
@@ -32,6 +32,13 @@ pub fn epochs_with_two_logs_are_refused()
 #[tactic(auto, using(crate::proofs::Undisciplined::grants_of_another_epoch_are_refused))]
 pub fn grants_of_another_epoch_are_refused()
     ensures { IsUndisciplinedRun moving_register granted_in_another_epoch (HasStrayLine moving_register) }
+{}
+
+/// It allows a site to take what a site of a later epoch shares: its log has a line
+/// of that epoch.
+#[tactic(auto, using(crate::proofs::Undisciplined::shares_of_another_epoch_are_refused))]
+pub fn shares_of_another_epoch_are_refused()
+    ensures { IsUndisciplinedRun moving_register shared_with_another_epoch (HasStrayLine moving_register) }
 {}
 
 /// So an operation may see a line of a later epoch.

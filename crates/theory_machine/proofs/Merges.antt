@@ -1,7 +1,7 @@
 -- The log of a decision is closed: it has all that the snapshots have, and all own lines of committed prepared
 -- transactions.
 use Rattle.std.proofs.Common.{◌≡◌, ◌≢◌, ℕ, Bool, true, false, inl, inr, List, [], ◌∷◌, Option, Some, None, IsSome, sym}
-use Rattle.std.proofs.Common.{ap, ◌∙◌, subst}
+use Rattle.std.proofs.Common.{ap, ◌∙◌, ◌⊎◌, subst}
 use Rattle.qc_stamp.specs.declared.stamp.Stamp.{Stamp}
 use Rattle.qc_stamp.specs.declared.stamp.TxId.{TxId}
 use Rattle.qc_entry.specs.declared.line.Line.{Line}
@@ -12,6 +12,7 @@ use Rattle.qc_list.specs.Vocabulary.{In}
 use Rattle.theory_onecopy.specs.Vocabulary.{Executed, committed_line}
 use Rattle.theory_machine.specs.Vocabulary.{Aborted, Committed, Decision, Granted, IsAppendClosed, IsClosedAt}
 use Rattle.theory_machine.specs.Vocabulary.{IsExecutedOrChosen, IsMerged, IsOutcome, IsRequested, IsResolved}
+use Rattle.theory_machine.specs.Vocabulary.{IsShare, WasLogOfSite}
 use Rattle.theory_machine.specs.Vocabulary.{IsSiteClosed, Item, Lock, LogLaws, MayDecide, NotBegun, Own, Pending}
 use Rattle.theory_machine.specs.Vocabulary.{Promise, State, StateLaws, Status, deed_of_outcome, recover_status}
 use Rattle.theory_machine.specs.Vocabulary.{site_after}
@@ -20,9 +21,9 @@ use Rattle.theory_machine.proofs.Outcomes.{committed_record, outcome_aborted, ou
 use Rattle.theory_machine.proofs.Grows.{same}
 
 module _ (decl : Declaration) where
-  pub grant_ready : (w : State) (g : Granted) → IsRequested w.appends g → LogLaws decl w
+  pub grant_ready : (w : State) (g : Granted) → IsRequested w.appends g ⊎ IsShare w g → LogLaws decl w
       → IsAppendClosed decl w.status w.executed w.chosen g.tx g.items g.view
-  grant_ready w g (inl read) l = record {
+  grant_ready w g (inl (inl read)) l = record {
     closed_at = λ m h. absurd (subst (λ (v : List Line). In m v) read.2 h);
     own_closed = λ o h. absurd (none o (subst (λ (xs : List Item). In (Own o) xs) read.1 h));
   }
@@ -30,7 +31,20 @@ module _ (decl : Declaration) where
       none : (o : OwnLine) → In (Own o) (Lock read.0 ∷ []) → ⊥
       none o (inl same) = let never : ⊥ = cc in never
       none o (inr h) = h
-  grant_ready w g (inr preparing) l = l.appends (record { tx = g.tx; items = g.items; view = g.view }) preparing
+  grant_ready w g (inl (inr preparing)) l =
+      l.appends (record { tx = g.tx; items = g.items; view = g.view }) preparing
+  grant_ready w g (inr share) l = record {
+    closed_at = closed share.1;
+    own_closed = λ o h. absurd (subst (λ (xs : List Item). In (Own o) xs) share.0 h);
+  }
+    where
+      IsClosed : List Line → Type 0
+      IsClosed log = (m : Line) → In m log → IsClosedAt decl w.status w.executed log m
+
+      closed : (g.view ≡ []) ⊎ WasLogOfSite w g.view → IsClosed g.view
+      closed (inl none) = λ m i. absurd (subst (λ (v : List Line). In m v) none i)
+      closed (inr (inl x)) = subst IsClosed (sym x.2) (l.granted x.0 x.1).volatile
+      closed (inr (inr x)) = subst IsClosed (sym x.2) (l.snapshots x.0 x.1).volatile
 
   pub verdict_ready : (w : State) (tx : TxId) (o : Option Stamp) → IsOutcome (w.status tx) o → StateLaws decl w
       → IsReady decl w.status w.executed w.chosen (deed_of_outcome tx o)

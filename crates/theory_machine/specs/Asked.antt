@@ -33,7 +33,8 @@ pub data Guard : Type 0 where
   GrantsWithoutConflict : Guard  -- nobody else holds what conflicts with what a site grants
   GrantPassesDone : Guard  -- a grant's clock has passed the stamp of each Done record of its site
   GrantPassesLines : Guard  -- a grant's clock has passed the stamp of each line of its site
-  GrantsWhatWasRequested : Guard  -- a grant is for a Read, or for an Append that was sent
+  GrantsWhatWasRequested : Guard  -- a grant is for a Read, for an Append that was sent, or a share
+  SharesLogsOfSites : Guard  -- a share brings a log that some site had
   -- a client counts a grant
   CountsWhatWasGranted : Guard  -- a client counts a grant that a site gave
   CountsWhileActive : Guard  -- a client counts a grant while its transaction is active

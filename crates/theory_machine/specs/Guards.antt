@@ -2,9 +2,8 @@
 -- site or client can see: what it did, what it has, and what was sent to it. Quorums are weighted votes (Gifford
 -- 1979); locks of reads and lines conflict by the relation of the object's type (Herlihy 1986); stamps are clocks
 -- with the client's number (Lamport 1978).
-use Rattle.std.specs.Prelude.{◌≡◌, ◌≢◌, ℕ, suc, ◌<◌, ◌≤◌, Bool, true, false, IsTrue, ◌==◌, ◌&&◌, ◌⊎◌, if◌then◌else◌}
-use Rattle.std.specs.Prelude.{List, [], ◌∷◌, ◌++◌, map, length, Some, None, IsSome, is_some}
-use Rattle.std.specs.Option.{option_map_or}
+use Rattle.std.specs.Prelude.{◌≡◌, ◌≢◌, ℕ, suc, ◌<◌, ◌≤◌, Bool, true, false, IsTrue, ◌⊎◌}
+use Rattle.std.specs.Prelude.{List, [], ◌∷◌, map, length, Some, None, IsSome}
 use Rattle.qc_stamp.specs.declared.stamp.Stamp.{Stamp}
 use Rattle.qc_stamp.specs.declared.stamp.TxId.{TxId}
 use Rattle.qc_entry.specs.declared.line.Line.{Line}
@@ -19,6 +18,7 @@ use Rattle.qc_decl.specs.declared.declaration.Declaration.{Declaration}
 use Rattle.qc_decl.specs.Vocabulary.{append_need_of, plan_in, read_need_of}
 use Rattle.qc_list.specs.Vocabulary.{In}
 use Rattle.theory_onecopy.specs.Vocabulary.{Executed, IsAnswered, committed_line, depends_at, kind_at, own_line}
+use Rattle.theory_machine.specs.Shares.{IsShareBy}
 pub use Rattle.theory_machine.specs.Quorums.{HasGranted, HasQuorum, IsShown, Shows, own_on, read_lock, weights_of}
 use Rattle.theory_machine.specs.Site.{Item, Lock, Own, Promise, Installs, epoch_from, shut_from, items_of, site_after}
 use Rattle.theory_machine.specs.Site.{empty_site, done_records}
@@ -225,12 +225,12 @@ IsAllowedBy ask decl now (ExecuteAbsent tx operation) =
     × Asked (ask ChoosesOneAtATime) (now.chosen tx ≡ None)
     × IsExecutedFromBy ask decl (now.epoch tx) now.counted (now.executed tx) tx operation
     × Asked (ask AbsentHasNoResponse) (operation.op.resp ≡ None)
--- a site grants what was asked for, tells its life, and has done what it did
+-- a site grants what was asked for or shared, tells its life, and has done what it did
 IsAllowedBy ask decl now (Grant g) =
     Asked (ask GrantTellsDeeds) (g.before ≡ now.deeds g.site)
     × Asked (ask GrantTellsLife) (g.life ≡ now.life g.site)
     × MayGrantBy ask decl g
-    × Asked (ask GrantsWhatWasRequested) (IsRequested now.appends g)
+    × Asked (ask GrantsWhatWasRequested) (IsRequested now.appends g ⊎ IsShareBy ask now g)
 -- an active transaction counts grants that were sent, of its epoch
 IsAllowedBy ask decl now (Count g) =
     Asked (ask CountsWhatWasGranted) (In g now.granted)

@@ -5,6 +5,7 @@ pub mod State
 pub mod Acts
 pub mod Asked
 pub mod Quorums
+pub mod Shares
 pub mod Guards
 pub mod StateLaws
 pub mod Logs

@@ -18,7 +18,8 @@ pub use Rattle.theory_machine.specs.Asked.{InvocationIsDeclared, LearnsWhatWasAn
 pub use Rattle.theory_machine.specs.Asked.{MergesOnlyCommitted, OperatesWhileActive, OperationsAreNumbered}
 pub use Rattle.theory_machine.specs.Asked.{OwnLinesAreKept, PreparesOnce, PreparesWhenExecuted, ReadQuorumIsMet}
 pub use Rattle.theory_machine.specs.Asked.{RecordHasOperations, RecordsPrepareWhenAsked, ResolvesPrepared}
-pub use Rattle.theory_machine.specs.Asked.{RisesPastRecords, RisesWithNoneRunning, SnapshotIsOfClosed}
+pub use Rattle.theory_machine.specs.Asked.{RisesPastRecords, RisesWithNoneRunning, SharesLogsOfSites}
+pub use Rattle.theory_machine.specs.Asked.{SnapshotIsOfClosed}
 pub use Rattle.theory_machine.specs.Asked.{SnapshotPassesDone, SnapshotPassesInstalls, SnapshotTellsDeeds}
 pub use Rattle.theory_machine.specs.Asked.{StampIsItsClients, StampPassesClock, ViewIsWhole, ViewWasShown}
 pub use Rattle.theory_machine.specs.Asked.{VotesInGrantedLife, VotesWhenAsked, every_guard}
@@ -37,6 +38,7 @@ pub use Rattle.theory_machine.specs.Logs.{LogLaws}
 pub use Rattle.theory_machine.specs.Names.{put, put_tx}
 pub use Rattle.theory_machine.specs.Placed.{place, placed}
 pub use Rattle.theory_machine.specs.Plain.{ArePlain, IsFirst, IsPlain, IsPlainDeed}
+pub use Rattle.theory_machine.specs.Shares.{IsShare, IsShareBy, WasLogOfSite}
 pub use Rattle.theory_machine.specs.Site.{Closes, Deed, DoneRecord, Grants, Held, Installs, Item, LearnsAbort}
 pub use Rattle.theory_machine.specs.Site.{LearnsCommit, Lock, Own, Prepares, Promise, Rises, Site, after_commit}
 pub use Rattle.theory_machine.specs.Site.{after_deed, after_prepare, done_record, done_records, each_held, empty_site}

@@ -25,7 +25,7 @@ use Rattle.theory_machine.specs.Vocabulary.{Voting, epoch_from, state}
 use Rattle.theory_witnesses.proofs.Alike.{same_decision, same_deed, same_granted, same_list, same_verdict}
 use Rattle.theory_witnesses.proofs.AllowedClients.{append_of, executed_from, is_active, is_new, may_commit}
 use Rattle.theory_witnesses.proofs.AllowedDecisions.{may_decide}
-use Rattle.theory_witnesses.proofs.AllowedSites.{may_grant, may_snapshot, is_requested}
+use Rattle.theory_witnesses.proofs.AllowedSites.{may_grant, may_snapshot, is_requested_or_shared}
 use Rattle.theory_witnesses.proofs.Begun.{begun, new_or_begun}
 use Rattle.theory_witnesses.proofs.Finding.{where_asked, at_most, below, both, every, member, same_number, where_same}
 use Rattle.theory_witnesses.proofs.Finding.{where_same_tx}
@@ -171,7 +171,7 @@ is_allowed ask decl acts (Grant g) =
     option_map (λ f. (f.0, (f.1).0, ((f.1).1).0, ((f.1).1).1))
     (both (where_asked (ask GrantTellsDeeds) (same_list same_deed g.before (now.deeds g.site)))
     (both (where_asked (ask GrantTellsLife) (same_number g.life (now.life g.site)))
-    (both (may_grant ask decl g) (where_asked (ask GrantsWhatWasRequested) (is_requested now.appends g)))))
+    (both (may_grant ask decl g) (where_asked (ask GrantsWhatWasRequested) (is_requested_or_shared ask now g)))))
 is_allowed ask decl acts (Count g) =
     let now = state acts in
     option_map (λ f. (f.0, (f.1).0, (f.1).1))

@@ -1,5 +1,6 @@
 -- What a site tells is found to be allowed: grants and snapshots.
-use Rattle.std.proofs.Common.{◌≡◌, ◌≢◌, ℕ, ◌≤◌, Bool, true, false, cond, inl, inr, IsTrue, List, [], ◌∷◌, Option, Some}
+use Rattle.std.proofs.Common.{◌≡◌, ◌≢◌, ℕ, ◌≤◌, Bool, true, false, cond, ◌⊎◌, inl, inr, IsTrue, List, [], ◌∷◌}
+use Rattle.std.proofs.Common.{Option, Some}
 use Rattle.std.proofs.Common.{None, option_map, refl, sym, ◌∙◌, subst, true≢false}
 use Rattle.qc_stamp.specs.declared.stamp.Stamp.{Stamp}
 use Rattle.qc_stamp.specs.declared.stamp.TxId.{TxId}
@@ -16,12 +17,13 @@ use Rattle.theory_machine.specs.Vocabulary.{GrantsUnlessClosed, GrantsWithoutCon
 use Rattle.theory_machine.specs.Vocabulary.{IsRequested, Item, LearnsAbort, LearnsCommit, Lock, MayGrantBy}
 use Rattle.theory_machine.specs.Vocabulary.{MaySnapshotBy, Own, Prepares, Rises, Snapshot, SnapshotIsOfClosed}
 use Rattle.theory_machine.specs.Vocabulary.{SnapshotPassesDone, SnapshotPassesInstalls, done_records, empty_site}
-use Rattle.theory_machine.specs.Vocabulary.{epoch_from, items_of, shut_from, site_after}
+use Rattle.theory_machine.specs.Vocabulary.{IsShareBy, SharesLogsOfSites, State, WasLogOfSite, epoch_from, items_of}
+use Rattle.theory_machine.specs.Vocabulary.{shut_from, site_after}
 use Rattle.qc_stamp.specs.Vocabulary.{same_tx}
 use Rattle.theory_witnesses.proofs.Cases.{IsInstall, one_clock}
-use Rattle.theory_witnesses.proofs.Alike.{same_append}
+use Rattle.theory_witnesses.proofs.Alike.{same_append, same_line, same_list}
 use Rattle.theory_witnesses.proofs.Finding.{where_asked, at_most, both, every, is_false, is_true, member, same_number}
-use Rattle.theory_witnesses.proofs.Finding.{where_same}
+use Rattle.theory_witnesses.proofs.Finding.{one_of, some, where_same}
 
 -- an Install has a clock that is passed
 abbrev HasPassed : ℕ → Deed → Type 0
@@ -142,11 +144,33 @@ a_read (Lock l ∷ []) [] = Some (l, refl, refl)
 a_read _ _ = None
 
 abbrev pub is_requested : (appends : List AppendRequest) (g : Granted) → Option (IsRequested appends g)
-is_requested appends g = by (a_read g.items g.view)
+is_requested appends g = one_of (a_read g.items g.view)
     (member same_append (record { tx = g.tx; items = g.items; view = g.view }) appends)
-  where
-    by : Option ((lock : ReadLock) × (g.items ≡ Lock lock ∷ []) × (g.view ≡ []))
-        → Option (In (record { tx = g.tx; items = g.items; view = g.view }) appends) → Option (IsRequested appends g)
-    by (Some r) o = Some (inl r)
-    by None (Some h) = Some (inr h)
-    by None None = None
+
+abbrev pub no_items : (items : List Item) → Option (items ≡ [])
+no_items [] = Some refl
+no_items (x ∷ xs) = None
+
+abbrev pub no_lines : (view : List Line) → Option (view ≡ [])
+no_lines [] = Some refl
+no_lines (l ∷ ls) = None
+
+-- some site had the log, as it granted or in a snapshot
+abbrev was_log_of_site : (now : State) (log : List Line) → Option (WasLogOfSite now log)
+was_log_of_site now log =
+    one_of
+    (option_map (λ f. (f.item, f.stands, f.holds))
+    (some (λ (h : Granted). log ≡ (site_after h.before).volatile)
+    (λ h. same_list same_line log (site_after h.before).volatile) now.granted))
+    (option_map (λ f. (f.item, f.stands, f.holds))
+    (some (λ (s : Snapshot). log ≡ (site_after s.before).volatile)
+    (λ s. same_list same_line log (site_after s.before).volatile) now.snapshots))
+
+abbrev is_share : (ask : Guard → Bool) (now : State) (g : Granted) → Option (IsShareBy ask now g)
+is_share ask now g =
+    both (no_items g.items)
+    (one_of (no_lines g.view) (where_asked (ask SharesLogsOfSites) (was_log_of_site now g.view)))
+
+abbrev pub is_requested_or_shared : (ask : Guard → Bool) (now : State) (g : Granted)
+    → Option (IsRequested now.appends g ⊎ IsShareBy ask now g)
+is_requested_or_shared ask now g = one_of (is_requested now.appends g) (is_share ask now g)

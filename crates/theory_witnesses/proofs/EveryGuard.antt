@@ -10,6 +10,7 @@ use Rattle.theory_machine.specs.Vocabulary.{CountsWhileActive, DecidePassesCommi
 use Rattle.theory_machine.specs.Vocabulary.{DecidesByPlan, DecidesFromSnapshots, DecidesNextEpoch, GrantPassesDone}
 use Rattle.theory_machine.specs.Vocabulary.{GrantPassesInstalls, GrantPassesLines, GrantTellsDeeds, GrantTellsEpoch}
 use Rattle.theory_machine.specs.Vocabulary.{GrantTellsLife, GrantsUnlessClosed, GrantsWhatWasRequested}
+use Rattle.theory_machine.specs.Vocabulary.{SharesLogsOfSites}
 use Rattle.theory_machine.specs.Vocabulary.{GrantsWithoutConflict, Guard, InstallsLaterEpoch, InstallsWhatWasDecided}
 use Rattle.theory_machine.specs.Vocabulary.{InvocationIsDeclared, LearnsWhatWasAnnounced, MergesEveryEntry, MergesLogs}
 use Rattle.theory_machine.specs.Vocabulary.{MergesOnlyCommitted, OperatesWhileActive, OperationsAreNumbered}
@@ -34,7 +35,7 @@ use Rattle.theory_witnesses.proofs.WrongGrants.{grant_clocks_below_an_install, g
 use Rattle.theory_witnesses.proofs.WrongGrants.{grants_made_up, grants_of_another_epoch, grants_of_closed_sites}
 use Rattle.theory_witnesses.proofs.WrongGrants.{grants_that_name_a_later_epoch, grants_that_name_a_later_life}
 use Rattle.theory_witnesses.proofs.WrongGrants.{grants_that_nobody_asked_for, grants_that_show_an_older_log}
-use Rattle.theory_witnesses.proofs.WrongGrants.{writes_past_a_read_lock}
+use Rattle.theory_witnesses.proofs.WrongGrants.{shares_of_lines_made_up, writes_past_a_read_lock}
 use Rattle.theory_witnesses.proofs.WrongCommits.{aborts_after_the_record, clients_that_forget_their_stamps}
 use Rattle.theory_witnesses.proofs.WrongCommits.{commits_twice, commits_without_votes, prepare_after_an_abort}
 use Rattle.theory_witnesses.proofs.WrongCommits.{prepare_during_an_append, prepare_records_before_prepare}
@@ -82,6 +83,7 @@ stands GrantsWithoutConflict = refl
 stands GrantPassesDone = refl
 stands GrantPassesLines = refl
 stands GrantsWhatWasRequested = refl
+stands SharesLogsOfSites = refl
 stands CountsWhatWasGranted = refl
 stands CountsWhileActive = refl
 stands CountsInItsEpoch = refl
@@ -160,6 +162,7 @@ every_guard_is_needed GrantsWithoutConflict = (RecordsAreOneCopy, writes_past_a_
 every_guard_is_needed GrantPassesDone = (RecordsAreOneCopy, grant_clocks_below_a_done_record)
 every_guard_is_needed GrantPassesLines = (LastRecordFollowsSeen, grant_clocks_below_a_line)
 every_guard_is_needed GrantsWhatWasRequested = (LogsHoldOperations, grants_that_nobody_asked_for)
+every_guard_is_needed SharesLogsOfSites = (LogsHoldOperations, shares_of_lines_made_up)
 every_guard_is_needed CountsWhatWasGranted = (RecordsAreOneCopy, grants_made_up)
 every_guard_is_needed CountsWhileActive = (RecordsAreOneCopy, grants_counted_before_the_begin)
 every_guard_is_needed CountsInItsEpoch = (RecordsAreOneCopy, grants_of_another_epoch)

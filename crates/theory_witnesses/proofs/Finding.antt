@@ -1,6 +1,6 @@
 -- Facts that are looked for: an answer is the proof of the fact, or none.
 use Rattle.std.proofs.Common.{◌≡◌, ℕ, ◌≤◌, ◌<◌, suc, ◌==◌, leb, Bool, true, false, List, [], ◌∷◌, Option, Some, None}
-use Rattle.std.proofs.Common.{is_some, inl, inr, refl, sym, ◌∙◌, subst, eqb-true, leb-true, true≢false}
+use Rattle.std.proofs.Common.{is_some, ◌⊎◌, inl, inr, refl, sym, ◌∙◌, subst, eqb-true, leb-true, true≢false}
 use Rattle.std.proofs.lemmas.Bool.{eqb-false}
 use Rattle.qc_list.specs.Vocabulary.{In}
 use Rattle.theory_machine.specs.Vocabulary.{Asked}
@@ -18,6 +18,11 @@ both (Some p) (Some q) = Some (p, q)
 both (Some p) None = None
 both None (Some q) = None
 both None None = None
+
+abbrev pub one_of : {P Q : Type 0} → Option P → Option Q → Option (P ⊎ Q)
+one_of (Some p) o = Some (inl p)
+one_of None (Some q) = Some (inr q)
+one_of None None = None
 
 abbrev pub where_asked : {P : Type 0} (is : Bool) → Option P → Option (Asked is P)
 where_asked true o = o

@@ -1,5 +1,5 @@
 -- The two runs are runs, with their records, and the conflict of the first is refused.
-use Rattle.std.proofs.Common.{◌≡◌, ℕ, refl, ◌++◌, inl, ap, arith}
+use Rattle.std.proofs.Common.{[], ◌∷◌, ◌≡◌, ℕ, refl, ◌++◌, inl, ap, arith}
 use Rattle.qc_decl.proofs.BuiltInRules.{three_accepted}
 use Rattle.qc_decl.specs.Vocabulary.{three}
 use Rattle.theory_machine.specs.Vocabulary.{Lock, Own, every_guard}
@@ -7,7 +7,8 @@ use Rattle.qc_stamp.specs.declared.stamp.TxId.{TxId}
 use Rattle.theory_witnesses.proofs.Accepted.{three_in_two_epochs_accepted}
 use Rattle.theory_witnesses.proofs.Allowed.{run_of}
 use Rattle.theory_witnesses.proofs.Finding.{proof_of}
-use Rattle.theory_witnesses.specs.Vocabulary.{Commits, IsRefused, conflict, first, first_line, one_epoch}
+use Rattle.theory_witnesses.specs.Vocabulary.{Brings, Commits, IsRefused, conflict, first, first_line, missed_write}
+use Rattle.theory_witnesses.specs.Vocabulary.{one_epoch, shared_write, written_line}
 use Rattle.theory_witnesses.specs.Vocabulary.{one_epoch_records, read_under_way, second, three_in_two_epochs}
 use Rattle.theory_witnesses.specs.Vocabulary.{two_epochs, two_epochs_records, write_under_way}
 
@@ -23,6 +24,14 @@ two_epochs_commit = record {
   accepted = three_in_two_epochs_accepted;
   run = proof_of (run_of every_guard three_in_two_epochs two_epochs) refl;
   committed = refl;
+}
+
+pub shares_bring_what_was_missed : Brings three missed_write shared_write 2 (written_line ∷ [])
+shares_bring_what_was_missed = record {
+  accepted = three_accepted;
+  run = proof_of (run_of every_guard three shared_write) refl;
+  missed = refl;
+  brought = refl;
 }
 
 pub conflict_is_refused : IsRefused three (write_under_way ++ read_under_way) conflict

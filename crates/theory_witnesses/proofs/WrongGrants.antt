@@ -5,13 +5,14 @@ use Rattle.qc_decl.specs.Vocabulary.{one}
 use Rattle.theory_machine.specs.Vocabulary.{Count, CountsInItsEpoch, CountsWhatWasGranted, CountsWhileActive, Grant}
 use Rattle.theory_machine.specs.Vocabulary.{GrantPassesDone, GrantPassesInstalls, GrantPassesLines, GrantTellsDeeds}
 use Rattle.theory_machine.specs.Vocabulary.{GrantTellsEpoch, GrantTellsLife, GrantsUnlessClosed, GrantsWhatWasRequested}
-use Rattle.theory_machine.specs.Vocabulary.{GrantsWithoutConflict, Own}
+use Rattle.theory_machine.specs.Vocabulary.{GrantsWithoutConflict, Own, SharesLogsOfSites}
 use Rattle.theory_witnesses.proofs.Accepted.{moving_register_accepted}
 use Rattle.theory_witnesses.proofs.Broken.{not_one_copy, wrong_log, wrong_order}
 use Rattle.theory_witnesses.proofs.Needs.{shows_need}
 use Rattle.theory_witnesses.specs.Vocabulary.{IsNeeded, LastRecordFollowsSeen, LogsHoldOperations, RecordsAreOneCopy}
 use Rattle.theory_witnesses.specs.Vocabulary.{aborts, append_grant, begins, chooses, commits_at, counts, ends_at}
-use Rattle.theory_witnesses.specs.Vocabulary.{executes, first, first_line, grant_of, grants_append, grants_read, locks}
+use Rattle.theory_witnesses.specs.Vocabulary.{executes, first, first_line, grant_of, grants_append, grants_read}
+use Rattle.theory_witnesses.specs.Vocabulary.{invented_line, locks}
 use Rattle.theory_witnesses.specs.Vocabulary.{moves_to, moving_register, operates, read_grant, reads_only, reads_zero}
 use Rattle.theory_witnesses.specs.Vocabulary.{rises, second, sends, third, writes, writes_one, writes_zero}
 
@@ -103,6 +104,13 @@ grants_that_nobody_asked_for =
     shows_need GrantsWhatWasRequested LogsHoldOperations one one_accepted (wrong_log 0)
     (begins first 1 ∷ (λ now. Grant (grant_of first 0 (Own first_line ∷ []) [] now)) ∷ commits_at first (0 ∷ [])
     ++ ends_at first (0 ∷ []))
+    refl refl
+
+-- A site takes a line for shared that no site has.
+pub shares_of_lines_made_up : IsNeeded SharesLogsOfSites LogsHoldOperations
+shares_of_lines_made_up =
+    shows_need SharesLogsOfSites LogsHoldOperations one one_accepted (wrong_log 0)
+    ((λ now. Grant (grant_of first 0 [] (invented_line ∷ []) now)) ∷ [])
     refl refl
 
 -- A client counts a grant that the site never gave.

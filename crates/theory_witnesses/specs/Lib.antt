@@ -1,6 +1,7 @@
 pub mod Needed
 pub mod Guarantees
 pub mod Moves
+pub mod Shares
 pub mod Stories
 pub mod Settings
 pub mod Witnesses

@@ -16,7 +16,8 @@ use Rattle.theory_machine.specs.Vocabulary.{InvocationIsDeclared, IsRunBy, Learn
 use Rattle.theory_machine.specs.Vocabulary.{MergesLogs, MergesOnlyCommitted, OperatesWhileActive, OperationsAreNumbered}
 use Rattle.theory_machine.specs.Vocabulary.{OwnLinesAreKept, PreparesOnce, PreparesWhenExecuted, ReadQuorumIsMet}
 use Rattle.theory_machine.specs.Vocabulary.{RecordHasOperations, RecordsPrepareWhenAsked, ResolvesPrepared}
-use Rattle.theory_machine.specs.Vocabulary.{RisesPastRecords, RisesWithNoneRunning, SnapshotIsOfClosed}
+use Rattle.theory_machine.specs.Vocabulary.{RisesPastRecords, RisesWithNoneRunning, SharesLogsOfSites}
+use Rattle.theory_machine.specs.Vocabulary.{SnapshotIsOfClosed}
 use Rattle.theory_machine.specs.Vocabulary.{SnapshotPassesDone, SnapshotPassesInstalls, SnapshotTellsDeeds}
 use Rattle.theory_machine.specs.Vocabulary.{StampIsItsClients, StampPassesClock, ViewIsWhole, ViewWasShown}
 use Rattle.theory_machine.specs.Vocabulary.{VotesInGrantedLife, VotesWhenAsked}
@@ -30,7 +31,8 @@ guards =
     ReadQuorumIsMet ∷ ChosenHasResponse ∷ AbsentHasNoResponse ∷ AppendsWhatIsChosen ∷ AppendCarriesView ∷
     AppendCarriesOnlyOwnLines ∷ AppendCarriesEarlierLines ∷ AppendQuorumIsMet ∷ GrantTellsDeeds ∷
     GrantTellsLife ∷ GrantTellsEpoch ∷ GrantsUnlessClosed ∷ GrantPassesInstalls ∷ GrantsWithoutConflict ∷
-    GrantPassesDone ∷ GrantPassesLines ∷ GrantsWhatWasRequested ∷ CountsWhatWasGranted ∷ CountsWhileActive ∷
+    GrantPassesDone ∷ GrantPassesLines ∷ GrantsWhatWasRequested ∷ SharesLogsOfSites ∷ CountsWhatWasGranted ∷
+    CountsWhileActive ∷
     CountsInItsEpoch ∷ PreparesOnce ∷ PreparesWhenExecuted ∷ VotesWhenAsked ∷ VotesInGrantedLife ∷
     RecordsPrepareWhenAsked ∷ CommitsWhenVoting ∷ AllHaveVoted ∷ StampIsItsClients ∷ StampPassesClock ∷
     RecordHasOperations ∷ AbortsBeforeRecord ∷ RisesWithNoneRunning ∷ RisesPastRecords ∷
@@ -68,40 +70,41 @@ place_of GrantsWithoutConflict = 23
 place_of GrantPassesDone = 24
 place_of GrantPassesLines = 25
 place_of GrantsWhatWasRequested = 26
-place_of CountsWhatWasGranted = 27
-place_of CountsWhileActive = 28
-place_of CountsInItsEpoch = 29
-place_of PreparesOnce = 30
-place_of PreparesWhenExecuted = 31
-place_of VotesWhenAsked = 32
-place_of VotesInGrantedLife = 33
-place_of RecordsPrepareWhenAsked = 34
-place_of CommitsWhenVoting = 35
-place_of AllHaveVoted = 36
-place_of StampIsItsClients = 37
-place_of StampPassesClock = 38
-place_of RecordHasOperations = 39
-place_of AbortsBeforeRecord = 40
-place_of RisesWithNoneRunning = 41
-place_of RisesPastRecords = 42
-place_of LearnsWhatWasAnnounced = 43
-place_of SnapshotTellsDeeds = 44
-place_of SnapshotIsOfClosed = 45
-place_of SnapshotPassesDone = 46
-place_of SnapshotPassesInstalls = 47
-place_of DecidesByPlan = 48
-place_of DecidesFromSnapshots = 49
-place_of DecidesNextEpoch = 50
-place_of ClosesEnough = 51
-place_of ClosedSitesAnswered = 52
-place_of ResolvesPrepared = 53
-place_of MergesEveryEntry = 54
-place_of DecidePassesCommitted = 55
-place_of MergesLogs = 56
-place_of MergesOnlyCommitted = 57
-place_of DecidePassesSnapshots = 58
-place_of InstallsWhatWasDecided = 59
-place_of InstallsLaterEpoch = 60
+place_of SharesLogsOfSites = 27
+place_of CountsWhatWasGranted = 28
+place_of CountsWhileActive = 29
+place_of CountsInItsEpoch = 30
+place_of PreparesOnce = 31
+place_of PreparesWhenExecuted = 32
+place_of VotesWhenAsked = 33
+place_of VotesInGrantedLife = 34
+place_of RecordsPrepareWhenAsked = 35
+place_of CommitsWhenVoting = 36
+place_of AllHaveVoted = 37
+place_of StampIsItsClients = 38
+place_of StampPassesClock = 39
+place_of RecordHasOperations = 40
+place_of AbortsBeforeRecord = 41
+place_of RisesWithNoneRunning = 42
+place_of RisesPastRecords = 43
+place_of LearnsWhatWasAnnounced = 44
+place_of SnapshotTellsDeeds = 45
+place_of SnapshotIsOfClosed = 46
+place_of SnapshotPassesDone = 47
+place_of SnapshotPassesInstalls = 48
+place_of DecidesByPlan = 49
+place_of DecidesFromSnapshots = 50
+place_of DecidesNextEpoch = 51
+place_of ClosesEnough = 52
+place_of ClosedSitesAnswered = 53
+place_of ResolvesPrepared = 54
+place_of MergesEveryEntry = 55
+place_of DecidePassesCommitted = 56
+place_of MergesLogs = 57
+place_of MergesOnlyCommitted = 58
+place_of DecidePassesSnapshots = 59
+place_of InstallsWhatWasDecided = 60
+place_of InstallsLaterEpoch = 61
 
 -- each guard but one is asked
 abbrev pub every_guard_but : Guard → Guard → Bool

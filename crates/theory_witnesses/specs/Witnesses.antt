@@ -3,15 +3,17 @@
 use Rattle.std.specs.Prelude.{◌≡◌, ℕ, true, List, [], ◌∷◌, ◌++◌, Some}
 use Rattle.qc_decl.specs.Vocabulary.{IsAccepted}
 use Rattle.qc_decl.specs.declared.declaration.Declaration.{Declaration}
+use Rattle.qc_entry.specs.declared.line.Line.{Line}
 use Rattle.qc_entry.specs.declared.line.Op.{Op}
 use Rattle.qc_entry.specs.declared.record.Commit.{Commit as CommitRecord}
-use Rattle.theory_onecopy.specs.Vocabulary.{sorted}
-use Rattle.theory_machine.specs.Vocabulary.{IsAllowed, IsRun, state}
+use Rattle.theory_onecopy.specs.Vocabulary.{committed_line, sorted}
+use Rattle.theory_machine.specs.Vocabulary.{IsAllowed, IsRun, site_after, state}
 use Rattle.theory_witnesses.specs.Moves.{Move, acts_of, aborts, announces, begins, chooses, closes, decides, executes}
 use Rattle.theory_witnesses.specs.Moves.{falls_committing, grants_append, grants_read, installs, learns, prepares}
 use Rattle.theory_witnesses.specs.Moves.{recovers, rises, rises_at, sends, tells, votes}
+use Rattle.theory_witnesses.specs.Shares.{shares, takes_share}
 use Rattle.theory_witnesses.specs.Stories.{appends_at, commits_at, ends_at, first, locks, reads, reads_one, second}
-use Rattle.theory_witnesses.specs.Stories.{second_again, stamp_of, third, writes_one}
+use Rattle.theory_witnesses.specs.Stories.{first_line, second_again, stamp_of, third, writes, writes_one}
 use Rattle.qc_stamp.specs.declared.stamp.TxId.{TxId}
 
 -- the declaration is accepted, the story is a run, and just these records were written, in the order of their stamps
@@ -83,3 +85,28 @@ two_epochs =
 abbrev pub two_epochs_records : List CommitRecord
 two_epochs_records =
     commit_record first 1 (one_written ∷ []) ∷ commit_record third 1 [] ∷ commit_record second 2 (one_read ∷ []) ∷ []
+
+-- a site's log after a story
+abbrev pub log_at : ℕ → List Move → List Line
+log_at site story = (site_after ((state (acts_of story)).deeds site)).volatile
+
+-- after the one story a site knew nothing; the other one, a run over an accepted declaration, brings it these lines
+pub record Brings (decl : Declaration) (before after : List Move) (site : ℕ) (lines : List Line) : Type 0 where
+  pub accepted : IsAccepted decl
+  pub run : IsRun decl (acts_of after)
+  pub missed : log_at site before ≡ []
+  pub brought : log_at site after ≡ lines
+
+-- a write is committed at two sites of three
+abbrev pub missed_write : List Move
+missed_write = writes first 1 (0 ∷ 1 ∷ [])
+
+-- The first of them shares its log, and the third site takes it. Then this one falls, which loses what wasn't recorded,
+-- and takes a late copy.
+abbrev pub shared_write : List Move
+shared_write =
+    missed_write ++ shares first 0 ∷ takes_share first 2 0 ∷ rises 2 ∷ takes_share first 2 0 ∷ []
+
+-- the line of that write
+abbrev pub written_line : Line
+written_line = committed_line (stamp_of 1 0) first first_line

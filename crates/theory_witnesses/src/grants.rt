@@ -3,7 +3,8 @@
 
 ghost use Rattle.theory_machine.specs.Asked.{GrantTellsDeeds, GrantTellsLife, GrantTellsEpoch, GrantsUnlessClosed};
 ghost use Rattle.theory_machine.specs.Asked.{GrantPassesInstalls, GrantsWithoutConflict, GrantPassesDone};
-ghost use Rattle.theory_machine.specs.Asked.{GrantPassesLines, GrantsWhatWasRequested, CountsWhatWasGranted};
+ghost use Rattle.theory_machine.specs.Asked.{GrantPassesLines, GrantsWhatWasRequested, SharesLogsOfSites};
+ghost use Rattle.theory_machine.specs.Asked.{CountsWhatWasGranted};
 ghost use Rattle.theory_machine.specs.Asked.{CountsWhileActive, CountsInItsEpoch};
 ghost use Rattle.theory_witnesses.specs.Guarantees.{LastRecordFollowsSeen, LogsHoldOperations, RecordsAreOneCopy};
 ghost use Rattle.theory_witnesses.specs.Needed.{IsNeeded};
@@ -73,6 +74,12 @@ pub fn grant_clocks_below_a_line()
 #[tactic(auto, using(crate::proofs::WrongGrants::grants_that_nobody_asked_for))]
 pub fn grants_that_nobody_asked_for()
     ensures { IsNeeded GrantsWhatWasRequested LogsHoldOperations }
+{}
+
+/// A site takes a line for shared that no site has.
+#[tactic(auto, using(crate::proofs::WrongGrants::shares_of_lines_made_up))]
+pub fn shares_of_lines_made_up()
+    ensures { IsNeeded SharesLogsOfSites LogsHoldOperations }
 {}
 
 /// A client counts a grant that the site never gave.

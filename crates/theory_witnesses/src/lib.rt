@@ -1,4 +1,4 @@
-//! Runs of the protocol's machine: two that show what it can do, and for each
+//! Runs of the protocol's machine: three that show what it can do, and for each
 //! guard one that goes wrong without it.
 //!
 //! A run is told as a list of moves (`specs/Moves`, `specs/Stories`) over a
@@ -46,7 +46,7 @@ pub use grants::{
     grants_counted_before_the_begin, grants_made_up, grants_of_another_epoch,
     grants_of_closed_sites, grants_that_name_a_later_epoch, grants_that_name_a_later_life,
     grants_that_nobody_asked_for, grants_that_show_an_older_log, reads_past_a_write,
-    writes_past_a_read_lock,
+    shares_of_lines_made_up, writes_past_a_read_lock,
 };
 pub use guards::{every_guard_is_needed, one_guard_is_left_out, runs_keep_the_guarantees};
 pub use operations::{
@@ -59,4 +59,6 @@ pub use snapshots::{
     snapshot_clocks_below_a_done_record, snapshot_clocks_below_an_install,
     snapshots_of_an_older_log, snapshots_of_open_sites,
 };
-pub use witnesses::{conflict_is_refused, one_epoch_commits, two_epochs_commit};
+pub use witnesses::{
+    conflict_is_refused, one_epoch_commits, shares_bring_what_was_missed, two_epochs_commit,
+};

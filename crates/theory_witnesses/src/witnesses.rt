@@ -1,11 +1,11 @@
 //! Two runs in which transactions commit, whatever befalls sites, clients and
-//! messages.
+//! messages, and one in which sites share their logs.
 
-ghost use Rattle.std.specs.Prelude.{◌++◌};
+ghost use Rattle.std.specs.Prelude.{◌++◌, [], ◌∷◌};
 ghost use Rattle.qc_decl.specs.One.{three};
 ghost use Rattle.theory_witnesses.specs.Settings.{three_in_two_epochs};
 ghost use Rattle.theory_witnesses.specs.Witnesses.{Commits, IsRefused, conflict, one_epoch, one_epoch_records};
-ghost use Rattle.theory_witnesses.specs.Witnesses.{two_epochs};
+ghost use Rattle.theory_witnesses.specs.Witnesses.{Brings, missed_write, shared_write, two_epochs, written_line};
 ghost use Rattle.theory_witnesses.specs.Witnesses.{two_epochs_records, read_under_way, write_under_way};
 
 /// Two clients, in one epoch: a conflict, a client that falls with its commit
@@ -29,4 +29,11 @@ pub fn conflict_is_refused()
 #[tactic(auto, using(crate::proofs::WitnessRuns::two_epochs_commit))]
 pub fn two_epochs_commit()
     ensures { Commits three_in_two_epochs two_epochs two_epochs_records }
+{}
+
+/// A write is committed at two sites. The first of them shares its log, and the
+/// third one, which knew nothing, takes it; and once more, late, after a fall.
+#[tactic(auto, using(crate::proofs::WitnessRuns::shares_bring_what_was_missed))]
+pub fn shares_bring_what_was_missed()
+    ensures { Brings three missed_write shared_write 2 (written_line ∷ []) }
 {}
